@@ -1,4 +1,4 @@
--- An address is made of the numbers that were kept.
+-- An address is made of the numbers that were read.
 use Rattle.std.proofs.{Common.{◌≡◌, ℕ, ◌+◌, ◌-◌, ◌<◌, ◌≤◌, ◌&&◌, Bool, true, false, List, [], ◌∷◌, ◌++◌, length, take, drop, replicate, Some, None, Result, Ok, Err, refl, sym, ap, ◌∙◌, arith, le-leb, eq-eqb, ne_eqb}, lemmas.Bool.Decides.nat_tests, lemmas.List.{take_at, take-take, take-replicate}, Math.Seq.take-append-add}
 use Rattle.std.specs.{Prelude.{◌⊎◌, ◌≢◌, nat_le}, Int.{from_be_bytes, w32}}
 use Rattle.pf_addr.specs.{Collected.{parts_of, parts_kept, eight_groups, groups_of, groups_kept, last_kept}, Grammar.{v6_number, two_groups}, Reading.{parts_at, v4_of, v4_at, has, group_at, end_at, groups_at, v6_of, v6_around, gap, v6_at}}

@@ -1,4 +1,4 @@
--- A text that is no address or no network is refused with the fault that it has by cases, and with no other.
+-- A text that isn't an address or a network is refused with its fault by cases, and with no other.
 use Rattle.std.proofs.{Common.{◌≡◌, ℕ, ◌+◌, ◌<◌, ◌≤◌, ◌==◌, ◌&&◌, Bool, true, false, List, [], ◌∷◌, ◌++◌, length, take, drop, Option, Some, None, Result, Ok, Err, inl, inr, refl, sym, ap, ◌∙◌, subst, arith}, lemmas.Bool.lt-leb, lemmas.Bool.Decides.{leb_tells, eqb_tells, nat_tests}, lemmas.List.{take_at, length-take, length-append, get_or-take}, lemmas.List.Elements.All-from_get_or, lemmas.List.Quantifiers.position-Some, lemmas.List.Sums.position_or_len_is}
 use Rattle.std.specs.{Prelude.{◌⊎◌, ◌↔◌, nat_le, is_some, if◌then◌else◌}, List.{position, position_or_len, AllZip}, Option.ok_or, Str.Parse.digits_value}
 use Rattle.pf_addr.specs.{Address.{width, family_of, network_from, network_of}, Laws.{Digits.{digits_all, all_digits}, Gaps.gap_cut, Pieces.{all_read, all_found}, Places.{without, first_none, no_place, place_after, cut_there}, Reading.{small_read, small_found, part_read, part_found, group_read, group_found, grouped_read, ended_read, grouped_found, ended_found, behind_gap, address_read, address_found, behind as behind_slash}}, FaultCases.{FirstAt, Faulty, IsPieceFault, empty, no_digit, too_big, IsPartFault, IsGroupFault, place_behind, where_last, IsFirstFault, IsV4Fault, bad_part, wrong_number, IsEndFault, end_v4, end_group, IsInnerFault, IsOuterFault, NoGap, FirstGap, IsV6Fault, bad_piece, bad_before, bad_behind, too_many, IsAddressFault, no_text, as_v6, as_v4, IsAddrFault, IsNetFault, no_slash, bad_address, bad_length}, Grammar.{is_other, is_small, is_short, pieces, IsNumber, IsGroup, two_groups, v4_number, v6_number}, Reading.{small_number, fault_by, part_at, piece_by, group_at, One, Last, single, pieces_at, parts_at, v4_of, v4_at, has, end_at, groups_at, begins_with_byte, v6_of, v6_around, gap, v6_by, v6_at, address_at, addr_at, is_slash, length_at, front_at, cut_at, net_at}}
@@ -71,7 +71,7 @@ part_is at p = by (position (is_other 10) p) refl where
     ]
   ]
 
--- which faults are told
+-- which faults are found
 abbrev Tells : {A : Type 0} → (ℕ → List ℕ → Result A AddrFault) → Faulty → Type 0
 Tells read Fault = (at : ℕ) (p : List ℕ) (f : AddrFault) → (read at p ≡ Err f) ↔ Fault at p f
 
@@ -84,7 +84,7 @@ group_tells at p f = (piece_told 16 is_short at p f, piece_only 16 is_short at p
 
 -- ---- pieces in a row
 
--- which pieces are good, and which faults of others are told
+-- which pieces are good, and which faults of the others are found
 record Told (Good : List ℕ → ℕ → Type 0) (inner last : Faulty) (one : One) (end : Last) : Type 0 where
   found : (at : ℕ) (p : List ℕ) (n : ℕ) → one at p ≡ Ok n → Good p n
   read : (at : ℕ) (p : List ℕ) (n : ℕ) → Good p n → one at p ≡ Ok n

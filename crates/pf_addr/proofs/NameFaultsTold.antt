@@ -1,4 +1,4 @@
--- A word that is no name, no path or no reference is refused with the fault that it has by cases, and with no other.
+-- A word that isn't a name, a path or a reference is refused with its fault by cases, and with no other.
 use Rattle.std.proofs.{Common.{not, ◌≡◌, ◌≢◌, inl, inr, ℕ, ◌<◌, ◌≤◌, ◌&&◌, Bool, true, false, List, [], ◌∷◌, ◌++◌, length, Some, None, Option, Ok, Err, refl, sym, ap, subst, ◌∙◌, arith}, lemmas.Bool.Decides.{leb_tells, nat_tests}, lemmas.Bool.{lt-ltb, ltb-true}, lemmas.List.length-append, lemmas.Slice.Eq.bytes_eq-Decides}
 use Rattle.std.specs.{Prelude.{codes, nat_lt, if◌then◌else◌}, List.{AllByRecursion, list_all}, Option.{option_map_or, option_or}, Str.bytes_eq}
 use Rattle.pf_addr.specs.declared.path.limits.TheConstants.{PATH_LIMIT, COMPONENT_LIMIT, DEPTH_LIMIT, REFERENCE_LIMIT}
@@ -83,7 +83,7 @@ within_only limit text names k (too_deep short each deep is) =
     let test : nat_lt limit (length text) ≡ false = grind (arith, nat_tests) in
     rw (test, each_faultless (components names) each, lt-ltb DEPTH_LIMIT (length (components names)) deep, is) refl
 
--- a fault that is there, as an error
+-- an existing fault, as an error
 as_error : {A : Type 0} (o : Option Kind) (x : A) (k : Kind) → option_map_or (λ k. Err k) o (Ok x) ≡ Err k → o ≡ Some k
 as_error (Some j) x k e = cc
 as_error None x k e = absurd cc

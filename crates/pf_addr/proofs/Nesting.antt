@@ -36,7 +36,7 @@ no_child p q none = by (is_child p q) refl where
   by false e = refl
   by true e = absurd (none (drop (length (front p)) q) (child_begins p q e))
 
--- as the code finds it: the path, a slash, and what stands behind them
+-- as the code finds it: the path, a slash, and what comes after them
 pub child_found : (p q rest x : List ℕ) → (length p == 0) ≡ false → q ≡ p ++ rest → rest ≡ 47 ∷ x → is_child p q ≡ is_single x
 child_found p q rest x some begins slash = child_is p q x (begins ∙ ap (λ (r : List ℕ). p ++ r) slash ∙ sym (within_some p x some))
 

@@ -5,7 +5,7 @@ use Rattle.pf_addr.specs.{Collected.{parts_of, eight_groups, groups_of}, Grammar
 use Rattle.pf_form.specs.Form.Forms.{◌>>=◌}
 use Rattle.pf_addr.specs.declared.{fault.AddrFault.AddrFault, groups.Groups.Groups, reading.Parts.Parts}
 
--- what is read, and kept by `make`, where these numbers stand before the rest, which begins at `at`
+-- what is read, and stored by `make`, if these numbers come before the rest, which begins at `at`
 abbrev pub behind : {S : Type 0} → One → Last → ℕ → (List ℕ → S) → List ℕ → ℕ → List ℕ → Result S AddrFault
 behind one last c make done at rest = pieces_at one last at (slice_split (λ b. b == c) rest) >>= λ ns. Ok (make (done ++ ns))
 
@@ -19,7 +19,7 @@ unfolding pieces_at
 step one last at p [] lt = absurd (omega arith)
 step one last at p (q ∷ ps) lt = refl
 
--- A piece is read, and then the rest behind its separator.
+-- A piece is read, and then the rest after its separator.
 pub behind_piece : {S : Type 0} (one : One) (last : Last) (c : ℕ) (make : List ℕ → S) (done : List ℕ) (at : ℕ) (rest : List ℕ) (i : ℕ) (r : Result ℕ AddrFault) → position (λ b. b == c) rest ≡ Some i → i < length rest → r ≡ one at (take i rest) → behind one last c make done at rest ≡ (r >>= λ n. behind one last c make (done ++ n ∷ []) (at + (i + 1)) (drop (i + 1) rest))
 behind_piece one last c make done at rest i r place lt is =
     let next : at + length (take i rest) + 1 ≡ at + (i + 1) = omega (arith, length-take-le i rest (omega arith)) in

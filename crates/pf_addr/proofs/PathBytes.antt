@@ -1,4 +1,4 @@
--- Each path, name and reference can be written in bytes, and they tell it.
+-- Each path, name and reference can be written in bytes, and is read back from them.
 use Rattle.std.proofs.{Common.{◌≡◌, ◌||◌, ◌<◌, ◌≤◌, ◌-◌, ℕ, zero, suc, Bool, true, false, List, [], ◌∷◌, ◌++◌, length, None, refl, ap, arith}, lemmas.Bool.and_parts, lemmas.Bool.Decides.nat_tests, lemmas.List.{length-append, length-replicate, append-nil}}
 use Rattle.std.specs.{Prelude.{replicate}, List.{AllByRecursion, list_all}, Option.is_none}
 use Rattle.pf_addr.specs.declared.path.limits.TheConstants.{PATH_LIMIT, REFERENCE_LIMIT, TABLE_NAME_LIMIT}
@@ -21,7 +21,7 @@ each_byte : (P : ℕ → Bool) → ((b : ℕ) → P b ≡ true → b < 256) → 
 each_byte P h [] all = tt
 each_byte P h (b ∷ bs) all = let parts = and_parts (P b) (list_all P bs) all in (h b parts.0, each_byte P h bs parts.1)
 
--- ---- behind their length
+-- ---- after their length
 
 pub path_fits : (p : List ℕ) → is_path p ≡ true → Fits path_form p
 unfolding path_form

@@ -1,4 +1,4 @@
--- The components of a text, as the reader finds them: up to the first slash, and from behind it.
+-- The components of a text, as the reader finds them: up to the first slash, and after it.
 use Rattle.std.proofs.{Common.{◌≡◌, ℕ, ◌+◌, ◌-◌, ◌<◌, ◌≤◌, Bool, true, false, List, [], ◌∷◌, length, take, drop, Some, None, Option, refl, sym, ap, subst, ◌∙◌, arith}, lemmas.List.take_rest, lemmas.Bool.Decides.nat_tests, lemmas.List.Splits.{length-slice_split, slice_split_first, slice_split_none}, lemmas.List.Sums.{prefix_len-le-length, fails_before_first}, lemmas.Map.Text.is_eq-slice_cmp, lemmas.Slice.Eq.bytes_eq-Decides}
 use Rattle.std.specs.{Prelude.{◌≢◌, count_by, slice_index}, List.{position, position_or_len, All}, Option.option_or, Str.bytes_eq}
 use Rattle.pf_form.specs.declared.form.fault.Kind.{Kind}
@@ -31,7 +31,7 @@ none_else : (o : Option Kind) → option_or o None ≡ o
 none_else (Some k) = refl
 none_else None = refl
 
--- the fault of a text with a slash: that of its first component, or else that of what follows, as the code takes it
+-- the fault of a text with a slash: that of its first component, or else that of the rest, as the code computes it
 pub fault_some : (w : List ℕ) (i : ℕ) (o : Option Kind) → position is_slash w ≡ Some i → component_fault (take i w) ≡ o → first_fault (components w) ≡ option_or o (first_fault (components (take (length w - (i + 1)) (drop (i + 1) w))))
 fault_some w i o e f =
     ap first_fault (split_some w i e)

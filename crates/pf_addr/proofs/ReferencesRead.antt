@@ -68,7 +68,7 @@ text_of_split text = by (before ending text) refl where
   by (Some names) is = sym (before_is ending text names is)
   by None is = append-nil text
 
--- no names end so
+-- no names end in "/*"
 no_ending : (w : Word) → list_all is_path_byte w ≡ true → before ending w ≡ None
 no_ending w bytes = by (before ending w) refl where
   by : (o : Option Word) → before ending w ≡ o → o ≡ None

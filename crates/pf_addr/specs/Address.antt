@@ -8,7 +8,7 @@ abbrev pub width : Family → ℕ
 width V4 = V4_BITS
 width V6 = V6_BITS
 
--- An address is a family and so many bits.
+-- An address is a family and its bits.
 abbrev pub family_of : Addr → Family
 family_of (addr.V4 n) = V4
 family_of (addr.V6 n) = V6
@@ -22,13 +22,13 @@ number_in (addr.V6 n) = n
 abbrev pub first_bits : ℕ → Addr → ℕ
 first_bits len a = number_in a / 2 ^ (width (family_of a) - len)
 
--- A network is a family and the front of an address of it: so many bits, and the number that they write.
+-- A network is a family and the front of an address of it: some bits, and the number that they write.
 pub record PlainNet : Type 0 where
   pub family : Family
   pub len : ℕ
   pub front : ℕ
 
--- the network of the addresses that begin as this one does
+-- the network of the addresses with the same first `len` bits
 abbrev pub network_from : Addr → ℕ → PlainNet
 network_from a len = record { family = family_of a; len = len; front = first_bits len a }
 
@@ -46,12 +46,12 @@ same_family V6 V6 = true
 unfoldable pub contains : PlainNet → Addr → Bool
 contains n a = same_family n.family (family_of a) && (first_bits n.len a == n.front)
 
--- the number of an address fits its family's bits
+-- an address's number fits its family's bits
 abbrev pub IsAddr : Addr → Type 0
 IsAddr (addr.V4 n) = n < 2 ^ V4_BITS
 IsAddr (addr.V6 n) = n < 2 ^ V6_BITS
 
--- bit i of a number of so many bits, from the front on: bit 0 is the highest
+-- bit i of a number with so many bits, counted from the front: bit 0 is the highest
 abbrev pub bit : ℕ → ℕ → ℕ → ℕ
 bit size i n = n / 2 ^ (size - 1 - i) % 2
 
@@ -65,7 +65,7 @@ pub record Agree (len : ℕ) (a b : Addr) : Type 0 where
   pub family : family_of a ≡ family_of b
   pub bits : (i : ℕ) → i < len → bit (width (family_of a)) i (number_in a) ≡ bit (width (family_of b)) i (number_in b)
 
--- The front is within an address of the family, and a number that so many bits can write.
+-- The front is no longer than an address of the family, and its number fits its bits.
 pub record IsNetwork (net : PlainNet) : Type 0 where
   pub len : net.len ≤ width net.family
   pub front : net.front < 2 ^ net.len

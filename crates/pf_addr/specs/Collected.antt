@@ -1,4 +1,4 @@
--- What the readers keep of the numbers that they read: the first ones, and how many they are.
+-- What the readers keep of the numbers that they read: the first ones, and how many there are.
 use Rattle.std.specs.Prelude.{ℕ, Bool, List, ◌++◌, length, take, replicate, Result, Ok}
 use Rattle.pf_addr.specs.{Grammar.four_bytes, Reading.{parts_at, groups_at, end_at}}
 use Rattle.pf_form.specs.Form.Forms.{◌>>=◌}
@@ -19,6 +19,6 @@ parts_kept at text = parts_at at text >>= λ parts. Ok (parts_of parts)
 abbrev pub groups_kept : Bool → ℕ → List ℕ → Result Groups AddrFault
 groups_kept ends at text = groups_at ends at text >>= λ groups. Ok (groups_of groups)
 
--- of the last piece behind these groups
+-- of the last piece after these groups
 abbrev pub last_kept : List ℕ → Bool → ℕ → List ℕ → Result Groups AddrFault
 last_kept before ends at text = end_at ends at text >>= λ last. Ok (groups_of (before ++ last))

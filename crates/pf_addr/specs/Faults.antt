@@ -1,4 +1,4 @@
--- What a fault is shown as.
+-- The text that is shown for a fault.
 use Rattle.std.specs.Prelude.{ℕ, List, ◌++◌, codes, decimal}
 use Rattle.pf_addr.specs.declared.{fault.AddrFault.AddrFault, fault.AddrFault.TheVariants.{Empty, BadDigit, TooBig, BadLength, BadGroups}}
 

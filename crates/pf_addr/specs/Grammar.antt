@@ -11,7 +11,7 @@ abbrev pub pieces : ℕ → List ℕ → List (List ℕ)
 pieces c [] = []
 pieces c (b ∷ bs) = slice_split (λ x. x == c) (b ∷ bs)
 
--- a byte that is no digit in the radix
+-- a byte that isn't a digit in the radix
 abbrev pub is_other : ℕ → ℕ → Bool
 is_other radix b = nat_le radix (digit_value b)
 
@@ -24,7 +24,7 @@ is_short digits = nat_le (length digits) GROUP_DIGITS
 
 -- ---- V4
 
--- a number of at most `most` in one to three decimal digits, of which the first may be zeros
+-- a number of at most `most` in one to three decimal digits; leading zeros are allowed
 pub record IsNumber (most : ℕ) (text : List ℕ) (n : ℕ) : Type 0 where
   pub number : digits.IsNumber NUMBER_DIGITS text n
   pub small : n ≤ most
@@ -33,14 +33,14 @@ pub record IsNumber (most : ℕ) (text : List ℕ) (n : ℕ) : Type 0 where
 abbrev pub Dotted : List ℕ → List ℕ → Type 0
 Dotted numbers text = AllZip (IsNumber 255) (pieces 46 text) numbers
 
--- the four bytes of an address of which these are written, the missing ones zero
+-- the four bytes of an address of which these are written; missing ones are zero
 abbrev pub four_bytes : List ℕ → List ℕ
 four_bytes parts = take 4 (parts ++ replicate 4 0)
 
 abbrev pub v4_number : List ℕ → ℕ
 v4_number parts = from_be_bytes w32 (four_bytes parts)
 
--- so many parts at least and four at most, the address's bytes from the first on
+-- at least `fewest` parts and at most four, the address's bytes from the first on
 pub record SpellsV4 (fewest : ℕ) (text : List ℕ) (n : ℕ) : Type 0 where
   pub parts : List ℕ
   pub dotted : Dotted parts text
@@ -60,11 +60,11 @@ pub record IsGroup (text : List ℕ) (n : ℕ) : Type 0 where
 abbrev pub Grouped : List ℕ → List ℕ → Type 0
 Grouped groups text = AllZip IsGroup (pieces 58 text) groups
 
--- a V4 address stands for two groups
+-- a V4 address takes the place of two groups
 abbrev pub two_groups : ℕ → List ℕ
 two_groups n = n / 65536 ∷ n % 65536 ∷ []
 
--- The text's pieces are groups but for the last, which is a V4 address.
+-- The text's pieces are groups, except the last, which is a V4 address.
 pub record EndsInV4 (groups text : List ℕ) : Type 0 where
   pub front : List (List ℕ)
   pub last : List ℕ
@@ -75,11 +75,11 @@ pub record EndsInV4 (groups text : List ℕ) : Type 0 where
   pub v4 : SpellsV4 4 last number
   pub value : groups ≡ before ++ two_groups number
 
--- the groups of a text with which an address ends
+-- the groups of a text that ends an address
 abbrev pub EndGrouped : List ℕ → List ℕ → Type 0
 EndGrouped groups text = Grouped groups text ⊎ EndsInV4 groups text
 
--- groups, `::` in place of one zero group or more, and groups again
+-- groups, `::` in place of one or more zero groups, and groups again
 pub record Shortened (groups text : List ℕ) : Type 0 where
   pub front : List ℕ
   pub back : List ℕ
@@ -96,7 +96,7 @@ pub record Shortened (groups text : List ℕ) : Type 0 where
 abbrev pub v6_number : List ℕ → ℕ
 v6_number groups = number_from_digits 65536 groups
 
--- eight groups, some of which `::` may stand for
+-- eight groups, some of which `::` may replace
 pub record SpellsV6 (text : List ℕ) (n : ℕ) : Type 0 where
   pub groups : List ℕ
   pub spelled : EndGrouped groups text ⊎ Shortened groups text
@@ -105,16 +105,16 @@ pub record SpellsV6 (text : List ℕ) (n : ℕ) : Type 0 where
 
 -- ---- addresses and networks
 
--- a V6 address, or a V4 address of so many parts at least
+-- a V6 address, or a V4 address of at least `fewest` parts
 abbrev pub Spells : ℕ → List ℕ → Addr → Type 0
 Spells fewest text (addr.V4 n) = SpellsV4 fewest text n
 Spells fewest text (addr.V6 n) = SpellsV6 text n
 
--- an address: of V4 with all four parts
+-- an address; V4 has all four parts
 unfoldable pub SpellsAddr : List ℕ → Addr → Type 0
 SpellsAddr text a = Spells 4 text a
 
--- an address, of which the last parts may be missing, a slash (47) and how many bits are the front
+-- an address whose last parts may be missing, a slash (47), and how many bits are the front
 pub record SpellsFront (text : List ℕ) (net : PlainNet) : Type 0 where
   pub front : List ℕ
   pub digits : List ℕ

@@ -1,4 +1,4 @@
--- Families, addresses and networks in bytes. The order of an address's bytes is the network's (RFC 791, RFC 4291).
+-- Families, addresses and networks in bytes. An address's bytes are in network order (RFC 791, RFC 4291).
 use Rattle.std.specs.Prelude.{ℕ, ◌-◌, ◌*◌, ◌/◌, ◌^◌, ◌==◌, ◌&&◌, ◌||◌, nat_le, Bool, replicate, if◌then◌else◌}
 use Rattle.pf_addr.specs.declared.addr.{TheConstants.{V4_BITS, V6_BITS}, Family.Family, Family.TheVariants.{V4, V6}}
 use Rattle.pf_addr.specs.Address.{PlainNet, width}
@@ -11,11 +11,11 @@ family_byte V6 = 6
 unfoldable pub family : Form nat
 family = that (λ b. (b == 4) || (b == 6)) (number 1)
 
--- an address of the family of this byte, in 16 bytes: one of IPv4 in the first four
+-- an address of the family of this byte, in 16 bytes; an IPv4 address is in the first four, followed by zeros
 abbrev pub address_in : ℕ → Form nat
 address_in family = if family == 4 then back (number 4) (replicate 12 0) else number 16
 
--- behind a network's front are zeros
+-- a network's front is followed by zeros
 abbrev pub first_number : PlainNet → ℕ
 first_number n = n.front * 2 ^ (width n.family - n.len)
 
@@ -25,16 +25,16 @@ width_of family = if family == 4 then V4_BITS else V6_BITS
 abbrev pub ends_in_zeros : ℕ → ℕ → Bool
 ends_in_zeros host n = n / 2 ^ host * 2 ^ host == n
 
--- So many bits of the address can be a network's front, and those behind are zero.
+-- The address has at least `len` bits, and those after the first `len` are zero.
 abbrev pub is_network : ℕ → ℕ → ℕ → Bool
 is_network family len address = nat_le len (width_of family) && ends_in_zeros (width_of family - len) address
 
--- ---- what the numbers say
+-- ---- what the numbers mean
 
 abbrev pub family_of_byte : ℕ → Family
 family_of_byte b = if b == 4 then V4 else V6
 
--- the network of this family whose front has so many bits and whose first address is this one
+-- the network of this family with this prefix length and this first address
 abbrev pub network_at : ℕ → ℕ → ℕ → PlainNet
 network_at family len address =
     record { family = family_of_byte family; len = len; front = address / 2 ^ (width (family_of_byte family) - len) }

@@ -13,7 +13,8 @@ unfoldable pub net_order : PlainNet → PlainNet → Ordering
 net_order x y = ordering_then (nat_cmp (rank x.family) (rank y.family))
     (ordering_then (nat_cmp (first_number x) (first_number y)) (nat_cmp x.len y.len))
 
--- A number that rises with the networks: for V6 so many first bits of the first address as fit behind the family's, for V4 all of them.
+-- A number that rises with the networks: for V6 as many first bits of the first address as fit after the family's bit, for V4 all of
+-- them.
 abbrev pub hint_in : Family → ℕ → ℕ
 hint_in V4 first = min first (2 ^ 63 - 1)
 hint_in V6 first = 2 ^ 63 + first / 2 ^ 65

@@ -1,17 +1,17 @@
--- How a network is kept: the number of its first address, and how many of its bits are the front.
+-- How a network is stored: the number of its first address, and how many of its bits are the front.
 use Rattle.std.specs.Prelude.{◌≡◌, ℕ, ◌-◌, ◌*◌, ◌/◌, ◌^◌, ◌%◌, ◌<◌, ◌≤◌}
 use Rattle.std.proofs.{Common.{ap, arith}, lemmas.Nat.shr_split}
 use Rattle.pf_addr.specs.declared.net.Net.TheInside.{Inside}
 use Rattle.pf_addr.specs.Address.{PlainNet, width}
 
--- how many bits are behind the front
+-- how many bits come after the front
 abbrev pub host_bits : Inside → ℕ
 host_bits n = width n.family - n.len
 
 abbrev pub network_in : Inside → PlainNet
 network_in n = record { family = n.family; len = n.len; front = n.number / 2 ^ host_bits n }
 
--- the front is within the address, and the bits past it are zero
+-- the front is no longer than the address, and the bits past it are zero
 pub record IsWithin (n : Inside) : Type 0 where
   pub len : n.len ≤ width n.family
   pub number : n.number < 2 ^ width n.family

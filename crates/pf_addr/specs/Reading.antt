@@ -1,5 +1,5 @@
--- How a text is read from left to right: what it spells (`Grammar`), or else its fault (`FaultCases`). It is there so that functions
--- have something to compute; laws say that both are told exactly so.
+-- How a text is read from left to right: the value that it spells (`Grammar`), or else its fault (`FaultCases`). Functions compute this;
+-- laws say that it gives exactly the spelled value and the fault by cases.
 use Rattle.std.specs.{Prelude.{ℕ, ◌+◌, ◌-◌, ◌==◌, nat_le, Bool, true, false, ◌&&◌, List, [], ◌∷◌, ◌++◌, length, take, drop, replicate, Option, Some, None, is_some, Result, Ok, Err, if◌then◌else◌}, List.position, Option.ok_or, Str.Parse.digits_value}
 use Rattle.pf_addr.specs.{Address.{PlainNet, width, family_of, network_from, network_of}, Grammar.{is_other, is_short, pieces, v4_number, v6_number, two_groups}}
 use Rattle.pf_form.specs.Form.{Forms.◌>>=◌, Numbers.number_of}
@@ -16,7 +16,7 @@ small_number most text = kept_to most (number_of NUMBER_DIGITS text)
 
 -- ---- one piece, which begins at `at`
 
--- with the place in it of its first byte that is no digit
+-- given the place in it of the first byte that isn't a digit
 abbrev pub fault_by : ℕ → List ℕ → Option ℕ → AddrFault
 fault_by at text (Some i) = BadDigit (at + i)
 fault_by at text None = if length text == 0 then BadDigit at else TooBig at
@@ -35,9 +35,9 @@ piece_by radix fits at text None =
 unfoldable pub group_at : ℕ → List ℕ → Result ℕ AddrFault
 group_at at text = piece_by 16 is_short at text (position (is_other 16) text)
 
--- ---- pieces in a row, of which the first begins at `at`, with one byte between two
+-- ---- pieces in a row, with one byte between two; the first begins at `at`
 
--- How one piece is read: as one number, or where it is the last as some.
+-- How a piece is read: as one number; the last one as some numbers.
 abbrev pub One : Type 0
 One = ℕ → List ℕ → Result ℕ AddrFault
 
@@ -60,7 +60,7 @@ parts_at at text = pieces_at part_at (single part_at) at (pieces 46 text)
 abbrev pub v4_of : ℕ → ℕ → List ℕ → Result ℕ AddrFault
 v4_of fewest at parts = if nat_le fewest (length parts) && nat_le (length parts) 4 then Ok (v4_number parts) else Err (BadGroups at)
 
--- so many parts at least
+-- at least `fewest` parts
 unfoldable pub v4_at : ℕ → ℕ → List ℕ → Result ℕ AddrFault
 v4_at fewest at text = parts_at at text >>= v4_of fewest at
 
@@ -69,11 +69,11 @@ v4_at fewest at text = parts_at at text >>= v4_of fewest at
 abbrev pub has : ℕ → List ℕ → Bool
 has c text = is_some (position (λ b. b == c) text)
 
--- The last piece of all may be a V4 address.
+-- The very last piece may be a V4 address.
 unfoldable pub end_at : Bool → ℕ → List ℕ → Result (List ℕ) AddrFault
 end_at ends at text = if ends && has 46 text then (v4_at 4 at text >>= λ n. Ok (two_groups n)) else single group_at at text
 
--- the groups of a text; whether the address ends with it
+-- the groups of a text, and whether the address ends with it
 abbrev pub groups_at : Bool → ℕ → List ℕ → Result (List ℕ) AddrFault
 groups_at ends at text = pieces_at group_at (end_at ends) at (pieces 58 text)
 
@@ -99,7 +99,7 @@ unfoldable pub gap : List ℕ → Option ℕ
 gap [] = None
 gap (b ∷ bs) = if (b == 58) && begins_with_byte 58 bs then Some 0 else later 1 (gap bs)
 
--- with the place of its first `::`
+-- given the place of its first `::`
 abbrev pub v6_by : List ℕ → Option ℕ → Result ℕ AddrFault
 v6_by text None = groups_at true 0 text >>= v6_of
 v6_by text (Some i) = groups_at false 0 (take i text) >>= λ front. groups_at true (i + 2) (drop (i + 2) text) >>= v6_around front
@@ -109,7 +109,7 @@ v6_at text = v6_by text (gap text)
 
 -- ---- an address
 
--- A text with a colon is V6, any other V4 of so many parts at least.
+-- A text with a colon is V6, any other is V4 with at least `fewest` parts.
 abbrev pub family_at : ℕ → List ℕ → Bool → Result Addr AddrFault
 family_at fewest text true = v6_at text >>= λ n. Ok (addr.V6 n)
 family_at fewest text false = v4_at fewest 0 text >>= λ n. Ok (addr.V4 n)
@@ -125,15 +125,15 @@ addr_at text = address_at 4 text
 abbrev pub is_slash : ℕ → Bool
 is_slash b = b == 47
 
--- A length has one fault, whatever is wrong with it.
+-- Whatever is wrong with a length, there is one fault for it.
 abbrev pub length_at : ℕ → ℕ → List ℕ → Result ℕ AddrFault
 length_at most at text = ok_or (small_number most text) (BadLength at)
 
--- with this address, and with a length that begins at `at`
+-- given this address, and a length that begins at `at`
 abbrev pub front_at : ℕ → List ℕ → Addr → Result PlainNet AddrFault
 front_at at digits a = length_at (width (family_of a)) at digits >>= λ len. Ok (network_from a len)
 
--- with the place of its first slash
+-- given the place of its first slash
 abbrev pub cut_at : List ℕ → Option ℕ → Result PlainNet AddrFault
 cut_at text None = addr_at text >>= λ a. Ok (network_of a)
 cut_at text (Some i) = address_at 1 (take i text) >>= front_at (i + 1) (drop (i + 1) text)

@@ -1,36 +1,36 @@
--- Checks one after the other, and what is due where memory may be refused.
+-- Checks one after the other, and what is due if memory may run out.
 use Rattle.std.specs.Prelude.{◌≡◌, ◌≢◌, ℕ, Bool, true, false, if◌then◌else◌, Option, Some, None, Result, Ok, Err}
 use Rattle.std.proofs.Common.{refl}
 
--- a check, and where it passes another
+-- a check, then another if it passes
 abbrev pub and_then : {A E : Type 0} → Result (Unit {0}) E → Result A E → Result A E
 and_then (Ok u) next = next
 and_then (Err e) next = Err e
 
--- refused where this holds
+-- refused if this holds
 abbrev pub unless : {E : Type 0} → Bool → E → Result (Unit {0}) E
 unless b why = if b then Err why else Ok tt
 
--- refused at a place, where there is one
+-- refused at a place, if there is one
 abbrev pub refused_at : {E : Type 0} → (ℕ → E) → Option ℕ → Result (Unit {0}) E
 refused_at why None = Ok tt
 refused_at why (Some i) = Err (why i)
 
--- this, or memory was refused
+-- what is due, unless it ran out of memory
 abbrev pub OrMemory : {A E : Type 0} → E → Result A E → Result A E → Type 0
 OrMemory memory r due = (r ≡ Err memory → ⊥) → r ≡ due
 
--- done only where nothing refuses it, and refused only for what does; memory may be refused anywhere
+-- done only if nothing refuses it, and refused only for what does; memory may run out anywhere
 abbrev pub Meets : {A E : Type 0} → E → Result A E → Result (Unit {0}) E → Type 0
 Meets memory (Ok x) due = due ≡ Ok tt
 Meets memory (Err e) due = (e ≡ memory → ⊥) → due ≡ Err e
 
--- the same, where the refusal stands by itself
+-- the same, where the refusal is given by itself
 abbrev pub Refuses : {A E : Type 0} → E → Result A E → Option E → Type 0
 Refuses memory (Ok x) due = due ≡ None
 Refuses memory (Err e) due = e ≢ memory → due ≡ Some e
 
--- ---- what checks in turn didn't refuse
+-- ---- what checks in turn let pass
 
 pub record AreBothPassed {A E : Type 0} (r : Result (Unit {0}) E) (next : Result A E) (x : A) : Type 0 where
   pub first : r ≡ Ok tt

@@ -51,14 +51,13 @@ impl Addr {
         }
     }
 
-    /// Reads an address (RFC 4291 section 2.2 for V6). With a colon it is V6: eight groups of one to four hexadecimal
-    /// digits in either case between colons, where `::` may stand once for one zero group or more, and a V4 address
-    /// for the last two groups. Else it is V4: four decimal numbers of one byte between dots, each of one to three
-    /// digits.
+    /// Reads an address (RFC 4291 section 2.2 for V6). With a colon it is V6: eight groups of one to four hexadecimal digits in either
+    /// case between colons, where `::` may stand once for one or more zero groups, and a V4 address for the last two groups. Otherwise it
+    /// is V4: four decimal numbers of one byte between dots, each of one to three digits.
     ///
-    /// The fault is the first in this order: no text ([`AddrFault::Empty`]); the parts or groups from left to right, in each
-    /// [`AddrFault::BadDigit`] before [`AddrFault::TooBig`]; their number ([`AddrFault::BadGroups`]). A V4 address that
-    /// ends a V6 address has all its faults in that piece's turn. It takes no memory.
+    /// Returns the first fault in this order: no text ([`AddrFault::Empty`]); the parts or groups from left to right, in each
+    /// [`AddrFault::BadDigit`] before [`AddrFault::TooBig`]; how many there are ([`AddrFault::BadGroups`]). If a V4 address ends a V6
+    /// address, all its faults come when that piece is reached. Doesn't allocate.
     #[tactic(auto, using(crate::specs::Laws::Reading::addr_if_ok, crate::specs::Laws::Reading::addr_only))]
     pub fn from_ascii(text: &[u8]) -> Result<Addr, AddrFault>
         ensures found { IfOk result (λ a. SpellsAddr text.now a) }

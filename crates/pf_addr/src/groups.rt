@@ -5,7 +5,7 @@ ghost use Rattle.pf_addr.specs.{Collected.{groups_of, groups_kept, last_kept}, G
 use crate::fault::AddrFault;
 use crate::reading::{digit_value, first_other, place_of, read_v4};
 
-/// How many digits a group may have, leading zeros among them.
+/// How many digits a group may have, including leading zeros.
 pub(crate) const GROUP_DIGITS: usize = 4;
 /// How many groups an address has.
 pub(crate) const GROUPS: usize = 8;
@@ -13,7 +13,7 @@ pub(crate) const GROUPS: usize = 8;
 /// The groups between the colons of a text.
 #[derive(Clone, Copy)]
 pub(crate) struct Groups {
-    /// The first eight, and zeros where there are fewer.
+    /// The first eight, padded with zeros if there are fewer.
     pub(crate) numbers: [u16; 8],
     /// How many there are.
     pub(crate) count: usize,
@@ -32,7 +32,7 @@ impl Groups {
         self.count += 1;
     }
 
-    /// These groups, at the end those others, and zeros in between.
+    /// These groups, then zeros, then those of `back`.
     fn around(self, back: Groups) -> [u16; 8]
         requires { back.count ≤ 8 }
         ensures { result ≡ take (8 - back.count) self.numbers ++ take back.count back.numbers }
@@ -43,7 +43,7 @@ impl Groups {
     }
 }
 
-/// Reads a V6 address: eight groups, or fewer and one `::`.
+/// Reads a V6 address: eight groups, or fewer with one `::`.
 pub(crate) fn read_v6(text: &[u8]) -> Result<u128, AddrFault>
     ensures { result ≡ v6_at text.now }
 {
@@ -62,7 +62,7 @@ pub(crate) fn read_v6(text: &[u8]) -> Result<u128, AddrFault>
     Ok(number_of(&front.around(back)))
 }
 
-/// The place of a text's first `::`.
+/// Where the text's first `::` is.
 fn place_of_gap(text: &[u8]) -> Option<usize>
     ensures place { result ≡ gap text.now }
     ensures bound { IfSome result (λ i. i + 2 ≤ length text.now) }
@@ -82,8 +82,8 @@ fn colons_at(text: &[u8], i: usize) -> bool
     text[i] == b':' && text[i + 1] == b':'
 }
 
-/// Reads the groups of a text with a colon between each two; the empty text has no pieces. Where the address
-/// ends with the text, the last piece may be a V4 address.
+/// Reads the groups of a text, separated by colons; the empty text has none. If the address ends with this text, the last piece may be a
+/// V4 address.
 fn read_groups(at: usize, text: &[u8], ends: bool) -> Result<Groups, AddrFault>
     requires { at + length text.now < 2 ^ 64 - 2 }
     ensures { result ≡ groups_kept ends at text.now }
@@ -105,7 +105,7 @@ fn read_groups(at: usize, text: &[u8], ends: bool) -> Result<Groups, AddrFault>
     push_last(groups, ends, at, rest)
 }
 
-/// The groups with those of the last piece, which begins at this byte.
+/// The groups, extended by the last piece, which begins at this byte.
 fn push_last(mut groups: Groups, ends: bool, at: usize, text: &[u8]) -> Result<Groups, AddrFault>
     requires count { groups.count < 2 ^ 64 - 2 }
     requires place { at + length text.now < 2 ^ 64 - 2 }
@@ -145,7 +145,7 @@ fn read_group(at: usize, text: &[u8]) -> Result<u16, AddrFault>
     Ok(hex_value(text))
 }
 
-/// The number that at most four hexadecimal digits write.
+/// The number that at most four hexadecimal digits spell.
 fn hex_value(digits: &[u8]) -> u16
     requires digits { AllDigits 16 digits.now }
     requires few { length digits.now ≤ 4 }
@@ -158,7 +158,7 @@ fn hex_value(digits: &[u8]) -> u16
     value
 }
 
-/// The number that eight groups write.
+/// The number that eight groups spell.
 fn number_of(groups: &[u16; 8]) -> u128
     ensures { result ≡ v6_number groups.now }
 {

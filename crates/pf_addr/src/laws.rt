@@ -1,4 +1,4 @@
-//! Laws of networks and of texts. Each function's contract is the law, and its body does nothing.
+//! Laws of networks and of texts. Each function's contract is the law; its body does nothing.
 ghost use Rattle.std.specs.Prelude.{◌≡◌, ◌↔◌, ℕ, ◌^◌, ◌<◌, ◌≤◌, true, List, Ok};
 ghost use Rattle.pf_addr.specs.declared.{addr.Addr.Addr, addr.TheConstants.{V4_BITS, V6_BITS}, groups.TheConstants.{GROUPS, GROUP_DIGITS}, reading.TheConstants.NUMBER_DIGITS};
 ghost use Rattle.pf_addr.specs.{Address.{PlainNet, width, family_of, network_from, contains, IsAddr, BeginsAs, Agree}, FaultCases.{IsAddrFault, IsNetFault}, Grammar.{SpellsAddr, SpellsNet}, Reading.{addr_at, net_at}, Spelling.{addr_text, net_text}, Laws.Spelling.{IsNetwork, IsNetWord}, NetForms.{family, family_byte, address_in, first_number, is_network, network_at}};
@@ -10,61 +10,61 @@ use crate::addr::Addr;
 #[tactic(auto, using(crate::specs::Laws::Bits::contains_by_bits, crate::specs::Laws::Bits::network_agrees))]
 pub fn networks_contain_by_bits()
     ensures bits { (net : PlainNet) (a : Addr) → IsNetwork net → IsAddr a → (contains net a ≡ true) ↔ BeginsAs net a }
-    // an address with its length is the network of those that agree with it in so many first bits
+    // the network of an address and a length contains the addresses that share its first `len` bits
     ensures shared { (a b : Addr) (len : ℕ) → len ≤ width (family_of b) → IsAddr a → IsAddr b
         → (contains (network_from b len) a ≡ true) ↔ Agree len a b }
 {}
 
-/// The text that an address is written as spells it.
+/// The text written for an address spells it.
 #[tactic(auto, using(crate::specs::Laws::Spelling::addr_text_spells))]
 pub fn written_addr_is_read_again()
     ensures { (a : Addr) → IsAddr a → SpellsAddr (addr_text a) a }
 {}
 
-/// The text that a network is written as spells it.
+/// The text written for a network spells it.
 #[tactic(auto, using(crate::specs::Laws::Spelling::net_text_spells))]
 pub fn written_net_is_read_again()
     ensures { (net : PlainNet) → IsNetwork net → SpellsNet (net_text net) net }
 {}
 
-/// An address is read from a text exactly where the text spells it. So a text spells at most one.
+/// An address is read from a text exactly where the text spells it. So a text spells at most one address.
 #[tactic(auto, using(crate::specs::Laws::Reading::addr_found, crate::specs::Laws::Reading::addr_only))]
 pub fn addrs_are_read_as_spelled()
     ensures read { (text : List ℕ) (a : Addr) → addr_at text ≡ Ok a → SpellsAddr text a }
     ensures spelled { (text : List ℕ) (a : Addr) → SpellsAddr text a → addr_at text ≡ Ok a }
 {}
 
-/// A network is read from a text exactly where the text spells it. So a text spells at most one.
+/// A network is read from a text exactly where the text spells it. So a text spells at most one network.
 #[tactic(auto, using(crate::specs::Laws::Reading::net_found, crate::specs::Laws::Reading::net_only))]
 pub fn nets_are_read_as_spelled()
     ensures read { (text : List ℕ) (net : PlainNet) → net_at text ≡ Ok net → SpellsNet text net }
     ensures spelled { (text : List ℕ) (net : PlainNet) → SpellsNet text net → net_at text ≡ Ok net }
 {}
 
-/// Two addresses that are written as one text are one.
+/// Two addresses with the same text are the same address.
 #[tactic(auto, using(crate::specs::Laws::Spelling::own_addr_text))]
 pub fn addrs_have_texts_of_their_own()
     ensures { (a b : Addr) → IsAddr a → IsAddr b → addr_text a ≡ addr_text b → a ≡ b }
 {}
 
-/// Two networks that are written as one text are one.
+/// Two networks with the same text are the same network.
 pub fn nets_have_texts_of_their_own()
     ensures { (a b : PlainNet) → IsNetwork a → IsNetwork b → net_text a ≡ net_text b → a ≡ b }
 {}
 
-/// A network's text is one word: one to 43 digits, letters from a to f, dots, colons and slashes.
+/// A network's text is one word: 1 to 43 bytes, each a digit, a letter from a to f, a dot, a colon or a slash.
 #[tactic(auto, using(crate::specs::Laws::Spelling::net_text_is_word))]
 pub fn net_text_is_one_word()
     ensures { (net : PlainNet) → IsNetwork net → IsNetWord 43 (net_text net) }
 {}
 
-/// A text that is refused as an address is refused for the one fault that it has, by cases on the text.
+/// A text that isn't an address is refused for the one fault that it has, by cases on the text.
 #[tactic(auto, using(crate::proofs::FaultsTold::addr_told))]
 pub fn faults_of_addrs_are_told()
     ensures { TellsFaults addr_at IsAddrFault }
 {}
 
-/// A text that is refused as a network is refused for the one fault that it has, by cases on the text.
+/// A text that isn't a network is refused for the one fault that it has, by cases on the text.
 #[tactic(auto, using(crate::proofs::FaultsTold::net_faults_told))]
 pub fn faults_of_nets_are_told()
     ensures { TellsFaults net_at IsNetFault }
@@ -79,7 +79,7 @@ pub fn sizes_are_these()
     ensures number_digits { NUMBER_DIGITS ≡ 3 }
 {}
 
-/// The bytes of each network can be written, and they tell it: its family, how many bits its front has, and its first address.
+/// Each network can be written in bytes, and is read back from them: its family, its prefix length, and its first address.
 #[tactic(auto, using(crate::specs::Laws::NetForms::family_fits, crate::specs::Laws::NetForms::length_fits, crate::specs::Laws::NetForms::address_fits, crate::specs::Laws::NetForms::network_is, crate::specs::Laws::NetForms::network_again))]
 pub fn networks_have_bytes_of_their_own()
     ensures family { (n : PlainNet) → Fits family (family_byte n.family) }

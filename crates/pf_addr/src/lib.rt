@@ -1,20 +1,26 @@
-//! Names and paths of rulesets, IP addresses and networks, in texts and in bytes, and texts put out to a writer.
+//! Names and paths of rulesets, references to them, IP addresses and networks: as texts and as bytes. Also the loop that writes a text
+//! out.
 //!
-//! Names and paths are words of grammars and layouts as pf_form has them. Addresses and networks are read and written byte by byte; a
-//! network contains the addresses that begin with its front. What is put out to a writer that may fail is said by the bytes that the
-//! writer then holds.
+//! The modules at the root: `addr` and `net` (addresses; networks and what they contain), `fault` (what is wrong with a text), `reading`
+//! and `groups` (reading texts, IPv4 and IPv6), `write` (writing them), `net_form` (bytes), `net_key` (networks as keys of pf_map's
+//! maps). `path` has names, paths and references, their bytes and keys. `path` uses no other module; the modules at the root don't use
+//! `path`; `laws` may use all.
 //!
-//! The crate knows no rule, no packet, no ruleset and no command. A path is a name for a ruleset, and which paths stand within one another
-//! is all that is known of them.
+//! The crate knows no rule, packet, ruleset or command, and not what the maps hold. A path is a name for a ruleset; the only thing known
+//! about paths is which of them are within one another. Names and paths are words of grammars and layouts as pf_form has them; addresses
+//! and networks are read and written byte by byte. A writer may fail: what it holds then is part of each contract.
 //!
 //! Read `specs/Address.antt` and `specs/Grammar.antt` first (addresses, networks, their texts), then `specs/FaultCases.antt` (each fault
-//! by cases on the text) and `specs/Path/PathGrammar.antt`; layouts of bytes are in `specs/NetForms.antt` and
-//! `specs/Path/PathForms.antt`. `specs/Writing.antt` says what a writer holds, `specs/Refusing.antt` how checks follow one another.
+//! by cases on the text) and `specs/Path/PathGrammar.antt`. Layouts of bytes are in `specs/NetForms.antt` and
+//! `specs/Path/PathForms.antt`, the order of keys in `specs/NetOrder.antt` and `specs/Path/FirstBytes.antt`. `specs/Writing.antt` says
+//! what a writer holds, `specs/Refusing.antt` how checks follow one another.
 //!
-//! Paths, names and networks are keys of pf_map's maps (`path::keys`, `net_key`): `specs/NetOrder.antt` has the order of networks, and
-//! `specs/Path/FirstBytes.antt` the number that rises with a text. What maps hold the crate doesn't know.
-//!
-//! `path` uses no other module; addresses and networks, at the root, use no path. `laws` may name all.
+//! Proved, by the contracts in `laws` and `path::laws`: a text is read exactly where the grammar spells it (`addrs_are_read_as_spelled`,
+//! `nets_are_read_as_spelled`, `path::laws::paths_are_read_as_spelled` and their like); any other is refused for the one fault that it
+//! has (`faults_of_addrs_are_told`, `faults_of_nets_are_told`, `path::laws::faults_of_names_are_told`); what is written is read again,
+//! and no two values share a text; a network contains exactly the addresses that begin with its bits (`networks_contain_by_bits`); bytes
+//! give back what was written (`networks_have_bytes_of_their_own`, `path::laws::names_have_bytes_of_their_own`). Nothing is only tested
+//! here.
 #![tactic(auto)]
 
 mod addr;

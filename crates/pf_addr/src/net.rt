@@ -10,7 +10,7 @@ use std::marker::Model;
 /// A network: the addresses of one family that begin with the same bits. The bits past the front are zero.
 #[derive(Clone, Copy, Debug, PartialEq, Eq)]
 pub struct Net {
-    // the widest first, so that no place is lost between the fields
+    // the widest first, so that no padding is lost between the fields
     number: u128,
     family: Family,
     len: u8,
@@ -33,8 +33,7 @@ impl Model for Net {
 }
 
 impl Net {
-    /// The network of the addresses that share their first `len` bits with this one. The other bits of `addr` are
-    /// cleared.
+    /// The network of the addresses that share the first `len` bits of `addr`. The other bits of `addr` are cleared.
     pub fn new(addr: Addr, len: u8) -> Net
         requires { len ≤ width (family_of addr) }
         ensures { result ≡ network_from addr len }
@@ -63,7 +62,7 @@ impl Net {
     /// The network's family.
     pub fn family(self) -> Family
         ensures family { result ≡ self.family }
-        // a network's front is no longer than an address of its family, and so many bits write it
+        // the prefix is no longer than an address of the family, so its bits fit
         ensures within { self.len ≤ width self.family }
         ensures front { self.front < 2 ^ self.len }
     {
@@ -71,7 +70,7 @@ impl Net {
         family
     }
 
-    /// How many bits the network's addresses share: at most 32 in a V4 network, and 128 in a V6 network.
+    /// How many bits the network's addresses share: at most 32 in a V4 network, at most 128 in a V6 network.
     pub fn prefix_len(self) -> u8
         ensures value { result ≡ self.len }
         ensures within { result ≤ width self.family }
@@ -80,7 +79,7 @@ impl Net {
         len
     }
 
-    /// The network's first address: the shared bits, and then zeros.
+    /// The network's first address: the shared bits followed by zeros.
     pub fn addr(self) -> Addr
         ensures value { result ≡ first_addr self }
         ensures family { family_of result ≡ self.family }
@@ -105,12 +104,11 @@ impl Net {
         }
     }
 
-    /// Reads a network in CIDR notation: an address alone, or an address, a slash, and how many bits the network's
-    /// addresses share. Before the slash the last parts of a V4 address may be missing; they are zero. The bits that
-    /// aren't shared are cleared.
+    /// Reads a network in CIDR notation: an address alone, or an address, a slash, and how many bits the network's addresses share.
+    /// Before the slash the last parts of a V4 address may be missing; they are zero. Bits that aren't shared are cleared.
     ///
-    /// The fault is the first in this order: [`AddrFault::Empty`] where nothing stands before the slash; those of the
-    /// address, as [`Addr::from_ascii`] answers them; [`AddrFault::BadLength`]. It takes no memory.
+    /// Returns the first fault in this order: [`AddrFault::Empty`] if nothing comes before the slash; those of the address, as
+    /// [`Addr::from_ascii`] returns them; [`AddrFault::BadLength`]. Doesn't allocate.
     #[tactic(auto, using(crate::specs::Laws::Reading::net_if_ok, crate::specs::Laws::Reading::net_only))]
     pub fn from_ascii(text: &[u8]) -> Result<Net, AddrFault>
         ensures found { IfOk result (λ n. SpellsNet text.now n) }
@@ -129,7 +127,7 @@ impl Net {
         Net::from_ascii(text.as_bytes())
     }
 
-    // Kept apart, so that what is read is proved once for each way out.
+    // Separate, so that what is read is proved once for both callers.
     fn with_or_without_len(text: &[u8]) -> Result<Net, AddrFault>
         ensures { result ≡ net_at text.now }
     {
@@ -139,7 +137,7 @@ impl Net {
         }
     }
 
-    // The network of a text whose first slash stands at this place.
+    // The network of a text whose first slash is at this place.
     fn cut_at(text: &[u8], slash: usize) -> Result<Net, AddrFault>
         requires { slash < length text.now }
         ensures { result ≡ cut_at text.now (Some slash) }
@@ -151,23 +149,23 @@ impl Net {
     }
 }
 
-// The number of a V4 address with its last bits cleared, the `host` lowest of them.
+// The number of a V4 address with its `host` lowest bits cleared.
 fn first_of_v4(number: u32, host: u8) -> u64
     requires { host ≤ 32 }
     ensures value { result ≡ number / 2 ^ host * 2 ^ host }
     ensures front { result / 2 ^ host ≡ number / 2 ^ host }
 {
-    // of 64 bits, so that a shift by all 32 is one
+    // 64 bits, so that a shift by all 32 is allowed
     (u64::from(number) >> host) << host
 }
 
-// The same of a number of up to 128 bits.
+// The same for a number of up to 128 bits.
 fn first_of(number: u128, host: u8) -> u128
     requires { host ≤ 128 }
     ensures value { result ≡ number / 2 ^ host * 2 ^ host }
     ensures front { result / 2 ^ host ≡ number / 2 ^ host }
 {
-    // a shift by all 128 bits is none
+    // a shift by all 128 bits isn't allowed
     if host == 128 {
         return 0;
     }

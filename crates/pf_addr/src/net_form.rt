@@ -11,7 +11,7 @@ use pf_form::bytes::{
 use std::alloc::AllocError;
 
 impl Family {
-    /// The family's number in bytes: 4 or 6.
+    /// The number that stands for the family in bytes: 4 or 6.
     pub fn number(self) -> u8
         ensures { result ≡ family_byte self }
     {
@@ -22,7 +22,7 @@ impl Family {
     }
 }
 
-/// A family, as one byte: 4 or 6. Fails where no byte is left, and at another byte.
+/// Reads a family from one byte, 4 or 6. Fails if no byte is left, and at any other byte.
 #[tactic(auto, unfolding(crate::specs::NetForms::family))]
 pub fn read_family<'a>(from: &mut Rest<'a>) -> Result<Family, Stop>
     ensures { Reads family_byte family result from.old.now from.new.now }
@@ -35,9 +35,9 @@ pub fn read_family<'a>(from: &mut Rest<'a>) -> Result<Family, Stop>
     }
 }
 
-/// An address of this family in 16 bytes, big-endian: one of IPv4 in the first four, with zeros behind it.
+/// Reads an address of this family from 16 bytes, big-endian; an IPv4 address is in the first four, followed by zeros.
 ///
-/// Fails where fewer bytes are left, and at the first byte behind an IPv4 address that isn't zero.
+/// Fails if fewer bytes are left, and at the first byte after an IPv4 address that isn't zero.
 pub fn read_addr<'a>(family: Family, from: &mut Rest<'a>) -> Result<Addr, Stop>
     ensures read { Reads number_in (address_in (family_byte family)) result from.old.now from.new.now }
     ensures family { IfOk result (λ a. family_of a ≡ family) }
@@ -52,7 +52,7 @@ pub fn read_addr<'a>(family: Family, from: &mut Rest<'a>) -> Result<Addr, Stop>
     }
 }
 
-/// Puts an address behind the bytes, in 16 bytes as [`read_addr`] takes them. Fails only where memory is refused.
+/// Appends an address to the bytes, as 16 bytes that [`read_addr`] reads. Fails only when out of memory.
 pub fn push_addr(out: &mut Vec<u8>, addr: Addr) -> Result<(), AllocError>
     ensures { OnOk result (out.new.items ≡ onto (address_in (family_byte (family_of addr))) (number_in addr) out.old.items) }
 {
@@ -66,8 +66,8 @@ pub fn push_addr(out: &mut Vec<u8>, addr: Addr) -> Result<(), AllocError>
 }
 
 impl Net {
-    /// The network whose first address is this one and whose front has so many bits. None where an address of the family has fewer
-    /// bits, or one behind the front isn't zero.
+    /// The network with this first address and this prefix length. `None` if an address of the family has fewer bits, or a bit after the
+    /// prefix isn't zero.
     pub fn starting_at(addr: Addr, len: u8) -> Option<Net>
         ensures { MatchOption result (is_network (family_byte (family_of addr)) len (number_in addr) ≡ false)
             (λ n. (is_network (family_byte (family_of addr)) len (number_in addr) ≡ true)

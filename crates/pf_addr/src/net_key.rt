@@ -7,10 +7,10 @@ use crate::net::Net;
 use pf_map::Key;
 use std::cmp::Ordering;
 
-// The hints of V6 networks begin here: behind those of V4 networks, and with room for the first 63 bits of an address.
+// The hints of V6 networks start here: after those of V4 networks, with room for the first 63 bits of an address.
 const V6_HINTS: u64 = 1 << 63;
 
-/// V4 before V6, then by the first address, then the shorter prefix before the longer.
+/// V4 before V6, then by first address, then the shorter prefix before the longer.
 #[tactic(auto, unfolding(crate::specs::NetOrder::net_order))]
 fn order(one: Net, other: Net) -> Ordering
     ensures { result ≡ net_order one other }
@@ -24,7 +24,7 @@ fn order(one: Net, other: Net) -> Ordering
     by_first.then(one.prefix_len().cmp(&other.prefix_len()))
 }
 
-// The family's bit, and then the first 63 bits of the first address, or all of a V4 address.
+// The family's bit followed by the first 63 bits of the first address, or all of a V4 address.
 fn hint(net: Net) -> u64
     ensures { result ≡ net_hint net }
 {

@@ -1,4 +1,4 @@
-//! Addresses as text, and the numbers between the dots of an IPv4 address.
+//! Reading addresses, and the numbers between the dots of an IPv4 address.
 ghost use Rattle.std.specs.{Prelude.{◌≡◌, ◌+◌, ◌^◌, ◌<◌, ◌==◌, ◌-◌, [], ◌∷◌, length, set, IfSome}, Char.digit_value, List.position};
 ghost use Rattle.pf_addr.specs.declared.reading.TheConstants.{NUMBER_DIGITS};
 ghost use Rattle.pf_addr.specs.{Grammar.is_other, Collected.parts_kept, Reading.{small_number, part_at, part_fault, v4_at, address_at, length_at}};
@@ -8,13 +8,13 @@ use crate::addr::Addr;
 use crate::fault::AddrFault;
 use crate::groups::read_v6;
 
-/// How many digits a part or a prefix length may have, leading zeros among them.
+/// How many digits a part or a prefix length may have, including leading zeros.
 pub(crate) const NUMBER_DIGITS: usize = 3;
 
 /// The numbers between the dots of a text.
 #[derive(Clone, Copy)]
 pub(crate) struct Parts {
-    /// The first four, and zeros where there are fewer.
+    /// The first four, padded with zeros if there are fewer.
     pub(crate) bytes: [u8; 4],
     /// How many there are.
     pub(crate) count: usize,
@@ -34,7 +34,7 @@ impl Parts {
     }
 }
 
-/// Reads an address: V6 where the text has a colon, else V4 of so many parts at least, the missing ones being zero.
+/// Reads an address: V6 if the text has a colon, otherwise V4 with at least `fewest` parts; missing ones are zero.
 #[tactic(auto, unfolding(crate::specs::Reading::address_at))]
 pub(crate) fn read_address(fewest: usize, text: &[u8]) -> Result<Addr, AddrFault>
     ensures { result ≡ address_at fewest text.now }
@@ -49,7 +49,7 @@ pub(crate) fn read_address(fewest: usize, text: &[u8]) -> Result<Addr, AddrFault
     }
 }
 
-/// Reads a V4 address of so many parts at least, which begins at this byte.
+/// Reads a V4 address of at least `fewest` parts, which begins at byte `at`.
 pub(crate) fn read_v4(fewest: usize, at: usize, text: &[u8]) -> Result<u32, AddrFault>
     requires { at + length text.now < 2 ^ 64 - 2 }
     ensures { result ≡ v4_at fewest at text.now }
@@ -61,7 +61,7 @@ pub(crate) fn read_v4(fewest: usize, at: usize, text: &[u8]) -> Result<u32, Addr
     Ok(u32::from_be_bytes(parts.bytes))
 }
 
-/// Reads the numbers of a text with a dot between each two; the empty text has no pieces.
+/// Reads the numbers of a text, separated by dots; the empty text has none.
 fn read_parts(at: usize, text: &[u8]) -> Result<Parts, AddrFault>
     requires { at + length text.now < 2 ^ 64 - 2 }
     ensures { result ≡ parts_kept at text.now }
@@ -84,7 +84,7 @@ fn read_parts(at: usize, text: &[u8]) -> Result<Parts, AddrFault>
     Ok(parts)
 }
 
-/// The first place of a byte.
+/// The first place of this byte.
 pub(crate) fn place_of(byte: u8, text: &[u8]) -> Option<usize>
     ensures place { result ≡ position (λ b. b == byte) text.now }
     ensures bound { IfSome result (λ i. i < length text.now) }
@@ -104,7 +104,7 @@ fn read_part(at: usize, text: &[u8]) -> Result<u8, AddrFault>
     }
 }
 
-/// What is wrong with a part that is no number of a byte.
+/// What is wrong with a part that isn't a number of one byte.
 fn part_fault(at: usize, text: &[u8]) -> AddrFault
     requires { at + length text.now < 2 ^ 64 }
     ensures { result ≡ part_fault at text.now }
@@ -116,7 +116,7 @@ fn part_fault(at: usize, text: &[u8]) -> AddrFault
     }
 }
 
-/// The first byte that is no digit in the radix.
+/// The place of the first byte that isn't a digit in the radix.
 pub(crate) fn first_other(radix: u16, text: &[u8]) -> Option<usize>
     ensures place { result ≡ position (is_other radix) text.now }
     ensures bound { IfSome result (λ i. i < length text.now) }
@@ -124,7 +124,7 @@ pub(crate) fn first_other(radix: u16, text: &[u8]) -> Option<usize>
     text.iter().position(|b| digit_value(*b) >= radix)
 }
 
-/// The value of a digit or a letter in either case, 36 of any other byte.
+/// The value of a digit or a letter in either case; 36 for any other byte.
 pub(crate) fn digit_value(b: u8) -> u16
     ensures { result ≡ digit_value b }
 {
@@ -136,7 +136,7 @@ pub(crate) fn digit_value(b: u8) -> u16
     }
 }
 
-/// The number of at most `most` that one to three digits write.
+/// The number, at most `most`, that one to three digits spell.
 fn small_number(most: u8, text: &[u8]) -> Option<u8>
     ensures { result ≡ small_number most text.now }
 {
@@ -152,7 +152,7 @@ fn small_number(most: u8, text: &[u8]) -> Option<u8>
     }
 }
 
-/// The number that three digits write; fewer have zeros before them.
+/// The number that three digits spell; fewer digits are padded with zeros in front.
 fn three_digits(a: u8, b: u8, c: u8) -> Option<u16>
     ensures { result ≡ number_of NUMBER_DIGITS (a ∷ b ∷ c ∷ []) }
 {
@@ -163,7 +163,7 @@ fn three_digits(a: u8, b: u8, c: u8) -> Option<u16>
     }
 }
 
-/// The prefix length of at most `most` behind a network's slash, which begins at this byte.
+/// The prefix length, at most `most`, after a network's slash; it begins at byte `at`.
 pub(crate) fn read_prefix_len(most: u8, at: usize, text: &[u8]) -> Result<u8, AddrFault>
     ensures { result ≡ length_at most at text.now }
 {

@@ -1,6 +1,6 @@
-//! Addresses, networks and numbers as text.
+//! Writing addresses, networks and numbers as text.
 //!
-//! A call that fails has written some front of its text, and no more. None of these calls takes memory.
+//! A call that fails has written some first bytes of its text, and nothing else. None of these calls allocates.
 ghost use Rattle.std.specs.{Prelude.{◌≡◌, ◌≢◌, ◌+◌, ◌<◌, ◌≤◌, ◌^◌, ◌/◌, ◌%◌, ℕ, List, [], ◌∷◌, ◌++◌, length, map, take, decimal, IfErr, IfOk, OnErr}, Char.digit_char, Io.WritesAtMost, Io.KnownBytes.{Appends, Keeps}, IoError.error_kind, List.join_with_byte, Net.Text.{hex, leading_zero_digits}};
 ghost use Rattle.pf_addr.specs.declared.addr.Addr.TheVariants as Addr;
 ghost use Rattle.pf_addr.specs.{Spelling.{addr_text, net_text, length_text, group_text}, Writing.{Writes, Wrote, Continues}};
@@ -12,8 +12,8 @@ use std::io::{self, ErrorKind, Write};
 
 /// Writes the text.
 ///
-/// The error is the writer's first, save that a write that a signal interrupts is tried again, or one of the kind
-/// `WriteZero` where the writer takes no byte.
+/// Returns the writer's first error, except that a write that a signal interrupts is tried again, or an error of the kind `WriteZero` if
+/// the writer takes no byte.
 pub fn write_text<W: Write>(out: &mut W, text: &[u8]) -> io::Result<()>
     ensures text { Writes result (W.contents out.old) (W.contents out.new) text.now }
     ensures retried { IfErr result (λ e. error_kind e ≢ ErrorKind.Interrupted) }
@@ -32,7 +32,7 @@ pub fn write_text<W: Write>(out: &mut W, text: &[u8]) -> io::Result<()>
     Ok(())
 }
 
-/// One write, tried again where a signal interrupts it.
+/// One write, tried again if a signal interrupts it.
 fn write_some<W: Write>(out: &mut W, text: &[u8]) -> io::Result<usize>
     ensures bound { WritesAtMost result text.now }
     ensures ok { IfOk result (λ n. Appends (W.contents out.old) (W.contents out.new) (take n text.now)) }
@@ -53,8 +53,8 @@ fn write_some<W: Write>(out: &mut W, text: &[u8]) -> io::Result<usize>
     Err(io::Error::new(ErrorKind::TimedOut, message))
 }
 
-/// Writes an address: V4 as four decimal numbers between dots, V6 as eight groups between colons, in lower-case
-/// hexadecimal with no leading zeros (RFC 4291 section 2.2, form 1). Errors as [`write_text`]'s.
+/// Writes an address: V4 as four decimal numbers between dots, V6 as eight groups between colons, in lower-case hexadecimal without
+/// leading zeros (RFC 4291 section 2.2, form 1). Errors as in [`write_text`].
 #[tactic(auto, using(crate::specs::Writing::behind_nothing))]
 pub fn write_addr<W: Write>(out: &mut W, addr: Addr) -> io::Result<()>
     ensures { Wrote result (W.contents out.old) (W.contents out.new) (addr_text addr) }
@@ -62,8 +62,8 @@ pub fn write_addr<W: Write>(out: &mut W, addr: Addr) -> io::Result<()>
     write_more_addr(out, Ok(()), addr)
 }
 
-/// Writes a network: its first address, and unless it has no other address a slash and how many bits its addresses
-/// share. Errors as [`write_text`]'s.
+/// Writes a network: its first address and, unless that is its only one, a slash and how many bits its addresses share. Errors as in
+/// [`write_text`].
 #[tactic(auto, using(crate::specs::Writing::behind_nothing))]
 pub fn write_net<W: Write>(out: &mut W, net: Net) -> io::Result<()>
     ensures { Wrote result (W.contents out.old) (W.contents out.new) (net_text net) }
@@ -71,10 +71,10 @@ pub fn write_net<W: Write>(out: &mut W, net: Net) -> io::Result<()>
     write_more_net(out, Ok(()), net)
 }
 
-// Texts in a row. Each call is given what became of the earlier ones, so that only the last one's answer counts.
+// Several texts in a row. Each call takes the result of those before it, so that only the last result needs checking.
 
-/// Writes the text behind what was written so far, unless that failed: then the error stays. Errors of its own as
-/// [`write_text`]'s.
+/// Writes the text after what was written so far. If that failed, returns its error and writes nothing. Its own errors are those of
+/// [`write_text`].
 pub fn write_more<W: Write>(out: &mut W, so_far: io::Result<()>, text: &[u8]) -> io::Result<()>
     ensures { Continues so_far (W.contents out.old) result (W.contents out.new) text.now }
 {
@@ -84,7 +84,7 @@ pub fn write_more<W: Write>(out: &mut W, so_far: io::Result<()>, text: &[u8]) ->
     }
 }
 
-/// The same of a number in decimal digits, errors among it.
+/// The same for a number in decimal digits.
 pub fn write_more_number<W: Write>(
     out: &mut W,
     so_far: io::Result<()>,
@@ -96,7 +96,7 @@ pub fn write_more_number<W: Write>(
     write_more(out, so_far, buffer.format(number).as_bytes())
 }
 
-/// The same of a network, written as by [`write_net`], errors among it.
+/// The same for a network, written as by [`write_net`].
 pub fn write_more_net<W: Write>(out: &mut W, so_far: io::Result<()>, net: Net) -> io::Result<()>
     ensures { Continues so_far (W.contents out.old) result (W.contents out.new) (net_text net) }
 {
@@ -188,7 +188,7 @@ fn hex_digit(digit: u16) -> u8
     }
 }
 
-/// The 16 bits that end so many bits before the number's end.
+/// The 16 bits that end `end` bits before the number's end.
 fn group(number: u128, end: u8) -> u16
     requires { end < 128 }
     ensures { result ≡ number / 2 ^ end % 2 ^ 16 }

@@ -57,7 +57,7 @@ passes_over f c tests p n (r ∷ rs) h =
 
 -- ---- a whole ruleset
 
--- what ends at a rule ends the ruleset, where no rule before it did
+-- what ends at a rule ends the ruleset, if no rule before it did
 ended_at : (c : List PlainPlaced) (tests : Tests) (p : List ℕ) (front back : List PlainRule) (r : PlainRule) (last : Option PlainMatch) (m : PlainMatch) →
     rules_at_path (evaluation c tests) c tests p 0 front ≡ Open last → rules_at_path (evaluation c tests) c tests p (length front) (r ∷ back) ≡ Ended m → evaluation c tests (ruled p (front ++ r ∷ back)) ≡ Ended m
 ended_at c tests p front back r last m goes_on ends =

@@ -1,4 +1,4 @@
--- Rules eight at a time: what a block gives, and what is left behind it.
+-- Rules eight at a time: what a block gives, and what is left after it.
 use Rattle.std.proofs.Common.{◌≡◌, ◌<◌, ◌≤◌, ℕ, zero, suc, ◌+◌, ◌-◌, ◌*◌, Bool, true, false, cond, ◌&&◌, ◌||◌, List, [], ◌∷◌, length, take, drop, get_or, Option, Some, None, refl, sym, ap, ◌∙◌, arith, ⊎_elim}
 use Rattle.std.specs.{Prelude.{slice_get, bit_and}, Option.option_or}
 use Rattle.std.proofs.lemmas.{Bool.cases_lt, List.drop-drop, Option.slice_get-get_or}
@@ -9,7 +9,7 @@ use Rattle.pf_lanes.proofs.{Bits.{none_set, is_set-and}, Counted.taken_above, Pl
 use Rattle.pf_anchor.specs.{Blocks.AreStops, declared.{evaluated.Evaluated.Evaluated, evaluated.Evaluated.TheVariants.Open, evaluated.Evaluated.TheVariants.Ended}, Matches.{PlainMatch, found}, Rulesets.PlainPlaced, Evaluation.{and_then, settled, effected, rules_give}}
 use Rattle.pf_anchor.proofs.{Evaluations.{none_and_then, and_then_assoc}, Turns.then_open}
 
--- ---- a block, and the rules behind it
+-- ---- a block, and the rules after it
 
 split : {M : Type 0} (effect : ℕ → PlainRule → Evaluated M) (test : PlainRule → Bool) (k n : ℕ) (rs : List PlainRule) →
     rules_give effect test n rs ≡ and_then (rules_give effect test n (take k rs)) (rules_give effect test (n + k) (drop k rs))
@@ -72,7 +72,7 @@ neither true b e = e
 some_is : {A : Type 0} (x y : A) → Some x ≡ Some y → x ≡ y
 some_is x y e = cc e
 
--- a rule before the last one that matches leaves the evaluation free
+-- a rule before the last one that matches doesn't end the evaluation
 left_open : (f : PlainPlaced → Evaluated PlainMatch) (c : List PlainPlaced) (p : List ℕ) (n : ℕ) (b q : Bool) (e : Effect) → (b ≡ true → (q || is_anchor e) ≡ false) →
     (o : Option PlainMatch) × (cond b (settled q (effected f c p n e)) (Open None) ≡ Open o)
 left_open f c p n false q e free = (None, refl)
@@ -80,7 +80,7 @@ left_open f c p n true false (Decide a) free = (Some (found p n a), refl)
 left_open f c p n true false (Evaluate s) free = absurd (cc (free refl))
 left_open f c p n true true e free = absurd (cc (free refl))
 
--- the rule at this lane matches, none behind it does, and none that matches is a quick or an anchor rule
+-- the rule at this lane matches, none after it does, and none that matches is a quick or an anchor rule
 record IsLast (test : PlainRule → Bool) (rs : List PlainRule) (lane : ℕ) (r : PlainRule) : Type 0 where
   pub there : slice_get rs lane ≡ Some r
   pub matches : test r ≡ true
@@ -106,7 +106,7 @@ last_stands f c p test n (x ∷ xs) (suc lane) r a is decides =
 
 -- ---- by the bits of a mask
 
--- a bit tells of its rule
+-- a bit says whether its rule passes the test
 pub record HasBits (test : PlainRule → Bool) (rules : List PlainRule) (block mask : ℕ) : Type 0 where
   pub each : (i : ℕ) → i < 8 → is_set mask i ≡ block_mark test rules block i
 
@@ -196,7 +196,7 @@ pub lane_says : (test : PlainRule → Bool) (rules eight : List PlainRule) (bloc
 lane_says test rules eight block lane r same lt small is =
     ap (bit_by test) (sym (eight_get rules (8 * block) lane small) ∙ there_at eight (eight_from (8 * block) rules) lane r same lt is)
 
--- ---- blocks that are passed over
+-- ---- blocks that are skipped
 
 so_many_passed : {M : Type 0} (effect : ℕ → PlainRule → Evaluated M) (test : PlainRule → Bool) (rules : List PlainRule) (block n : ℕ) →
     ((k i : ℕ) → block ≤ k → k < block + n → i < 8 → block_mark test rules k i ≡ false) →

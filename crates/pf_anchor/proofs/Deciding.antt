@@ -1,4 +1,4 @@
--- What is found is a rule that decides, and a verdict tells which.
+-- What is found is a rule that decides, and a verdict says which.
 use Rattle.std.proofs.Common.{◌≡◌, ℕ, T, zero, suc, ◌+◌, inl, inr, Bool, true, false, cond, List, [], ◌∷◌, Option, Some, None, refl, sym, ap, ◌∙◌, subst, arith}
 use Rattle.std.specs.FinMap.{find, is_sorted}
 use Rattle.pf_addr.specs.{Path.Paths.{main, path_order}, Path.References.PlainReference}
@@ -64,7 +64,7 @@ pub anchors_never_decide : AnchorsNeverDecide
 unfolding evaluation
 anchors_never_decide c tests e i = levels_hold _ c tests e i
 
--- ---- the rule that a verdict tells
+-- ---- the rule of a verdict
 
 told_is : (m : PlainMatch) (p : List ℕ) (n : ℕ) (a : Action) → verdict_by (Some m) ≡ by.Rule p n a → m ≡ found p n a
 told_is m p n a told =

@@ -6,7 +6,7 @@ use Rattle.pf_rule.specs.Rules.{PlainRule}
 use Rattle.pf_anchor.specs.{Rulesets.{PlainPlaced, ruled, rules_in, rules_at, children, targets, IsMap}, Laws.Evaluation.{IsIn, InTurn, rulesets_at, LeadsToTheseAlone}}
 use Rattle.pf_anchor.proofs.{Evaluations.and_then_none, Entries.entry_is, RulesetMaps.paths_kept, Turns.{alone, one_there, no_targets, targets_from, turns_append}}
 
--- entries that are kept of a map, each as it is found there
+-- some entries of a map, each as it is found there
 found_again : (c : List PlainPlaced) (test : List ℕ → Bool) (es : List PlainPlaced) → ((e : PlainPlaced) → IsIn e es → e ≡ ruled e.0 (rules_at e.0 c)) →
     filter (λ e. test e.0) es ≡ rulesets_at c (map (λ e. e.0) (filter (λ e. test e.0) es))
 found_again c test [] h = refl

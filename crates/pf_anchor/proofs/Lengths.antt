@@ -1,4 +1,4 @@
--- How many bytes rulesets and tables take at their places: a rule 204, an entry 20, and paths, names and lists stand behind numbers.
+-- How many bytes rulesets and tables take at their places: a rule 204, an entry 20, and paths, names and lists come after numbers.
 use Rattle.std.proofs.{Common.{◌≡◌, ◌+◌, ◌*◌, ◌<◌, ◌≤◌, ℕ, true, List, [], ◌∷◌, ◌++◌, length, map, take, get_or, refl, sym, ap, subst, ◌∙◌, arith}, lemmas.List.{length-append, take_more, take_all, Sums.sum_by-cons, Elements.{All-head, All-tail, All-push}}}
 use Rattle.std.specs.{Prelude.{All}, List.sum_by}
 use Rattle.pf_addr.specs.Path.{Paths.is_path, PathForms.{path_form, table_name_form}}
@@ -13,7 +13,7 @@ sum_of-map : {A B : Type 0} (f : B → ℕ) (g : A → B) (xs : List A) → sum_
 sum_of-map f g [] = refl
 sum_of-map f g (x ∷ xs) = omega (arith, sum_by-cons f (g x) (map g xs), sum_by-cons (λ y. f (g y)) x xs, sum_of-map f g xs)
 
--- each has so many
+-- the sum of a one for each byte is the length
 ones : (bytes : List ℕ) → sum_by (λ b. 1) bytes ≡ length bytes
 ones [] = refl
 ones (b ∷ bytes) = omega (arith, sum_by-cons (λ b. 1) b bytes, ones bytes)

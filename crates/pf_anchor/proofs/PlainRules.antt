@@ -6,7 +6,7 @@ use Rattle.pf_rule.specs.{Rules.PlainRule, declared.{rule.Action.Action, rule.Ef
 use Rattle.pf_anchor.specs.{declared.{evaluated.Evaluated.Evaluated, evaluated.Evaluated.TheVariants.Open, evaluated.Evaluated.TheVariants.Ended}, Matches.{PlainMatch, found}, Rulesets.{PlainPlaced, ruled, rules_at}, Evaluation.{and_then, settled, effected, rules_give, evaluation, matching, last_of, verdict_by}, Laws.Evaluation.{IsDeciding, TellsWhatDecides, decides}}
 use Rattle.pf_anchor.proofs.Evaluations.{none_and_then, unrolled}
 
--- what rules give from a number on: nothing, or the rule that decides
+-- what rules from a number on give: nothing, or the rule that decides
 abbrev GivesDeciding : (PlainRule → Bool) → List ℕ → ℕ → List PlainRule → Evaluated PlainMatch → Type 0
 GivesDeciding test p k rules x =
     ((list_any test rules ≡ false) × (x ≡ Open None))
@@ -18,13 +18,13 @@ here test p k r rs x a m decide stands last =
     let at : k ≡ k + 0 = omega arith in
     inr (0, (r, (a, (record { before = []; behind = rs; all = refl; numbered = refl; matches = m; not_ended = refl; stands = stands }, decide, last ∙ ap (λ (n : ℕ). Some (found p n a)) at))))
 
--- a rule that decides behind one that doesn't end the evaluation
+-- a rule that decides after one that doesn't end the evaluation
 further : (test : PlainRule → Bool) (p : List ℕ) (k : ℕ) (x : PlainRule) (xs : List PlainRule) (n : ℕ) (r : PlainRule) (a : Action) (y : Evaluated PlainMatch) → not (test x && x.quick) ≡ true → IsDeciding test xs n r → r.effect ≡ Decide a → last_of y ≡ Some (found p (k + 1 + n) a) → GivesDeciding test p k (x ∷ xs) y
 further test p k x xs n r a y passed is decide last =
     let at : k + 1 + n ≡ k + suc n = omega arith in
     inr (suc n, (r, (a, (record { before = x ∷ is.before; behind = is.behind; all = ap (λ rs. x ∷ rs) is.all; numbered = ap suc is.numbered; matches = is.matches; not_ended = rw passed is.not_ended; stands = is.stands }, decide, last ∙ ap (λ (m : ℕ). Some (found p m a)) at))))
 
--- what has a match stands behind another match
+-- a later match stands in place of an earlier one
 then_stands : (m d : PlainMatch) (y : Evaluated PlainMatch) → last_of y ≡ Some d → last_of (and_then (Open (Some m)) y) ≡ Some d
 then_stands m d (Ended e) h = h
 then_stands m d (Open None) h = absurd (cc (h))

@@ -49,7 +49,7 @@ pub second_holds : (a b : Bool) → T (a && b) → T b
 second_holds true b p = p
 second_holds false b p = absurd p
 
--- the paths of a map stand in its order
+-- the paths of a map are in its order
 below_keys : (k : List ℕ) (es : List PlainPlaced) → T (below_all path_order k es) → T (below_all path_order k (map (λ q. ruled q []) (map (λ (e : PlainPlaced). e.0) es)))
 below_keys k [] h = h
 below_keys k (e ∷ es) h = both_hold _ _ (first_holds _ _ h) (below_keys k es (second_holds _ _ h))

@@ -21,7 +21,7 @@ bytes_alike = slice_cmp-IsAntisymmetric nat_cmp-IsAntisymmetric
 pub table_order_alike : IsAntisymmetric table_order
 table_order_alike = pairs_alike {R = path_order} {S = name_order} bytes_alike bytes_alike
 
--- keys that aren't one don't tie
+-- keys that aren't equal don't tie
 differs : (a b : TableKey) → a ≢ b → eq_by_cmp table_order a b ≡ false
 differs a b other = by (table_order a b) refl where
   by : (r : Ordering) → table_order a b ≡ r → eq_by_cmp table_order a b ≡ false
@@ -75,13 +75,13 @@ other_paths_stay ts p name es q other differ =
 pub leaves_the_other : LeavesTheOther
 leaves_the_other c rulesets tables = (refl, refl)
 
--- each replaced table is one entry more at most
+-- each replaced table adds at most one entry
 pub tables_grow : (items ts : List PlainPlacedTable) → length (fold with_table ts items) ≤ length ts + length items
 tables_grow items ts = lists_grow table_order items ts
 
 -- ---- which table answers
 
--- what two tables say, the own one first
+-- what two tables say, a path's own one first
 abbrev said : Addr → Option (List PlainEntry) → Option (List PlainEntry) → Bool
 said a own mains = option_map_or (λ es. table_holds es a) (option_or own mains) false
 

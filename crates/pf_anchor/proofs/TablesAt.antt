@@ -1,4 +1,4 @@
--- The tables at a path stand in the order of their names.
+-- The tables at a path are in the order of their names.
 use Rattle.std.proofs.Common.{◌≡◌, ℕ, T, ◌&&◌, Bool, true, false, cond, List, [], ◌∷◌, Option, Some, refl, sym, ap, subst, ◌∙◌}
 use Rattle.std.specs.{declared.{cmp.Ordering.Ordering, cmp.Ordering.TheVariants.Less, cmp.Ordering.TheVariants.Equal, cmp.Ordering.TheVariants.Greater}, FinMap.{find, is_sorted}, FinMap.Entries.below_all, Ordering.{ordering_then, eq_by_cmp, is_eq, is_lt}}
 use Rattle.pf_addr.specs.{Path.Names.name_order, Path.Paths.{path_order, same_path}}

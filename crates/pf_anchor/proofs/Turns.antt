@@ -39,7 +39,7 @@ rule_passed effect test last n rules r rest left is =
     ∙ ap (λ (b : Bool). and_then (Open last) (and_then (cond b (settled r.quick (effect n r)) (Open None)) (rules_give effect test (n + 1) rest))) is
     ∙ ap (and_then (Open last)) (none_and_then (rules_give effect test (n + 1) rest))
 
--- a ruleset before others: it is a child and the evaluation goes on or ends with it, or it is none
+-- a ruleset before others: it is a child and the evaluation goes on or ends with it, or it is no child
 pub child_step : {M : Type 0} (f : PlainPlaced → Evaluated M) (test : PlainPlaced → Bool) (last : Option M) (e : PlainPlaced) (rest : List PlainPlaced) (x : Evaluated M) →
     test e ≡ true → x ≡ f e → and_then (Open last) (in_turn f (filter test (e ∷ rest))) ≡ and_then (Open last) (and_then x (in_turn f (filter test rest)))
 child_step {M} f test last e rest x is gives =

@@ -18,7 +18,7 @@ with_rulesets c items = record { rulesets = fold with_rules c.rulesets items; ta
 abbrev pub with_tables : PlainConfig → List PlainPlacedTable → PlainConfig
 with_tables c items = record { rulesets = c.rulesets; tables = fold with_table c.tables items }
 
--- both are maps
+-- rulesets and tables are maps
 pub record IsConfiguration (c : PlainConfig) : Type 0 where
   pub rulesets : IsMap c.rulesets
   pub tables : IsTableMap c.tables

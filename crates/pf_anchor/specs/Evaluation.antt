@@ -1,5 +1,5 @@
 -- Evaluation of rulesets (pf.conf(5), PACKET FILTERING and ANCHORS): the last rule that matches decides, or the first quick one. Quick
--- anchor rules, the order of children by bytes and the limits of paths are own.
+-- anchor rules, the order of children by bytes and the limits of paths are this project's own.
 use Rattle.std.specs.Prelude.{ℕ, zero, suc, ◌+◌, ◌-◌, Bool, cond, List, [], ◌∷◌, Option, Some, None}
 use Rattle.pf_addr.specs.declared.path.limits.TheConstants.{DEPTH_LIMIT}
 use Rattle.pf_addr.specs.{Path.Paths.main, Path.Nested.depth}
@@ -9,14 +9,14 @@ use Rattle.pf_anchor.specs.declared.verdict.RuleVerdict.TheVariants as by
 
 -- ---- one after the other
 
--- two evaluations one after the other: the later match stands, and what has ended ends all
+-- two evaluations one after the other: the later match stands, and the first that has ended is the end of all
 abbrev pub and_then : {M : Type 0} → Evaluated M → Evaluated M → Evaluated M
 and_then (Ended m) rest = Ended m
 and_then (Open last) (Ended m) = Ended m
 and_then (Open last) (Open None) = Open last
 and_then (Open last) (Open (Some m)) = Open (Some m)
 
--- quick ends the evaluation where there was a match
+-- quick ends the evaluation if there was a match
 abbrev pub settled : {M : Type 0} → Bool → Evaluated M → Evaluated M
 settled quick (Ended m) = Ended m
 settled quick (Open None) = Open None
@@ -46,12 +46,12 @@ last_of (Ended m) = Some m
 abbrev pub Tests : Type 0
 Tests = List ℕ → PlainRule → Bool
 
--- what rule n of the ruleset at p does where it matches: it decides, or the rulesets that it leads to are evaluated
+-- what rule n of the ruleset at p does if it matches: it decides, or the rulesets that it leads to are evaluated
 abbrev pub effected : (PlainPlaced → Evaluated PlainMatch) → List PlainPlaced → List ℕ → ℕ → Effect → Evaluated PlainMatch
 effected f c p n (Decide a) = Open (Some (found p n a))
 effected f c p n (Evaluate r) = in_turn f (targets c p r)
 
--- the rules of the ruleset at p from this number on, by what each ruleset gives that they lead to
+-- the rules of the ruleset at p from this number on, by what each ruleset that they lead to gives
 abbrev pub rules_at_path : (PlainPlaced → Evaluated PlainMatch) → List PlainPlaced → Tests → List ℕ → ℕ → List PlainRule → Evaluated PlainMatch
 rules_at_path f c tests p n rs = rules_give (λ k r. effected f c p k r.effect) (tests p) n rs
 
@@ -59,12 +59,12 @@ rules_at_path f c tests p n rs = rules_give (λ k r. effected f c p k r.effect) 
 abbrev pub evaluate_with : (PlainPlaced → Evaluated PlainMatch) → List PlainPlaced → Tests → PlainPlaced → Evaluated PlainMatch
 evaluate_with f c tests e = rules_at_path f c tests e.0 0 e.1
 
--- a ruleset with so many levels of rulesets within one another below it
+-- a ruleset, with this many levels of rulesets below it
 unfoldable pub levels : ℕ → List PlainPlaced → Tests → PlainPlaced → Evaluated PlainMatch
 levels zero c tests e = evaluate_with (λ t. Open None) c tests e
 levels (suc d) c tests e = evaluate_with (levels d c tests) c tests e
 
--- a ruleset: below a path there are as many levels as it may have further components
+-- a ruleset: below a path there are as many levels as the path may have further components
 unfoldable pub evaluation : List PlainPlaced → Tests → PlainPlaced → Evaluated PlainMatch
 evaluation c tests e = levels (DEPTH_LIMIT - depth e.0) c tests e
 
@@ -79,6 +79,6 @@ abbrev pub verdict_by : Option PlainMatch → RuleVerdict
 verdict_by None = by.Default
 verdict_by (Some m) = by.Rule m.path m.number m.action
 
--- a packet is judged by the main ruleset, and where its anchor rules match by what they lead to
+-- a packet is judged by the main ruleset, and where its anchor rules match by the rulesets that they lead to
 abbrev pub judged : PlainConfig → PlainPacket → RuleVerdict
 judged c packet = verdict_by (last_of (evaluation c.rulesets (matching c.tables packet) (ruled main (rules_at main c.rulesets))))

@@ -1,11 +1,11 @@
--- Rulesets and tables in bytes, at their places: the forms of what a configuration keeps. Rules have one in each version, tables have the
+-- Rulesets and tables in bytes, at their places: the forms of what a configuration keeps. Rules have a form for each version, tables the
 -- same in all.
 --
 --   a ruleset: its path, the number of its rules in four bytes, and each rule
 --   a table: its path, its name, the number of its entries in four bytes, and each entry
 --
--- Rulesets stand in the order of their paths, tables in that of their paths and at one path of their names, entries in that of their table,
--- each behind their number in four bytes; so nothing stands twice. Among all rulesets and all tables none is empty.
+-- Rulesets are in the order of their paths, tables in that of their paths and at one path of their names, entries in that of their table,
+-- each list after its number in four bytes; so nothing is there twice. No ruleset and no table is empty.
 use Rattle.std.specs.{Prelude.{ℕ, ◌+◌, ◌==◌, ◌&&◌, not, nat_le, Bool, List, length, map}, List.list_all, Ordering.is_lt}
 use Rattle.pf_addr.specs.Path.{Paths.path_order, PathForms.{TextShape, path_form, table_name_form}}
 use Rattle.pf_form.specs.Bytes.{Forms.{Shape, both, list, Value, Form, pair, counted, that, length_of}, Lists.ordered}
@@ -107,6 +107,6 @@ ruled_length version r = length_of (rules_form version) (plain_ruled r)
 abbrev pub tabled_length : PlainPlacedTable → ℕ
 tabled_length t = length_of placed_form (plain_tabled t)
 
--- all of them, behind their numbers
+-- all of them, with the numbers before them
 abbrev pub config_length : ℕ → PlainConfig → ℕ
 config_length version c = length_of (rulesets_form version) (map plain_ruled c.rulesets) + length_of kept_tables_form (map plain_tabled c.tables)

@@ -1,4 +1,4 @@
--- Rules that decide, as evaluation finds them (pf.conf(5), PACKET FILTERING). That they are numbered from 0 is own.
+-- Rules that decide, as evaluation finds them (pf.conf(5), PACKET FILTERING). That they are numbered from 0 is this project's own.
 use Rattle.std.specs.Prelude.{ℕ, List}
 use Rattle.pf_rule.specs.declared.rule.Action.{Action}
 

@@ -1,4 +1,4 @@
--- Rulesets at paths (pf.conf(5), ANCHORS): a finite map. That an empty ruleset doesn't exist is own.
+-- Rulesets at paths (pf.conf(5), ANCHORS): a finite map. That an empty ruleset doesn't exist is this project's own.
 use Rattle.std.specs.{Prelude.{ℕ, Bool, false, cond, List, Option, map, filter}, Option.option_map_or}
 use Rattle.pf_addr.specs.{Path.Paths.{path_order, same_path}, Path.Nested.{path_within, is_child}, Path.References.PlainReference}
 use Rattle.pf_rule.specs.Rules.{PlainRule}
@@ -18,7 +18,7 @@ with_rules es e = with_list path_order es e
 abbrev pub rules_in : Option (List PlainRule) → List PlainRule
 rules_in v = list_in v
 
--- the rules at a path: none where it has no entry
+-- the rules at a path, none if it has no entry
 abbrev pub rules_at : List ℕ → List PlainPlaced → List PlainRule
 rules_at p es = list_at path_order p es
 

@@ -1,5 +1,5 @@
 -- Tables at paths (pf.conf(5), TABLES and ANCHORS): a finite map, and which table the rules of a ruleset name. That an empty table doesn't
--- exist is own.
+-- exist is this project's own.
 use Rattle.std.specs.{Prelude.{ℕ, Bool, false, List, Option, filter}, FinMap.find, Option.{option_map_or, option_or}}
 use Rattle.std.specs.declared.cmp.Ordering.{Ordering}
 use Rattle.pf_addr.specs.declared.addr.Addr.{Addr}
@@ -26,15 +26,15 @@ placed_table p name es = ((p, name), es)
 abbrev pub IsTableMap : List PlainPlacedTable → Type 0
 IsTableMap = IsListMap table_order
 
--- the map with the table at one path and name replaced, or taken out where the new one is empty
+-- the map with the table at one path and name replaced, or taken out if the new one is empty
 abbrev pub with_table : List PlainPlacedTable → PlainPlacedTable → List PlainPlacedTable
 with_table = with_list table_order
 
--- the table at this path and name, where there is one
+-- the table at this path and name, if there is one
 abbrev pub table_found : List ℕ → List ℕ → List PlainPlacedTable → Option (List PlainEntry)
 table_found p name ts = find table_order (p, name) ts
 
--- its entries: none where there is no table
+-- its entries, none if there is no table
 abbrev pub table_at : List ℕ → List ℕ → List PlainPlacedTable → List PlainEntry
 table_at p name ts = list_at table_order (p, name) ts
 
@@ -44,11 +44,11 @@ tables_at p ts = filter (λ t. same_path p t.0.0) ts
 
 -- ---- the table that a rule names
 
--- the table of a name, as the rules of the ruleset at p name it: the one at p where it exists, else the main ruleset's; no path in between
--- is asked
+-- the table that the rules of the ruleset at p mean by a name: the one at p if it exists, else the main ruleset's; no path in between is
+-- asked
 abbrev pub named_table : List PlainPlacedTable → List ℕ → List ℕ → Option (List PlainEntry)
 named_table ts p name = option_or (table_found p name ts) (table_found main name ts)
 
--- what tables say to these rules: whether the table of a name matches an address; none where there is no table
+-- what tables say to these rules: whether the table of a name matches an address, which it doesn't if there is no table
 abbrev pub tables_say : List PlainPlacedTable → List ℕ → List ℕ → Addr → Bool
 tables_say ts p name a = option_map_or (λ es. table_holds es a) (named_table ts p name) false

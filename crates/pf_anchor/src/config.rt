@@ -52,8 +52,8 @@ impl Config {
         }
     }
 
-    /// These rulesets and tables, each list in the order of their places, no place twice, and none of them empty. The rules are put in
-    /// columns, by which packets are judged. No rule and no entry is copied. `AllocError`: nothing is made.
+    /// These rulesets and tables, each list in order, no place twice, and none of them empty. The rules are put in columns, by which
+    /// packets are judged. No rule and no entry is copied. `AllocError`: nothing is made.
     pub fn of(
         alloc: Global,
         rulesets: &[Placed],
@@ -70,8 +70,8 @@ impl Config {
         })
     }
 
-    /// After a commit of these rulesets, in order. Their rules are put in columns, by which packets are judged. All else is shared, and
-    /// no rule is copied. `AllocError`: nothing is made.
+    /// The configuration after a commit of these rulesets, in order. Their rules are put in columns, by which packets are judged. All else
+    /// is shared, and no rule is copied. `AllocError`: nothing is made.
     pub fn with_rulesets(&self, alloc: Global, items: &[Placed]) -> Result<Config, AllocError>
         ensures { IfOk result (λ c. c ≡ with_rulesets self.now items.now) }
     {
@@ -82,8 +82,8 @@ impl Config {
         })
     }
 
-    /// Whether a commit of these would leave more rulesets than there may be. Only near the limit they are made, to be
-    /// counted; else it takes no memory. `AllocError`: nothing is made.
+    /// Whether a commit of these would leave more rulesets than there may be. Only near the limit is the result made, to be counted; else
+    /// it takes no memory. `AllocError`: nothing is made.
     pub fn would_be_too_many(&self, alloc: Global, items: &[Placed]) -> Result<bool, AllocError>
         ensures { IfOk result (λ b. b ≡ nat_lt RULESET_LIMIT (length (with_rulesets self.now items.now).rulesets)) }
     {
@@ -91,9 +91,8 @@ impl Config {
             .would_be_more_than(alloc, items, RULESET_LIMIT)
     }
 
-    /// With the rules at one path replaced, or taken out where there are none. All else is shared.
-    /// `TooManyRulesets`: there would be more than 1,024 after it, which is counted once the old rules are out. On an error
-    /// nothing is made.
+    /// The configuration with the rules at one path replaced, or taken out if the new list is empty. All else is shared. `TooManyRulesets`:
+    /// there would be more than 1,024 after it, the old rules not counted. On an error nothing is made.
     pub fn with_ruleset(
         &self,
         alloc: Global,
@@ -111,8 +110,8 @@ impl Config {
         Ok(after)
     }
 
-    /// After a commit of these tables, in order: one without entries is taken out. All else is shared, and no entry is copied.
-    /// `AllocError`: nothing is made.
+    /// The configuration after a commit of these tables, in order: one without entries is taken out. All else is shared, and no entry is
+    /// copied. `AllocError`: nothing is made.
     pub fn with_tables(&self, alloc: Global, items: &[PlacedTable]) -> Result<Config, AllocError>
         ensures { IfOk result (λ c. c ≡ with_tables self.now items.now) }
     {
@@ -122,8 +121,8 @@ impl Config {
         })
     }
 
-    /// Whether a commit of these would leave more tables than there may be. Only near the limit they are made, to be counted;
-    /// else it takes no memory. `AllocError`: nothing is made.
+    /// Whether a commit of these would leave more tables than there may be. Only near the limit is the result made, to be counted; else it
+    /// takes no memory. `AllocError`: nothing is made.
     pub fn would_be_too_many_tables(
         &self,
         alloc: Global,
@@ -135,9 +134,8 @@ impl Config {
             .would_be_more_than(alloc, items, TABLE_COUNT_LIMIT)
     }
 
-    /// With the table at one path and name replaced, or taken out where the new one has no entries. All else is shared.
-    /// `TooManyTables`: there would be more than 1,024 after it, which is counted once the old one is out. On an error nothing
-    /// is made.
+    /// The configuration with the table at one path and name replaced, or taken out if the new one has no entries. All else is shared.
+    /// `TooManyTables`: there would be more than 1,024 after it, the old one not counted. On an error nothing is made.
     pub fn with_table(
         &self,
         alloc: Global,
@@ -156,10 +154,10 @@ impl Config {
         Ok(after)
     }
 
-    /// The table at this path and name, where there is one. It takes no memory.
+    /// The table at this path and name, if there is one. It takes no memory.
     pub fn table_at(&self, path: &Path, name: &TableName) -> Option<&Table>
         ensures found { option_map (λ t. t.now) result ≡ table_found path.now name.now self.now.tables }
-        // what each map keeps
+        // the invariant of maps
         ensures map { IsTableMap self.now.tables }
     {
         match self.tables.get(&Place { path, name }) {
@@ -181,8 +179,8 @@ impl Config {
         Ok(found)
     }
 
-    /// The table of this name, as the rules of the ruleset at a path name it: the one at this path, else the main ruleset's
-    /// (pf.conf(5), Anchors). It takes no memory.
+    /// The table that the rules of the ruleset at a path mean by this name: the one at this path, else the main ruleset's (pf.conf(5),
+    /// ANCHORS). It takes no memory.
     pub(crate) fn named_table(&self, path: &Path, name: &TableName) -> Option<&Table>
         ensures { option_map (λ t. t.now) result ≡ named_table self.now.tables path.now name.now }
     {
@@ -192,8 +190,8 @@ impl Config {
         }
     }
 
-    /// The children of a path: the paths of one component more that have rules, in the order of their bytes (pf.conf(5),
-    /// Anchors). `AllocError`: nothing is made.
+    /// The children of a path: the paths of one component more that have rules, in the order of their bytes (pf.conf(5), ANCHORS).
+    /// `AllocError`: nothing is made.
     pub fn children(&self, alloc: Global, path: &Path) -> Result<Vec<Path>, AllocError>
         ensures { IfOk result (λ v. v.items ≡ children self.now.rulesets path.now) }
     {
@@ -206,10 +204,10 @@ impl Config {
         Ok(found)
     }
 
-    /// The rules at a path: none where it has no ruleset. No rule is copied. `AllocError`: nothing is made.
+    /// The rules at a path, none if it has no ruleset. No rule is copied. `AllocError`: they can't have another owner.
     pub fn rules_at(&self, path: &Path) -> Result<RuleList, AllocError>
         ensures value { IfOk result (λ l. l ≡ rules_at path.now self.now.rulesets) }
-        // what each map keeps
+        // the invariant of maps
         ensures map { IsMap self.now.rulesets }
     {
         match self.placed_at(path) {
@@ -218,7 +216,7 @@ impl Config {
         }
     }
 
-    /// The ruleset at a path.
+    /// The ruleset at a path, if it has rules.
     pub(crate) fn placed_at(&self, path: &Path) -> Option<&Placed>
         ensures rules { MatchOption result (rules_at path.now self.now.rulesets ≡ []) (λ p. p.now
             ≡ ruled path.now (rules_at path.now self.now.rulesets)) }
@@ -227,7 +225,8 @@ impl Config {
         self.rulesets.get(path)
     }
 
-    /// How many bytes the rulesets and the tables take where they are kept, behind their numbers, in each version. It looks at none of them.
+    /// How many bytes the rulesets and the tables take where they are kept, with the numbers before them, in each version. It looks at none
+    /// of them.
     #[tactic(auto, using(crate::proofs::Lengths::rulesets_long, crate::proofs::Lengths::tables_long))]
     pub fn byte_length(&self) -> u128
         ensures exact { (version : ℕ) → result ≡ config_length version self.now }
@@ -243,15 +242,15 @@ impl Config {
         self.rulesets.entries()
     }
 
-    /// The tables, in the order of their paths, at one path in that of their names. It takes no memory.
+    /// The tables, in the order of their paths, and at one path in that of their names. It takes no memory.
     pub fn each_table(&self) -> EachTable<'_>
         ensures { result ≡ self.now.tables }
     {
         self.tables.entries()
     }
 
-    /// What the rules say of a packet: the rule that decides by the main ruleset's evaluation (pf.conf(5), Packet Filtering
-    /// and Anchors), with its ruleset's path and its number there, or the default pass. It takes no memory.
+    /// The verdict of the rules on a packet: the rule that decides by the main ruleset's evaluation (pf.conf(5), PACKET FILTERING and
+    /// ANCHORS), with its ruleset's path and its number there, or the default pass. It takes no memory.
     #[tactic(auto, using(crate::proofs::Evaluations::default_judged))]
     pub fn judge(&self, packet: &Packet) -> RuleVerdict
         ensures { result ≡ judged self.now packet.now }

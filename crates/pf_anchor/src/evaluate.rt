@@ -12,7 +12,7 @@ use pf_addr::path::{Path, Reference};
 use pf_lanes::{LANES, Probe, eight_of, first_and_last, is_set, match_one_by_one};
 use pf_rule::{Effect, Packet, Rule};
 
-// Which rules of a block match, with tables as they are named at their ruleset's path.
+// Which rules of a block match, with tables as the rules of their ruleset name them.
 #[inline(always)]
 fn matching_in(
     config: &Config,
@@ -34,7 +34,7 @@ fn matching_in(
     }
 }
 
-// A packet among the rules of a ruleset, where these have columns.
+// A packet, prepared for the rules of a ruleset if these have columns.
 #[inline(always)]
 fn prepared<'a>(placed: &'a Placed, packet: &'a Packet) -> Option<Probe<'a>>
     ensures { IfSome result (λ p. p ≡ asked placed.now.1 packet.now) }
@@ -45,7 +45,7 @@ fn prepared<'a>(placed: &'a Placed, packet: &'a Packet) -> Option<Probe<'a>>
     }
 }
 
-// The first block from this one on in which a rule may match.
+// The first block, from this one on, in which a rule may match.
 #[inline(always)]
 fn next_near(probe: &Option<Probe<'_>>, from: usize) -> usize
     ensures later { from ≤ result }
@@ -57,7 +57,7 @@ fn next_near(probe: &Option<Probe<'_>>, from: usize) -> usize
     }
 }
 
-// Which rules of a block that match are quick or anchor rules.
+// Which of the rules of a block that match are quick or anchor rules. Without columns it is all that match.
 #[inline(always)]
 fn stopping(placed: &Placed, block: usize, mask: u8) -> u8
     ensures { AreStops placed.now.1 block mask result }
@@ -71,7 +71,7 @@ fn stopping(placed: &Placed, block: usize, mask: u8) -> u8
     }
 }
 
-// The last rule of a block that matches, where it decides.
+// The last rule of a block that matches, if it decides.
 #[inline(always)]
 fn last_match<'a>(placed: &'a Placed, block: usize, mask: u8) -> Option<Match<'a>>
     requires { block ≤ length placed.now.1 }
@@ -91,11 +91,11 @@ fn last_match<'a>(placed: &'a Placed, block: usize, mask: u8) -> Option<Match<'a
     }
 }
 
-/// What a ruleset gives for a packet: its rules in order, and at each place where an anchor rule matches what it leads to
-/// (pf.conf(5), Packet Filtering and Anchors). It takes no memory, and calls itself no deeper than a path has components.
+/// What a ruleset gives for a packet: its rules in order, and in place of each anchor rule that matches what it leads to (pf.conf(5),
+/// PACKET FILTERING and ANCHORS). It takes no memory, and recurses no deeper than a path has components.
 ///
-/// Eight rules are looked at together, and blocks in which none can match are passed over. The last rule that matches stands, and those
-/// before it are looked at only where a quick or an anchor rule is among them.
+/// Eight rules are looked at together, and blocks in which none can match are skipped. The last rule that matches stands, and those before
+/// it are looked at only if a quick or an anchor rule is among them.
 #[cycle(evaluate)]
 #[tactic(auto, using(crate::proofs::Evaluations::none_and_then))]
 pub(crate) fn evaluate<'a>(
@@ -124,7 +124,7 @@ pub(crate) fn evaluate<'a>(
     Evaluated::Open(last)
 }
 
-// What the rules of a block give that match, in order.
+// What the matching rules of a block give, in order.
 #[cycle(evaluate)]
 #[tactic(auto, using(crate::proofs::Evaluations::none_and_then))]
 fn each_match<'a>(
@@ -154,7 +154,7 @@ fn each_match<'a>(
     Evaluated::Open(last)
 }
 
-// What a rule of a ruleset does where it matches.
+// What a rule of a ruleset does if it matches.
 #[cycle(evaluate)]
 fn effected<'a>(
     config: &'a Config,
@@ -189,7 +189,7 @@ fn evaluate_targets<'a>(
     ensures { result ≡ in_turn (evaluation config.now.rulesets (matching config.now.tables packet.now))
         (targets config.now.rulesets path.now reference.now) }
 {
-    // looked at where it is, since a path is long to move
+    // borrowed, since a path is long to move
     let reached = path.joined(reference.names());
     let Some(base) = &reached else {
         return Evaluated::Open(None);

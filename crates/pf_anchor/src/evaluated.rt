@@ -6,8 +6,8 @@ use crate::rulesets::Placed;
 use pf_rule::Action;
 use std::marker::Model;
 
-/// A rule that decides: the ruleset that it stands in, its number there, and what it does. The path stays where it is, since
-/// most matches are passed over. Contracts see it as a `PlainMatch`.
+/// A rule that decides: its ruleset, its number there, and what it does. The path is borrowed, since most matches are replaced by later
+/// ones. Contracts see it as a `PlainMatch`.
 #[derive(Drop)]
 pub(crate) struct Match<'a> {
     /// The rule's ruleset.
@@ -34,7 +34,7 @@ pub(crate) enum Evaluated<M> {
 }
 
 impl<M: Drop> Evaluated<M> {
-    /// The same, ended where a quick rule found a match.
+    /// The same, but ended if there is a match and the rule is quick.
     pub(crate) fn settled(self, quick: bool) -> Evaluated<M>
         ensures { result ≡ settled quick self }
     {

@@ -10,7 +10,7 @@ pub enum ConfigFault {
     TooManyRulesets,
     /// There would be more than 1,024 tables.
     TooManyTables,
-    /// Memory was refused.
+    /// Out of memory.
     Memory,
 }
 

@@ -19,14 +19,14 @@ pub fn rulesets_and_tables_take_so_many_bytes()
     ensures table { (t : PlainPlacedTable) → tabled_length t ≡ 6 + length t.0.0 + length t.0.1 + 20 * length t.1 }
 {}
 
-/// After a commit each path has the rules that the commit gives it or else its own, and what has no rules isn't there.
+/// After a commit each path has the rules that the commit gives it, or else its own, and a path without rules has no entry.
 #[tactic(auto, using(crate::proofs::RulesetMaps::replaced_in_turn))]
 pub fn replaces_exactly()
     ensures rules { ReplacesInTurn }
     ensures map { StaysMap }
 {}
 
-/// Two maps of which the same is read at each path are one.
+/// Two maps that have the same rules at each path are equal.
 #[tactic(auto, using(crate::proofs::RulesetMaps::one_map))]
 pub fn one_map()
     ensures { OneMap }
@@ -37,52 +37,52 @@ pub fn children_are_those_with_rules()
     ensures { ChildrenHaveRules }
 {}
 
-/// Where the main ruleset has no anchor rule: the default is told where none of its rules matches; else the number of one that
-/// matches, with no quick rule that matches before it, and that is quick or has no later rule that matches.
+/// If the main ruleset has no anchor rule, the verdict is the default where none of its rules matches; else it is a rule that matches, with
+/// no quick rule that matches before it, and that is quick or has no later rule that matches.
 #[tactic(auto, using(crate::proofs::PlainRules::tells_what_decides))]
 pub fn the_last_or_quick_rule_decides()
     ensures { TellsWhatDecides }
 {}
 
-/// Evaluation is the one solution of its equation: a ruleset is its rules in order, and each ruleset that they lead to is so
-/// itself. More levels than a path may have components change nothing.
+/// Evaluation is the one solution of its equation: a ruleset is evaluated as its rules in order, and so is each ruleset that they lead to.
+/// More levels than a path may have components change nothing.
 pub fn evaluation_is_the_one_solution()
     ensures unrolls { Unrolls }
     ensures only { IsTheOnly }
     ensures depth { DepthIsEnough }
 {}
 
-/// A rule that decides ends its ruleset's evaluation if it is quick, at any path, and no rule behind it is looked at; else its
-/// match stands until a later one. What ends within an anchor rule of the main ruleset is the verdict.
+/// A rule that decides ends its ruleset's evaluation if it is quick, at any path, and no rule after it is looked at; else its match stands
+/// until a later one. What ends within an anchor rule of the main ruleset is the verdict.
 pub fn quick_rules_end_the_evaluation()
     ensures own { OwnMatch }
     ensures ends { QuickEnds }
     ensures verdict { EndsTheVerdict }
 {}
 
-/// What ends within an anchor ends outside. A quick anchor rule ends the evaluation where something within matched, and where
-/// nothing did it is as if the rule weren't there.
+/// What ends within an anchor ends outside too. A quick anchor rule ends the evaluation if something within matched; if nothing did, it is
+/// as if the rule weren't there.
 pub fn anchor_rules_stand_among_rules()
     ensures ends { EndsOutside }
     ensures nothing { NothingWithin }
     ensures some { MatchWithin }
 {}
 
-/// An anchor rule leads to the ruleset at its path if there is one, or by a wildcard to those at the path's children, in the order
-/// of their bytes; past the limits to none. Of these in turn the first that ends ends all, and else the latest match stands.
+/// An anchor rule leads to the ruleset at its path if there is one, or by a wildcard to those at the path's children, in the order of their
+/// bytes; past the limits to none. Of these in turn the first that ends is the end of all, else the latest match stands.
 pub fn rules_lead_to_rulesets_in_turn()
     ensures turn { InTurn }
     ensures leads { LeadsToTheseAlone }
 {}
 
-/// The rule that a verdict tells stands at its path under its number, matches, and decides; an anchor rule never does. So it is
-/// with what any ruleset's evaluation finds.
+/// The rule of a verdict is at the verdict's path and number, matches, and decides; an anchor rule never does. The same holds for what any
+/// ruleset's evaluation finds.
 pub fn no_anchor_rule_decides()
     ensures told { ToldRuleDecides }
     ensures found { AnchorsNeverDecide }
 {}
 
-/// A ruleset to which no rule leads, and that isn't the main one, may be replaced by any other, and no verdict changes.
+/// A ruleset other than the main one to which no rule leads may be replaced by any other, and no verdict changes.
 #[tactic(auto, using(crate::proofs::Unreached::unreached_is_nothing))]
 pub fn unreached_rulesets_change_nothing()
     ensures { UnreachedIsNothing }
@@ -94,8 +94,8 @@ pub fn rules_are_evaluated_in_parts()
     ensures passed { PassedOver }
 {}
 
-/// After a change each named table has the entries that it was given, and all others stay, at that path and at others; what has
-/// no entries isn't there. Two maps of which the same is read everywhere are one. Rulesets and tables don't touch one another.
+/// After a change each named table has the entries that it was given, and all others stay, at that path and at others; what has no entries
+/// isn't there. Two maps that have the same tables everywhere are equal. Changes of rulesets leave tables alone, and the other way round.
 pub fn tables_are_replaced_exactly()
     ensures tables { ReplacesTables }
     ensures its { HasItsEntries }
@@ -112,9 +112,9 @@ pub fn tables_at_paths_are_by_name()
     ensures { TablesAtPath }
 {}
 
-/// A rule's path alone is asked for the table that the rule names, and where it has none the main ruleset's. An own table hides
-/// main's, also where it has no entry for the address; tables of other names and at other paths, parents and children among
-/// them, change nothing. A host that names a table that isn't there takes no address, and its negation every one.
+/// A table's name means the table at the rule's own path, and only if there is none there the main ruleset's. An own table hides main's,
+/// also if it has no entry for the address; tables of other names and at other paths, parents and children among them, change nothing. A
+/// host that names a table that isn't there matches no address, and its negation every one.
 pub fn own_tables_hide_mains()
     ensures own { OwnAnswers }
     ensures hidden { OwnHidesMain }

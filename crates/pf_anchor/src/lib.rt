@@ -3,14 +3,19 @@
 //! It knows the rules of pf_rule, which it judges by eight at a time in the columns of pf_lanes, the tables of pf_table and the maps of
 //! pf_map. It doesn't know who replaces a ruleset or a table and when, and nothing of tickets, commands and states.
 //!
-//! A `Config` is two maps, of rulesets by their paths and of tables by path and name, in which nothing is empty. A change gives another
-//! `Config`, which shares with the first what it doesn't change. A packet is judged by the main ruleset, and where its anchor rules match
-//! by the rulesets that they lead to. Read first specs/Rulesets.antt and specs/Tables.antt (the maps), then specs/Evaluation.antt (what
-//! an evaluation finds) and specs/EvaluationLaws.antt, which says it without the recursion.
+//! A `Config` is two maps, of rulesets by their paths and of tables by path and name, in which nothing is empty. A change makes a new
+//! `Config`, which shares what it doesn't change. A packet is judged by the main ruleset and, where its anchor rules match, by the rulesets
+//! that they lead to. Read specs/Rulesets.antt and specs/Tables.antt (the maps) first, then specs/Evaluation.antt (what an evaluation
+//! finds) and specs/Laws/Evaluation.antt, which says it without the recursion.
 //!
-//! `config` is the type, and uses all other modules; `evaluate` is judging, over `config`, and uses `evaluated` (what was found so far)
-//! and `named_tables` (the table that a rule names); `rulesets`, `tables` and `rule_list` are what the maps hold, and use none of them.
-//! `verdict` is what an evaluation answers, `fault` why something isn't put at a path, by the `limits`, and `laws` may name all.
+//! `config` is the type, and uses all other modules; `evaluate` is judging, over `config`, and uses `evaluated` (what was found so far) and
+//! `named_tables` (the table that a rule names). `rulesets`, `tables` and `rule_list` are what the maps hold, and use none of these.
+//! `verdict` is what an evaluation answers, `fault` why something isn't put at a path, and `laws` may name all.
+//!
+//! Proved: what each change leaves of both maps, how many bytes they take, and that `Config::judge` finds what the evaluation of
+//! specs/Evaluation.antt finds (the contracts of `Config`, `RuleList` and the lengths); that evaluation is the one solution of its
+//! equation, that the last or the first quick rule decides, what anchor rules lead to, that no anchor rule decides, and which table a
+//! rule's name means (`laws`). Nothing is only tested here; how fast it judges isn't stated.
 #![tactic(auto)]
 
 mod config;

@@ -1,4 +1,4 @@
-//! Rules that are shared.
+//! Lists of rules that are shared.
 ghost use Rattle.std.specs.{Prelude.{◌≡◌, ◌<◌, ◌≤◌, [], ◌∷◌, ◌++◌, All, length, IfOk, IfSome, OnOk, OnErr}, Arc.arc_value, Option.{option_map, option_map_or}, Vec.vec_items};
 ghost use Rattle.pf_map.specs.ListMaps.{unless_empty, kept_again};
 ghost use Rattle.pf_rule.specs.Rules.{IsRule};
@@ -11,11 +11,11 @@ use std::alloc::{AllocError, Global};
 use std::marker::Model;
 use std::sync::Arc;
 
-/// The rules of a ruleset in order, at most 1,024, shared with whatever else holds them, as their columns are once they are active.
-/// Contracts see it as the list.
+/// The rules of a ruleset in order, at most 1,024, shared with all other holders, as are their columns once the rules are active. Contracts
+/// see the list.
 #[derive(Drop)]
 pub struct RuleList {
-    // None where there are no rules, so that an empty list takes no memory.
+    // `None` if there are no rules, so that an empty list takes no memory.
     rules: Option<Arc<Vec<Rule>>>,
     // The same rules in columns, once they are active: packets are judged by them. A list that grows has none.
     columns: Option<Arc<RuleCols>>,
@@ -38,7 +38,7 @@ impl Model for RuleList {
         × IfSome l.columns (λ c. arc_value c ≡ option_map_or vec_items (option_map arc_value l.rules) []) };
 }
 
-// Appends a rule. What others hold stays as it is: they share the rules so far, which are copied.
+// Appends a rule. If others share the rules, they are copied first, so that the others' stay as they are.
 fn add_own(rules: &mut Arc<Vec<Rule>>, alloc: Global, rule: Rule) -> Result<(), AllocError>
     ensures ok { OnOk result ((arc_value rules.new).items ≡ (arc_value rules.old).items ++ rule ∷ []) }
     ensures err { OnErr result ((arc_value rules.new).items ≡ (arc_value rules.old).items) }
@@ -53,7 +53,7 @@ fn add_own(rules: &mut Arc<Vec<Rule>>, alloc: Global, rule: Rule) -> Result<(), 
     Ok(())
 }
 
-// What each rule keeps.
+// The invariant of each rule.
 fn are_rules(rules: &[Rule])
     ensures { All IsRule rules.now }
 {
@@ -62,7 +62,7 @@ fn are_rules(rules: &[Rule])
     }
 }
 
-// Appends a rule to those that there are, if any. On an error they stay.
+// Appends a rule to those that are there, if any. On an error they stay as they were.
 fn push_rule(
     rules: &mut Option<Arc<Vec<Rule>>>,
     alloc: Global,
@@ -105,7 +105,7 @@ impl RuleList {
         })
     }
 
-    /// The same rules, none of them copied. `AllocError`: they can't have another owner.
+    /// The same rules, shared and not copied. `AllocError`: they can't have another owner.
     pub fn shared(&self) -> Result<RuleList, AllocError>
         ensures { IfOk result (λ l. l ≡ self.now) }
     {
@@ -115,8 +115,8 @@ impl RuleList {
         })
     }
 
-    /// The same rules with their columns, none of them copied; columns that are there are shared, and fewer rules than a block has get
-    /// none. `AllocError`: nothing is made.
+    /// The same rules with their columns, none of them copied. Columns that are there are shared. Fewer rules than a block has need none.
+    /// `AllocError`: nothing is made.
     pub(crate) fn with_columns(&self, alloc: Global) -> Result<RuleList, AllocError>
         ensures { IfOk result (λ l. l ≡ self.now) }
     {
@@ -131,7 +131,7 @@ impl RuleList {
         })
     }
 
-    /// Its rules in columns, where it has them.
+    /// Its rules in columns, if it has them.
     pub(crate) fn columns(&self) -> Option<&RuleCols>
         ensures { IfSome result (λ c. c.now ≡ self.now) }
     {
@@ -141,7 +141,7 @@ impl RuleList {
         }
     }
 
-    /// Whether it has the columns that packets are judged by: fewer rules than a block has need none, since each by itself costs less.
+    /// Whether it has the columns that packets are judged by. Fewer rules than a block has need none, since they cost less one by one.
     pub(crate) fn has_columns(&self) -> bool {
         self.columns.is_some() || self.as_slice().len() < LANES
     }
@@ -150,7 +150,7 @@ impl RuleList {
     pub fn as_slice(&self) -> &[Rule]
         ensures value { result.now ≡ self.now }
         ensures few { length self.now ≤ RULE_LIMIT }
-        // what each of them keeps
+        // the invariant of each rule
         ensures rules { All IsRule self.now }
     {
         match &self.rules {
@@ -159,8 +159,7 @@ impl RuleList {
         }
     }
 
-    /// Appends a rule, where there are fewer than 1,024. Rules that others share are copied. Where memory is refused all
-    /// is as before.
+    /// Appends a rule, if there are fewer than 1,024. Rules that others share are copied first. Out of memory: all is as before.
     pub fn add(&mut self, alloc: Global, rule: Rule) -> Result<(), AllocError>
         requires { length self.old < RULE_LIMIT }
         ensures ok { OnOk result (self.new ≡ self.old ++ rule ∷ []) }

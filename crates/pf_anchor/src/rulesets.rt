@@ -8,11 +8,11 @@ use pf_map::{Entries, KeyValue, PagedMap, Weigher};
 use pf_rule::sum::RULE_FORM;
 use std::alloc::{AllocError, Global};
 
-/// A ruleset at its path, shared by all that hold it: path and rules stand once. Contracts see it as a `PlainPlaced`.
+/// A ruleset at its path, shared by all its holders: path and rules are stored once. Contracts see it as a `PlainPlaced`.
 pub type Placed = KeyValue<Path, RuleList>;
 
-/// How many bytes a ruleset takes where it is kept, in each version: a path behind its length, and rules behind their number. It looks at
-/// no rule.
+/// How many bytes a ruleset takes where it is kept, in each version: a path after its length, and rules after their number. It looks at no
+/// rule.
 #[tactic(auto, using(crate::proofs::Lengths::ruled_long, crate::proofs::Lengths::path_short))]
 pub fn ruleset_length(placed: &Placed) -> u32
     ensures { (version : ℕ) → result ≡ ruled_length version placed.now }
@@ -22,7 +22,7 @@ pub fn ruleset_length(placed: &Placed) -> u32
     (5 + path.len() + RULE_FORM * rules.len()) as u32
 }
 
-/// What each ruleset weighs: the bytes that it takes where it is kept, in the first version and so in each.
+/// The weight of a ruleset: the bytes that it takes where it is kept, in the first version and so in each.
 pub(crate) struct RulesetBytes;
 
 impl Weigher<Path, RuleList> for RulesetBytes {
@@ -38,7 +38,7 @@ impl Weigher<Path, RuleList> for RulesetBytes {
 /// The rulesets that have rules, in the order of their paths, and how many bytes they take. Contracts see it as the list.
 pub(crate) type Rulesets = PagedMap<Path, RuleList, RulesetBytes>;
 
-/// Rulesets in the order of their paths, one after the other. Contracts see those that are left to come.
+/// An iterator over rulesets in the order of their paths. Contracts see those that are still to come.
 pub type EachRuleset<'a> = Entries<'a, Path, RuleList, Placed>;
 
 // The same ruleset, with its rules in columns.
@@ -52,7 +52,7 @@ fn columned(alloc: Global, placed: &Placed) -> Result<Placed, AllocError>
     Placed::new(alloc, placed.key().copied(), rules.with_columns(alloc)?)
 }
 
-/// The same rulesets, each with its rules in columns, as the active ones are. `AllocError`: nothing is made.
+/// The same rulesets, each with its rules in columns, as active ones are. `AllocError`: nothing is made.
 pub(crate) fn in_columns(alloc: Global, items: &[Placed]) -> Result<Vec<Placed>, AllocError>
     ensures { IfOk result (λ v. v.items ≡ items.now) }
 {

@@ -8,25 +8,25 @@ use pf_map::{Entries, Key, KeyValue, PagedMap, Probe, Weigher};
 use pf_table::Table;
 use std::cmp::Ordering;
 
-/// A table where it is: its path, its name, and its entries, shared by all that hold it. Contracts see it as a `PlainPlacedTable`.
+/// A table at its place: its path, its name, and its entries, shared by all its holders. Contracts see it as a `PlainPlacedTable`.
 pub type PlacedTable = KeyValue<(Path, TableName), Table>;
 
 // How many bytes an entry takes.
 const ENTRY_BYTES: usize = 20;
 
-/// How many bytes a table takes behind its path where it is kept, in each version: a name behind its length, and entries behind their
-/// number. It looks at no entry.
+/// How many bytes a table takes after its path where it is kept, in each version: a name after its length, and entries after their number.
+/// It looks at no entry.
 #[tactic(auto, using(crate::proofs::Lengths::named_long))]
 pub fn named_table_length(name: &TableName, table: &Table) -> u32
     ensures { result ≡ length_of named_form (plain_named (name.now, table.now)) }
 {
     let name = name.as_bytes();
-    // what each table keeps of how many entries there are
+    // the invariant of tables bounds the number of their entries
     let _entries = table.entries();
     (5 + name.len() + ENTRY_BYTES * table.len()) as u32
 }
 
-/// What each table weighs: the bytes that it takes where it is kept.
+/// The weight of a table: the bytes that it takes where it is kept.
 pub(crate) struct TableBytes;
 
 impl Weigher<(Path, TableName), Table> for TableBytes {
@@ -40,20 +40,20 @@ impl Weigher<(Path, TableName), Table> for TableBytes {
         let path = path.as_bytes();
         let name = name.as_bytes();
         let table = placed.value();
-        // what each table keeps of how many entries there are
+        // the invariant of tables bounds the number of their entries
         let _entries = table.entries();
         (6 + path.len() + name.len() + ENTRY_BYTES * table.len()) as u32
     }
 }
 
-/// The tables that have entries, in the order of their paths, at one path in that of their names, and how many bytes they take.
+/// The tables that have entries, in the order of their paths, and at one path in that of their names, and how many bytes they take.
 /// Contracts see it as the list.
 pub(crate) type Tables = PagedMap<(Path, TableName), Table, TableBytes>;
 
-/// Tables in order, at one path in that of their names, one after the other. Contracts see those that are left to come.
+/// An iterator over tables in the order of their paths, and at one path in that of their names. Contracts see those that are still to come.
 pub type EachTable<'a> = Entries<'a, (Path, TableName), Table, PlacedTable>;
 
-/// Where a table is looked for. A path is long to copy.
+/// Where a table is looked for. It borrows the path, which is long to copy.
 #[derive(Clone, Copy)]
 pub(crate) struct Place<'a> {
     pub path: &'a Path,

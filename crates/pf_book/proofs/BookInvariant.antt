@@ -1,4 +1,4 @@
--- What a Book's type keeps, from each thing that changes it.
+-- A Book's invariant, after each thing that changes the Book.
 use Rattle.std.proofs.{Common.{◌≡◌, inl, inr, ℕ, ◌+◌, ◌<◌, ◌≤◌, ◌^◌, Bool, true, false, List, [], ◌∷◌, ◌++◌, length, take, drop, refl, ap, sym, ◌∙◌, subst, append-nil, arith, Result}, lemmas.{Bool.Decides.nat_tests, List.{length-append, take_all, take-append-le}, List.Sums.{fold-append}}}
 use Rattle.std.specs.Prelude.{nat_lt, sum}
 use mathlib.Core.List.{IsPrefix}
@@ -14,13 +14,13 @@ use Rattle.pf_book.proofs.Openable.{later}
 use Rattle.pf_book.proofs.Wanting.{stepped-within}
 use Rattle.pf_book.proofs.HistoryGroups.{flat-acked, all-acked, cut-still, flat-more, grouped-some, left-group, taken-still, prefix_is, prefix_short, IsGrown, grown-cuts, grown-length, grown-all, grown-acked, grown-flat}
 
--- ---- pages
+-- ---- world books
 
--- the log is what was acknowledged, where nothing is pending
+-- the log is what was acknowledged, if nothing is pending
 pub acked-is : (log : List PlainChange) (sizes : List ℕ) (acked : ℕ) → sum sizes ≡ acked → acked ≡ length log → flat (cut sizes log) ≡ log
 acked-is log sizes acked cuts all = flat-acked log sizes acked cuts ∙ take_all acked log (omega (arith, all))
 
--- a group more leaves what is shown as it is
+-- one more group keeps a world book folded
 pub folded-more : (base : PlainDurable) (whole whole' : PlainCore) (log log' : List PlainChange) (sizes sizes' : List ℕ) (acked acked' : ℕ) (group : List PlainChange) (setting setting' : Setting) (shown : List PlainChange)
     → IsGrown log log' sizes sizes' acked acked' group → whole'.durable ≡ after whole.durable group → IsFolded (world_book_of base whole log sizes acked setting shown) → IsFolded (world_book_of base whole' log' sizes' acked' setting' shown)
 folded-more base whole whole' log log' sizes sizes' acked acked' group setting setting' shown g left folded =
@@ -32,7 +32,7 @@ folded-more base whole whole' log log' sizes sizes' acked acked' group setting s
       published = folded.published ∙ ap (after base) (sym (take-append-le (length shown) (flat groups) group folded.within) ∙ ap (take (length shown)) (sym flat-grown));
     }
 
--- nor does one that isn't acknowledged
+-- and so does a group that isn't acknowledged
 pub folded-pending : (base : PlainDurable) (whole : PlainCore) (log group : List PlainChange) (sizes : List ℕ) (acked : ℕ) (setting setting' : Setting) (shown : List PlainChange)
     → sum sizes ≡ acked → acked ≤ length log → IsFolded (world_book_of base whole log sizes acked setting shown) → IsFolded (world_book_of base whole (log ++ group) sizes acked setting' shown)
 folded-pending base whole log group sizes acked setting setting' shown cuts low folded =
@@ -43,7 +43,7 @@ folded-pending base whole log group sizes acked setting setting' shown cuts low 
       published = folded.published ∙ ap (λ (l : List PlainChange). after base (take (length shown) l)) (sym same);
     }
 
--- what is shown is a front of what was acknowledged
+-- and showing a front of what was acknowledged
 pub folded-shown : (base : PlainDurable) (whole : PlainCore) (log : List PlainChange) (sizes : List ℕ) (acked : ℕ) (setting setting' : Setting) (shown shown' : List PlainChange) → sum sizes ≡ acked →
     IsPrefix shown' (take acked log) → IsFolded (world_book_of base whole log sizes acked setting shown) → IsFolded (world_book_of base whole log sizes acked setting' shown')
 folded-shown base whole log sizes acked setting setting' shown shown' cuts front folded =
@@ -54,14 +54,14 @@ folded-shown base whole log sizes acked setting setting' shown shown' cuts front
       published = ap (after base) (prefix_is shown' (take acked log) front ∙ ap (take (length shown')) (sym is));
     }
 
--- a page that shows all that was acknowledged
+-- a world book that shows all that was acknowledged
 pub shows-page : (base : PlainDurable) (whole : PlainCore) (log : List PlainChange) (sizes : List ℕ) (acked : ℕ) (setting : Setting) (shown shown' : List PlainChange) → sum sizes ≡ acked → shown' ≡ take acked log →
     world_book_of base whole log sizes acked setting shown' ≡ shows_all (world_book_of base whole log sizes acked setting shown)
 shows-page base whole log sizes acked setting shown shown' cuts is =
     ap (world_book_of base whole log sizes acked setting) is
     ∙ ap (λ (l : List PlainChange). record (world_book_of base whole log sizes acked setting shown) { shown = length l; published = after base l }) (sym (flat-acked log sizes acked cuts))
 
--- a page with a group behind it that wasn't acknowledged
+-- a world book with a pending group at its end
 pub pending-page : (base : PlainDurable) (whole : PlainCore) (log log' group : List PlainChange) (sizes : List ℕ) (acked : ℕ) (setting setting' : Setting) (shown : List PlainChange) → sum sizes ≡ acked → log' ≡ log ++ group → acked ≡ length log → setting' ≡ setting →
     world_book_of base whole log' sizes acked setting' shown ≡ record (world_book_of base whole log sizes acked setting shown) { pending = grouped group }
 pending-page base whole log log' group sizes acked setting setting' shown cuts logged all same =
@@ -70,7 +70,7 @@ pending-page base whole log log' group sizes acked setting setting' shown cuts l
     ∙ ap (λ (gs : List (List PlainChange)). P gs (grouped (drop acked (log ++ group)))) (cut-still sizes log group (omega (arith, cuts, all)))
     ∙ ap (P (cut sizes log)) (ap grouped (left-group log group acked all))
 
--- what is acknowledged then is a group longer
+-- the acknowledged front is then one group longer
 front-more : (log log' : List PlainChange) (sizes sizes' : List ℕ) (acked acked' : ℕ) (group : List PlainChange) (past past' : PlainFront) → IsGrown log log' sizes sizes' acked acked' group
     → past.front ≡ log → past.acked ≡ acked → past'.front ≡ past.front ++ group → past'.acked ≡ past.acked + length group → past' ≡ all_acked (take acked' log')
 front-more log log' sizes sizes' acked acked' group past past' g log_is acked_is noted counts =
@@ -80,14 +80,14 @@ front-more log log' sizes sizes' acked acked' group past past' g log_is acked_is
     counts ∙ ap (λ (n : ℕ). n + length group) acked_is ∙ sym g.counted ∙ grown-all log log' sizes sizes' acked acked' group g ∙ ap length (sym total) in
     λ i. record { front = whole i; acked = long i }
 
--- a store that isn't halted
+-- the store isn't halted if all was acknowledged
 pub goes-on : (halted : Bool) (log : List PlainChange) (acked : ℕ) → halted ≡ nat_lt acked (length log) → acked ≡ length log → halted ≡ false
 goes-on halted log acked is all = is ∙ grind (arith, nat_tests, all)
 
 -- ---- a Book
 
 module _ {D : Type 0} (seen : D → List ℕ) (unsynced : D → ℕ → Bool) where
-  -- each image of the device holds what was acknowledged, where nothing is pending
+  -- an image that holds what is kept holds a front of the history
   pub kept-front : (base : PlainDurable) (whole : PlainCore) (log : List PlainChange) (sizes : List ℕ) (acked : ℕ) (setting : Setting) (shown : List PlainChange) (c : List ℕ) →
       IsFolded (world_book_of base whole log sizes acked setting shown) → Holds c whole.durable → HoldsFront (world_book_of base whole log sizes acked setting shown) c
   kept-front base whole log sizes acked setting shown c folded holds =
@@ -130,7 +130,7 @@ module _ {D : Type 0} (seen : D → List ℕ) (unsynced : D → ℕ → Bool) wh
         latest = latest;
       }
 
-  -- the device failed while one was
+  -- the device failed while a group was being kept
   pub fault-book : (store store' : PlainStore D) (base : PlainDurable) (whole : PlainCore) (d : PlainDurable) (log log' group : List PlainChange) (sizes : List ℕ) (acked offered : ℕ) (setting setting' : Setting) (stage : PlainShower) (past past' front : PlainFront)
       → IsBook seen unsynced store (world_book_of base whole log sizes acked setting stage.shown) d log sizes acked offered stage past front
       → acked ≡ length log → 0 < length group → length group ≤ GROUP_LIMIT → log' ≡ log ++ group → past'.front ≡ past.front ++ group → past'.acked ≡ past.acked → store'.halted ≡ true → setting'.limit ≤ 2 ^ 20 → length log' ≤ setting'.limit
@@ -260,7 +260,7 @@ module _ {D : Type 0} (seen : D → List ℕ) (unsynced : D → ℕ → Bool) wh
     latest = sym kept;
   })
 
--- where nothing was acknowledged and nothing is shown, what is kept is what the opening gave
+-- a new world book, with nothing acknowledged or shown, is folded if what is kept is what the opening gave
 pub new-folded : (base : PlainDurable) (whole : PlainCore) (log : List PlainChange) (sizes : List ℕ) (setting : Setting) (shown : List PlainChange) → whole.durable ≡ base → sizes ≡ [] → shown ≡ [] → IsFolded (world_book_of base whole log sizes 0 setting shown)
 new-folded base whole log sizes setting shown kept uncut none = rw uncut (record {
   durable = kept;

@@ -1,4 +1,4 @@
--- One call of a Book, from each way out of it.
+-- One call of a Book, for each way that it can end.
 use Rattle.std.proofs.{Common.{◌≡◌, inl, inr, ℕ, ◌+◌, ◌<◌, ◌≤◌, min, Bool, true, false, cond, List, [], ◌∷◌, ◌++◌, length, take, Result, Ok, Err, refl, sym, ap, ◌∙◌, subst, append-nil, arith}, Math.Bool.and-false, lemmas.Bool.Decides.nat_tests, lemmas.List.{length-append, take_all, take_min, take-append-le}, lemmas.List.Sums.fold_push}
 use Rattle.std.specs.Prelude.{nat_lt, flat_map, ◌&&◌}
 use Rattle.pf_rule.specs.Packets.{PlainPacket}
@@ -13,11 +13,11 @@ use Rattle.pf_disk.proofs.Moments.{started, weakened}
 use Rattle.pf_book.proofs.{HistoryGroups.halted-is, Steps.never-fault}
 use Rattle.pf_book.specs.Books.{PlainBook, world_book, world_book_of, StaysUnlessKept, judging, log_in, HasRoom, HoldsFront, HoldsLeft, IsMore, IsKept, IsPending, IsUnkept, IsMade, IsTold, is_fault_reply, shows_all}
 
--- a page with another core
+-- a world book with another core
 abbrev pub with_core : WorldBook → PlainCore → WorldBook
 with_core b w = record b { whole = w }
 
--- what a step says of a core
+-- `r` is the step that the core takes for a command, or `Memory`
 abbrev pub Steps : WorldBook → Command → Result Step Refusal → Type 0
 Steps b c r = OrMemory (takes_memory b.whole.durable c) r (step_by b.whole.tickets b.whole.durable c)
 
@@ -25,11 +25,11 @@ Steps b c r = OrMemory (takes_memory b.whole.durable c) r (step_by b.whole.ticke
 abbrev pub IsFree : WorldBook → Command → Type 0
 IsFree b c = (may_change c && is_halted b.pending) ≡ false
 
--- a command that changes nothing
+-- a command that can't change anything is free
 pub unchanging : (b : WorldBook) (c : Command) → may_change c ≡ false → IsFree b c
 unchanging b c is = ap (λ (m : Bool). m && is_halted b.pending) is
 
--- none is behind those that were acknowledged
+-- it is free too if no change comes after those that were acknowledged
 pub none-behind : (base : PlainDurable) (whole : PlainCore) (log : List PlainChange) (sizes : List ℕ) (acked : ℕ) (setting : Setting) (shown : List PlainChange) (c : Command) → acked ≤ length log → length log ≤ acked → IsFree (world_book_of base whole log sizes acked setting shown) c
 none-behind base whole log sizes acked setting shown c low high =
     let all : nat_lt acked (length log) ≡ false = grind (arith, nat_tests, high) in
@@ -42,20 +42,20 @@ durable-is h b at folded = folded.durable ∙ ap (λ (k : PlainDurable). after k
 free-too : (h : CurrentOpening) (b : WorldBook) (c : Command) → IsAt h b → IsFree b c → (may_change c && is_halted h.pending) ≡ false
 free-too h b c at free = ap (λ (gs : List (List PlainChange)). may_change c && is_halted gs) (sym at.pending) ∙ free
 
--- where none is pending
+-- and if none is pending
 pub is-free : (b : WorldBook) (c : Command) → b.pending ≡ [] → IsFree b c
 is-free b c none = ap (λ (gs : List (List PlainChange)). may_change c && is_halted gs) none ∙ and-false (may_change c)
 
--- the step that is taken is that of the world's tickets, of what it holds
+-- the step that is taken is the one by the world's tickets and by what the world keeps
 own-step : (h : CurrentOpening) (b : WorldBook) (c : Command) (r : Result Step Refusal) → IsAt h b → IsFolded b → Steps b c r → (r ≡ Err Memory → ⊥) → r ≡ step_by h.tickets (durable_of h) c
 own-step h b c r at folded steps other =
     steps.0 other ∙ ap (λ (t : PlainTickets). step_by t b.whole.durable c) at.tickets ∙ ap (λ (k : PlainDurable). step_by h.tickets k c) (durable-is h b at folded)
 
--- and so the world's
+-- so it is the world's step
 step-is : (h : CurrentOpening) (b : WorldBook) (c : Command) (r : Result Step Refusal) → IsAt h b → IsFolded b → IsFree b c → Steps b c r → (r ≡ Err Memory → ⊥) → r ≡ step_in h c
 step-is h b c r at folded free steps other = own-step h b c r at folded steps other ∙ ap (λ (x : Bool). cond x (Err Halted) (step_by h.tickets (durable_of h) c)) (sym (free-too h b c at free))
 
--- a command that wants a change is one that may
+-- a command that wants a change may change something
 pub wants-may : (t : PlainTickets) (d : PlainDurable) (c : Command) (e : PlainChange) (o : Outcome) → step_by t d c ≡ Ok (Wants e o) → may_change c ≡ true
 wants-may t d (Transact x) e o is = refl
 wants-may t d (Edit x) e o is = refl
@@ -68,7 +68,7 @@ free-none true [] may free = refl
 free-none true (g ∷ gs) may free = absurd (cc (free))
 free-none false gs may free = absurd (cc (may))
 
--- so where it may be answered nothing is pending
+-- so if it is free nothing is pending
 pub wants-free : (b : WorldBook) (c : Command) (e : PlainChange) (o : Outcome) → IsFree b c → Steps b c (Ok (Wants e o)) → b.pending ≡ []
 wants-free b c e o free steps = free-none (may_change c) b.pending (wants-may b.whole.tickets b.whole.durable c e o (sym (steps.0 (λ m. cc (m))))) free
 
@@ -84,7 +84,7 @@ one-more n m is = grind (arith, nat_tests, is)
 
 -- ---- nothing is kept
 
--- once a group is pending a command that may change something is halted
+-- once a group is pending, a command that may change something is refused as `Halted`
 halted-by : (may : Bool) (gs : List (List PlainChange)) (rest : Result Step Refusal) → may ≡ true → (gs ≡ [] → ⊥) → cond (may && is_halted gs) (Err Halted) rest ≡ Err Halted
 halted-by true [] rest is some = absurd (some refl)
 halted-by true (g ∷ gs) rest is some = refl
@@ -98,7 +98,7 @@ halted-leads h b c may some at =
 answered-legal : (h : CurrentOpening) (b : WorldBook) (c : Command) (a : Answer) → IsAt h b → IsFolded b → IsFree b c → Steps b c (Ok (Done a)) → LegalReply h c (Answered a) false
 answered-legal h b c a at folded free steps = inl (ap (due_at h) (step-is h b c (Ok (Done a)) at folded free steps (λ m. cc (m))))
 
--- the core answers, and shows nothing
+-- the core answers, and nothing more is shown
 pub answer-leads : (h : CurrentOpening) (b : WorldBook) (w : PlainCore) (c : Command) (a : Answer) → IsAt h b → IsFolded b → IsFree b c → Steps b c (Ok (Done a)) → w.tickets ≡ moved_by b.whole.tickets (mentions_of (call c (Answered a))) →
     Leads h (with_core b w) (call c (Answered a)) (upshot b.shown false)
 answer-leads h b w c a at folded free steps moved =
@@ -113,7 +113,7 @@ refusal-is-legal h b c e at folded free steps = inl (ap (due_at h) (step-is h b 
 pub refusal-leads : (h : CurrentOpening) (b new : WorldBook) (c : Command) (e : Refusal) → IsAt h b → IsFolded b → IsFree b c → Steps b c (Err e) → new ≡ b → Leads h new (call c (Refused e)) (upshot new.shown false)
 refusal-leads h b new c e at folded free steps same = refused-leads h b new c e (refusal-is-legal h b c e at folded free steps) same at
 
--- a judge leads nowhere else
+-- a judge leaves all as it is
 pub judged-leads : (h : CurrentOpening) (b : WorldBook) (packet : PlainPacket) (v : Verdict) → IsFolded b → v ≡ verdict b.whole.durable packet → IsAt h b → Leads h b (judging packet v) (upshot b.shown false)
 judged-leads h b packet v folded is at =
     let c : Command = Ask (Judge packet) in
@@ -159,7 +159,7 @@ told-leads h b new Publish r at (inl (is, all)) =
 told-leads h b new Publish r at (inr (is, same)) =
     subst (λ (y : Reply). Leads h new (call (History Publish) y) (upshot new.shown false)) (sym is) (refused-leads h b new (History Publish) Memory (inr refl) same at)
 
--- the step says which command it is
+-- a step for the history comes of a command to the history
 pub history-leads : (h : CurrentOpening) (b new : WorldBook) (c : Command) (x : HistoryCommand) (r : Reply) → IsAt h b → Steps b c (Ok (OfHistory x)) → IsTold x r b new → Leads h new (call c r) (upshot new.shown false)
 history-leads h b new c x r at steps told =
     let is : c ≡ History x = left_is b.whole.tickets b.whole.durable c x (sym (steps.0 (λ m. cc (m)))) in
@@ -167,11 +167,11 @@ history-leads h b new c x r at steps told =
 
 -- ---- a change is wanted
 
--- the log is what was acknowledged
+-- the log is what was acknowledged, if nothing is pending
 pub log-acked : (h : CurrentOpening) (b : WorldBook) → IsAt h b → b.pending ≡ [] → length (log_of h) ≡ length (flat b.acked)
 log-acked h b at none = ap length (log-is h b at) ∙ ap (λ (l : List (List PlainChange)). length (flat (b.acked ++ l))) none ∙ ap (λ (l : List (List PlainChange)). length (flat l)) (append-nil b.acked)
 
--- where there is room for a change
+-- the reply that is due if there is room for the change
 record IsDue (h : CurrentOpening) (c : Command) (e : PlainChange) (n : ℕ) (o : Outcome) : Type 0 where
   reply : due h c ≡ Applied n o
   group : group_in h c ≡ (e ∷ []) ∷ []
@@ -190,7 +190,7 @@ is-due h b c e n o at none is found number =
       group = ap (group_at h) (sym is) ∙ ap (λ (r : Result (Unit {0}) Refusal). if_ok r (grouped (e ∷ [])) []) room;
     }
 
--- or not: the history is full
+-- or there is none: the history is full
 full-history : (h : CurrentOpening) (b : WorldBook) (c : Command) (e : PlainChange) (o : Outcome) → IsAt h b → b.pending ≡ [] → Ok (Wants e o) ≡ step_in h c → b.setting.limit < length (flat b.acked) + 1 → LegalReply h c (Refused HistoryFull) false
 full-history h b c e o at none is full =
     let log : length (log_of h) ≡ length (flat b.acked) = log-acked h b at none in
@@ -199,7 +199,7 @@ full-history h b c e o at none is full =
     let behind : Result (Unit {0}) Refusal = cond (h.setting.is_full h.base h.acked (e ∷ [])) (Err Full) (Ok tt) in
     inl (sym (ap (λ (x : Bool). or_refused (cond x (Err HistoryFull) behind) (Applied (length (log_of h) + 1) o)) past) ∙ ap (due_at h) is)
 
--- or the device is
+-- or the device is full
 full-device : (h : CurrentOpening) (b : WorldBook) (c : Command) (e : PlainChange) (o : Outcome) → IsAt h b → b.pending ≡ [] → Ok (Wants e o) ≡ step_in h c → length (flat b.acked) + 1 ≤ b.setting.limit → b.setting.is_full b.base b.acked (e ∷ []) ≡ true → LegalReply h c (Refused Full) false
 full-device h b c e o at none is few full =
     let log : length (log_of h) ≡ length (flat b.acked) = log-acked h b at none in
@@ -228,7 +228,7 @@ mentioned-is h c e o n is = ap (moved_by h.tickets) (wants_mentions h.tickets (d
 next-number : (b new : WorldBook) (e : PlainChange) → IsMore b new (e ∷ []) → length (flat new.acked) ≡ length (flat b.acked) + 1
 next-number b new e more = ap (λ (l : List (List PlainChange)). length (flat l)) more.acked ∙ ap length (flat-push b.acked e) ∙ length-append (flat b.acked) (e ∷ [])
 
--- where all is shown
+-- if all is shown
 all-shown-at : (h : CurrentOpening) (kept : WorldBook) (c : Call) (n : ℕ) → n ≡ length (flat kept.acked) → IsAt (heard h c (upshot kept.shown false)) kept → IsAt (heard h c (upshot n false)) (shows_all kept)
 all-shown-at h kept c n number at = record { base = at.base; tickets = at.tickets; acked = at.acked; pending = at.pending; shown = sym number; setting = at.setting }
 
@@ -302,7 +302,7 @@ module _ (h : CurrentOpening) (b : WorldBook) (c : Command) (e : PlainChange) (o
 
 -- ---- crashes
 
--- what an image holds of a front is what some crash leaves
+-- an image that holds a front of the history holds what some crash leaves
 pub front-left : (h : CurrentOpening) (b : WorldBook) (doing : Doing) (c : List ℕ) → IsAt h b → HoldsFront b c → HoldsLeft h doing c
 front-left h b doing c at (n, holds) =
     let m : ℕ = min n (length b.pending) in
@@ -318,7 +318,7 @@ front-left h b doing c at (n, holds) =
       ),
     )
 
--- and so is what it holds while a change is kept that is due
+-- and so does an image while a due change is being kept
 either-left : (h : CurrentOpening) (b : WorldBook) (c : Command) (e : PlainChange) (image : List ℕ) → IsAt h b → IsFolded b → b.pending ≡ [] → group_in h c ≡ (e ∷ []) ∷ [] → HoldsEither b.whole.durable (applied b.whole.durable e) image → HoldsLeft h (calling c) image
 either-left h b c e image at folded none group (inl holds) = front-left h b (calling c) image at (0, subst (λ (k : PlainDurable). Holds image k) (folded.durable ∙ ap (λ (l : List (List PlainChange)). after b.base (flat l)) (sym (append-nil b.acked))) holds)
 either-left h b c e image at folded none group (inr holds) =
@@ -328,7 +328,7 @@ either-left h b c e image at folded none group (inr holds) =
       (1, ap (λ (k : PlainDurable). down k) (ap (λ (l : List (List PlainChange)). after h.base (flat l)) kept ∙ ap (after h.base) (flat-push h.acked e) ∙ fold_push applied h.base (flat h.acked) e ∙ ap (λ (k : PlainDurable). applied k e) (sym (durable-is h b at folded)))),
     )
 
--- the change of a reply that keeps one is due
+-- if the reply keeps a change, it is the one that was due
 made-group : (h : CurrentOpening) (b new : WorldBook) (c : Command) (e : PlainChange) (o : Outcome) (r : Reply) → IsAt h b → IsFolded b → IsFree b c → Steps b c (Ok (Wants e o)) → IsMade r o e b new →
     ((why : Refusal) → r ≡ Refused why → is_fault why ≡ false → ⊥) → group_in h c ≡ (e ∷ []) ∷ []
 made-group h b new c e o (Answered a) at folded free steps made other = absurd made
@@ -344,7 +344,7 @@ made-left h b new c e o r image at folded free steps made other holds =
 
 -- ---- over a device
 
--- the opening that a page is
+-- the opening that a world book is
 abbrev pub own : WorldBook → CurrentOpening
 own b = record { setting = b.setting; base = b.base; tickets = b.whole.tickets; acked = b.acked; pending = b.pending; shown = b.shown; sights = [] }
 
@@ -356,12 +356,12 @@ pub fault-flag : (n m : ℕ) (failed : Bool) → m ≡ n + cond failed 1 0 → n
 fault-flag n m true is = grind (arith, nat_tests, is)
 fault-flag n m false is = grind (arith, nat_tests, is)
 
--- the core's own refusal is none for a fault
+-- the core never refuses for a fault
 pub err-not-fault : (b : WorldBook) (c : Command) (e : Refusal) → Steps b c (Err e) → is_fault e ≡ false
 err-not-fault b c Memory steps = refl
 err-not-fault b c e steps = never-fault b.whole.tickets b.whole.durable c e (sym (steps.0 (λ m. cc (m))))
 
--- what a change that is wanted leaves where it is refused
+-- what a wanted change leaves if it is refused
 pub made-stays : {D : Type 0} (now new : PlainBook D) (r : Reply) (o : Outcome) (e : PlainChange) → IsMade r o e (world_book now) (world_book new) → ((why : Refusal) → r ≡ Refused why → is_fault why ≡ false → new.disk ≡ now.disk) → StaysUnlessKept r now new
 made-stays now new (Answered a) o e made device = absurd made
 made-stays now new (Applied n p) o e made device = tt
@@ -372,7 +372,7 @@ made-stays now new (Refused HistoryFull) o e made device = record { same = λ is
 made-stays now new (Refused Full) o e made device = record { same = λ is. (made.0, device Full refl refl); pending = λ is. absurd (cc (is)) }
 made-stays now new (Refused why) o e made device = absurd made.1
 
--- nor what is asked of the history
+-- what an answer about the history leaves
 pub told-stays : {D : Type 0} (x : HistoryCommand) (r : Reply) (now new : PlainBook D) → IsTold x r (world_book now) (world_book new) → new.disk ≡ now.disk → StaysUnlessKept r now new
 told-stays Log r now new told device = subst (λ (y : Reply). StaysUnlessKept y now new) (sym told.1) device
 told-stays Publish r now new (inl told) device = subst (λ (y : Reply). StaysUnlessKept y now new) (sym told.0) device
@@ -389,7 +389,7 @@ module _ {D : Type 0} (seen : D → List ℕ) (unsynced : D → ℕ → Bool) (m
   pub still-left : (h : CurrentOpening) (b : WorldBook) (doing : Doing) (disk : D) → OnlyNow disk → HoldFronts disk b → IsAt h b → EachMoment moment left_since disk disk (HoldsLeft h doing)
   still-left h b doing disk only images at = started moment left_since disk (HoldsLeft h doing) (λ c left. front-left h b doing c at (images c (only c left)))
 
-  -- what was acknowledged is held, where nothing is pending
+  -- each image holds what was acknowledged, if nothing is pending
   pub still-either : (b : WorldBook) (es : List PlainChange) (disk : D) → OnlyNow disk → HoldFronts disk b → IsFolded b → b.pending ≡ [] → EachMoment moment left_since disk disk (HoldsEither b.whole.durable (after b.whole.durable es))
   still-either b es disk only images folded none = started moment left_since disk (HoldsEither b.whole.durable (after b.whole.durable es)) (λ c left. inl (front-all c (images c (only c left))))
     where

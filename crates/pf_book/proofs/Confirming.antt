@@ -9,7 +9,7 @@ use Rattle.pf_past.proofs.Prefixes.{prefix_length, prefix_get, prefix_trans}
 use Rattle.pf_book.specs.{Books.{cut, change_in}, Receipts.{EndsIn, IsReceipt}}
 use Rattle.pf_book.proofs.HistoryGroups.{whole-log, counted-acked, take_begins}
 
--- the first changes of what a front has begin the history too
+-- the first changes of a front begin the history too
 pub begins-first : (seq : ℕ) (front log : List PlainChange) → IsPrefix front log → IsPrefix (take seq front) log
 begins-first seq front log begins = prefix_trans (take seq front) front log (take_begins front seq) begins
 
@@ -17,7 +17,7 @@ begins-first seq front log begins = prefix_trans (take seq front) front log (tak
 pub begins-log : (past tip : PlainFront) (log : List PlainChange) (sizes : List ℕ) (acked : ℕ) → Begins past tip → tip.front ≡ log → sum sizes ≡ acked → IsPrefix past.front (flat (cut sizes log ++ grouped (drop acked log)))
 begins-log past tip log sizes acked begins is cuts = subst (λ (l : List PlainChange). IsPrefix past.front l) (is ∙ sym (whole-log log sizes acked cuts)) begins.0
 
--- what was acknowledged there is so
+-- what was acknowledged there still is
 pub still-acked : (past tip : PlainFront) (log : List PlainChange) (sizes : List ℕ) (acked : ℕ) → Begins past tip → tip.acked ≡ acked → sum sizes ≡ acked → acked ≤ length log → past.acked ≤ length (flat (cut sizes log))
 still-acked past tip log sizes acked begins is cuts low = omega (arith, begins.1, is, counted-acked log sizes acked cuts low)
 

@@ -1,4 +1,4 @@
--- One command more of a group.
+-- One more command of a group.
 use Rattle.std.proofs.{Common.{◌≡◌, ◌≢◌, cond, nat_lt, ℕ, zero, suc, ◌+◌, ◌<◌, ◌≤◌, ◌&&◌, Bool, true, false, List, [], ◌∷◌, ◌++◌, length, get_or, Option, None, Some, Result, Ok, Err, refl, sym, ap, ◌∙◌, subst, arith, append_assoc, append-nil, length-append}, lemmas.{Bool.Decides.nat_tests, Iterator.Adapters.position_from-zero, List.map-append}}
 use Rattle.std.specs.{Prelude.{flat_map, not, nat_le, position, ◌==◌, ◌||◌}, List.{AllByRecursion, list_all, position_from}}
 use Rattle.pf_core.specs.Refusing.{unless, refused_at, AreBothPassed, both_passed, not_refused}
@@ -23,7 +23,7 @@ some-ready : (d : PlainDurable) (es : List PlainChange) (e : PlainChange) → re
 some-ready d [] e = refl
 some-ready d (x ∷ es) e = refl
 
--- where a command wants none nothing more is left
+-- a command that wants no change leaves nothing more
 still-ready : (d : PlainDurable) (changes : List PlainChange) (before : Option PlainNext) → before ≡ ready_of d changes → before ≡ ready_of d (changes ++ [])
 still-ready d changes before is = is ∙ ap (ready_of d) (sym (append-nil changes))
 
@@ -36,7 +36,7 @@ left-on d changes before (Ok (made.Wants e n o)) is from =
 left-on d changes before (Ok (made.OfHistory c)) is from = still-ready d changes before is
 left-on d changes before (Err e) is from = still-ready d changes before is
 
--- where nothing is left there are no changes
+-- if nothing is left there are no changes
 pub none-ready : (d : PlainDurable) (changes : List PlainChange) → None ≡ ready_of d changes → changes ≡ []
 none-ready d [] is = refl
 none-ready d (e ∷ es) is = absurd (cc (is))
@@ -51,7 +51,7 @@ ready-some d (e ∷ es) n is = omega arith
 
 -- ---- its step
 
--- the step that it is due by its core, where this is what is left so far
+-- the step that is due to a command by the core, if `before` is what is left so far
 abbrev pub Steps : PlainCore → Option PlainNext → Command → Result Step Refusal → Type 0
 Steps w before c s = s ≢ Err Memory → s ≡ step_by (moved_by w.tickets (switches (found_by w.durable before).voided)) (found_by w.durable before).durable c
 
@@ -62,7 +62,7 @@ pub step-behind : (w : PlainCore) (changes : List PlainChange) (c : Command) (be
 step-behind w changes c before s is steps known =
     steps known ∙ ap (λ (r : PlainNext). step_by (moved_by w.tickets (switches r.voided)) r.durable c) (ap (found_by w.durable) is ∙ so-far w.durable changes)
 
--- is the one in the course of the group
+-- it is the step that the group's course has there
 pub step-amidst : (h : CurrentOpening) (w : PlainCore) (acked : ℕ) (changes : List PlainChange) (c : Command) (s : Result Step Refusal) → IsCalm h w acked → s ≡ step_by (tickets_there w changes) (after w.durable changes) c → step_in (amid h changes) c ≡ s
 step-amidst h w acked changes c s calm is =
     step-there h changes c calm.none ∙ ap (λ (t : PlainTickets). step_by (moved_by t (switches (flat_map voided_by changes))) (after (durable_of h) changes) c) calm.tickets
@@ -71,7 +71,7 @@ step-amidst h w acked changes c s calm is =
 pub number-amidst : (h : CurrentOpening) (w : PlainCore) (acked : ℕ) (changes : List PlainChange) → IsCalm h w acked → length (log_of (amid h changes)) ≡ acked + length changes
 number-amidst h w acked changes calm = log-amid h changes calm.none ∙ ap (λ (n : ℕ). n + length changes) calm.number
 
--- so the replies and the changes so far, with those of the commands that are left, stay what they are
+-- so the replies and the changes so far, with those of the commands still to come, stay the same in total
 pub replies-on : (h : CurrentOpening) (replies replies' total : List Reply) (changes changes' : List PlainChange) (c : Command) (rest more : List Command) (s : Result Step Refusal) → step_in (amid h changes) c ≡ s → rest ≡ c ∷ more
     → replies' ≡ replies ++ reply_to (amid h changes) s ∷ [] → changes' ≡ changes ++ changes_of s → replies ++ replies_due h changes rest ≡ total → replies' ++ replies_due h changes' more ≡ total
 replies-on h replies replies' total changes changes' c rest more s step left says wants so =
@@ -88,7 +88,7 @@ changes-on h total changes changes' c rest more s step left wants so =
 
 -- ---- its change
 
--- it follows those before it
+-- it fits after those before it
 pub fit-on : (d : PlainDurable) (t : PlainTickets) (changes changes' : List PlainChange) (c : Command) (s : Result Step Refusal) → s ≡ step_by t (after d changes) c → changes' ≡ changes ++ changes_of s → FollowInTurn d (made_all changes) → FollowInTurn d (made_all changes')
 fit-on d t changes changes' c (Ok (Wants e o)) is wants so =
     let fit : fits (after d changes) e ≡ Ok tt = wants_what_fits t (after d changes) c e o (sym is) in
@@ -106,14 +106,14 @@ all-push (x ∷ es) e all here = by (can_be_wanted x) all (all-push es e) where
   by true rest more = more rest here
   by false rest more = absurd (cc (rest))
 
--- and can be wanted
+-- and it can be wanted
 pub wanted-on : (t : PlainTickets) (d : PlainDurable) (changes changes' : List PlainChange) (c : Command) (s : Result Step Refusal) → AreTicketsWithin t → s ≡ step_by t d c → changes' ≡ changes ++ changes_of s → list_all can_be_wanted changes ≡ true → list_all can_be_wanted changes' ≡ true
 wanted-on t d changes changes' c (Ok (Wants e o)) within is wants so = ap (list_all can_be_wanted) wants ∙ all-push changes e so (wanted-can t d c e o within (sym is))
 wanted-on t d changes changes' c (Ok (Done a)) within is wants so = ap (list_all can_be_wanted) (wants ∙ append-nil changes) ∙ so
 wanted-on t d changes changes' c (Ok (OfHistory x)) within is wants so = ap (list_all can_be_wanted) (wants ∙ append-nil changes) ∙ so
 wanted-on t d changes changes' c (Err e) within is wants so = ap (list_all can_be_wanted) (wants ∙ append-nil changes) ∙ so
 
--- there is one at most
+-- there is at most one
 pub few-on : (changes changes' : List PlainChange) (s : Result Step Refusal) → changes' ≡ changes ++ changes_of s → length changes' ≤ length changes + 1
 few-on changes changes' s wants = omega (arith, ap length wants, length-append changes (changes_of s), one s) where
   one : (s : Result Step Refusal) → length (changes_of s) ≤ 1
@@ -135,7 +135,7 @@ unmentioned _ _ (told c x none silent) a is = none
 unmentioned _ _ (wanted c e o mentions) a is = absurd (cc (is))
 unmentioned _ _ (refused c e) a is = absurd (cc (is))
 
--- it leaves the tickets as they are until its change is accepted
+-- it leaves the core as it is until its change is accepted
 pub still-whole : (w : PlainCore) (c : Command) (s : Result Step Refusal) → may_be_grouped c ≡ true → (s ≢ Err Memory → s ≡ step_by w.tickets w.durable c) → stepped w c s ≡ w
 still-whole w c (Ok (Done a)) may steps =
     let h : CurrentOpening = with_tickets w.tickets w.durable in
@@ -146,7 +146,7 @@ still-whole w c (Ok (Wants e o)) may steps = refl
 still-whole w c (Ok (OfHistory x)) may steps = refl
 still-whole w c (Err e) may steps = refl
 
--- of commands that all may be grouped each may
+-- if all commands may be grouped each of them may
 pub may-at : (commands : List Command) (i : ℕ) (c : Command) → AllByRecursion (λ c. may_be_grouped c ≡ true) commands → i < length commands → c ≡ get_or commands i c → may_be_grouped c ≡ true
 may-at [] i c all low is = absurd (omega (arith, low))
 may-at (x ∷ xs) zero c all low is = ap may_be_grouped is ∙ all.0
@@ -171,7 +171,7 @@ none-refused (Some i) is = absurd (cc (is))
 few : (n : ℕ) → bad_number n ≡ false → n ≤ GROUP_LIMIT
 few n is = grind (arith, nat_tests, is)
 
--- a group that its own words don't refuse has commands of its kinds alone, and not too many
+-- a group that `group_words` doesn't refuse has only commands that may be grouped, and not too many
 pub record AreWell (commands : List Command) : Type 0 where
   pub may : AllByRecursion (λ c. may_be_grouped c ≡ true) commands
   pub few : length commands ≤ GROUP_LIMIT
@@ -185,7 +185,7 @@ well commands is =
       few = few (length commands) (not_refused (bad_number (length commands)) BadCount both.first);
     }
 
--- so its changes are as many as a record may keep
+-- so a record may keep as many changes as it has
 pub enough : (es : List PlainChange) (commands : List Command) → AreWell commands → 0 < length es → length es ≤ length commands → is_group es ≡ true
 enough es commands w some low = by (length es) some (omega (arith, low, w.few)) where
   by : (n : ℕ) → 0 < n → n ≤ GROUP_LIMIT → (not (n == 0) && nat_le n GROUP_LIMIT) ≡ true

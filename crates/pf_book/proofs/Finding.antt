@@ -1,4 +1,4 @@
--- Where changes find room on the device together.
+-- When changes find room on the device together.
 use Rattle.std.proofs.{Common.{◌≡◌, ◌<◌, ◌≤◌, ℕ, Bool, true, false, List, [], ◌∷◌, ◌++◌, length, refl, ap, sym, ◌∙◌, subst, arith}, lemmas.{Bool.Decides.nat_tests, List.length-map, List.Sums.fold-append}}
 use Rattle.std.specs.{Prelude.{not, nat_le, ◌==◌, ◌&&◌}, List.list_all}
 use Rattle.pf_core.specs.{Durable.Changes.{PlainDurable, PlainChange, applied, after}, WorldBooks.WorldBook, Worlds.{flat, is_fault}, declared.{group.TheConstants.GROUP_LIMIT, reply.Refusal.Refusal, reply.Refusal.TheVariants.{HistoryFull, Full}}}
@@ -10,7 +10,7 @@ use Rattle.pf_book.specs.Books.{HasNoRoom, IsUnkept}
 left-is : (base d next : PlainDurable) (groups : List (List PlainChange)) (es : List PlainChange) → d ≡ after base (flat groups) → next ≡ after d es → next ≡ after base (flat groups ++ es)
 left-is base d next groups es kept left = left ∙ ap (λ (k : PlainDurable). after k es) kept ∙ sym (fold-append applied base (flat groups) es)
 
--- the same room, told of the base and the groups
+-- the same room, in terms of the base and the groups
 told : (P : Bool → Type 0) (size : ℕ) (base d next : PlainDurable) (groups : List (List PlainChange)) (es : List PlainChange) → d ≡ after base (flat groups) → next ≡ after d es →
     P (group_fits size d next es) → P (group_fits size (after base (flat groups)) (after base (flat groups ++ es)) es)
 told P size base d next groups es kept left p =
@@ -18,11 +18,11 @@ told P size base d next groups es kept left p =
     subst (λ (k : PlainDurable). P (group_fits size k then es)) kept
     (subst (λ (k : PlainDurable). P (group_fits size d k es)) (left-is base d next groups es kept left) p)
 
--- the bytes of these changes have room
+-- there is room for the bytes of these changes
 abbrev pub FitThere : ℕ → List PlainChange → PlainDurable → PlainDurable → Type 0
 FitThere size es d next = HasRoom size d next (payload_length (made_all es))
 
--- told of equals
+-- the same of equals
 pub same-room : (P : PlainDurable → PlainDurable → Type 0) (d k next left : PlainDurable) → d ≡ k → next ≡ left → P d next → P k left
 same-room P d k next left kept is room = subst (λ (x : PlainDurable). P k x) is (subst (λ (x : PlainDurable). P x next) kept room)
 
@@ -61,7 +61,7 @@ few-formed es formed =
 
 -- ---- no room
 
--- changes that find none leave all as it is
+-- changes that find no room leave all as it is
 pub unroomed : (e : Refusal) (b : WorldBook) (es : List PlainChange) → HasNoRoom e b es → IsUnkept e b b es
 unroomed HistoryFull b es none = (refl, none)
 unroomed Full b es none = (refl, none)

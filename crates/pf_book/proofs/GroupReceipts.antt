@@ -14,7 +14,7 @@ taken-front : (xs ys zs : List PlainChange) (n : ℕ) → n ≡ length xs + leng
 taken-front xs ys zs n is =
     ap (take n) (sym (append_assoc xs ys zs)) ∙ take-append-le n (xs ++ ys) zs (omega (arith, is, length-append xs ys)) ∙ take_all n (xs ++ ys) (omega (arith, is, length-append xs ys))
 
--- what a group wants goes on
+-- what a group wants begins with what it wants so far
 due-more : (h : CurrentOpening) (changes : List PlainChange) (commands : List Command) → (more : List PlainChange) × (changes_due h changes commands ≡ changes ++ more)
 due-more h changes [] = ([], sym (append-nil changes))
 due-more h changes (c ∷ cs) =
@@ -22,16 +22,16 @@ due-more h changes (c ∷ cs) =
     let rest = due-more h (changes ++ wants) cs in
     (wants ++ rest.0, rest.1 ∙ append_assoc changes wants rest.0)
 
--- the log in the course of a group, where nothing was left without an acknowledgement
+-- the log in the course of a group, if nothing is pending
 log-so-far : (h : CurrentOpening) (changes : List PlainChange) → h.pending ≡ [] → log_of (amid h changes) ≡ flat h.acked ++ changes
 log-so-far h changes none =
     ap (λ (gs : List (List PlainChange)). flat ((h.acked ++ grouped changes) ++ gs)) none ∙ ap flat (append-nil (h.acked ++ grouped changes)) ∙ flat-with h.acked changes
 
--- what the receipt of the first command is, by its step
+-- what the receipt of the first command is, given its step
 abbrev First : CurrentOpening → List PlainChange → List PlainChange → Result Step Refusal → Reply → PlainReceipt → Type 0
 First h log changes s r slip = (slip.front ≡ log_of (amid h changes) ++ changes_of s) × ((slip.acked ≡ length slip.front) × ((slip.change ≡ slice_get (changes_of s) 0) × (slip.token ≡ token_of r log)))
 
--- and those behind it
+-- and the receipts of the commands after it
 abbrev Behind : CurrentOpening → List PlainChange → List PlainChange → List Command → Result Step Refusal → List Answered → Type 0
 Behind h log changes cs s [] = ⊥
 Behind h log changes cs s (a ∷ others) = First h log changes s a.0 a.1 × AreAnswered h log (changes ++ changes_of s) cs others
@@ -48,12 +48,12 @@ first-of h log changes s n r none front is =
     front ∙ sym (append_assoc (flat h.acked) changes (changes_of s)) ∙ ap (λ (l : List PlainChange). l ++ changes_of s) (sym (log-so-far h changes none)) in
     (whole, (long, (refl, refl)))
 
--- the same of the commands behind the first
+-- the same of the commands after the first
 abbrev On : CurrentOpening → List PlainChange → List Command → Bool → Type 0
 On h log cs stored = (changes rest : List PlainChange) → changes_due h changes cs ≡ changes ++ rest → log ≡ flat h.acked ++ (changes ++ rest) → (n : ℕ) → n ≡ length (flat h.acked) + length changes
     → AreAnswered h log changes cs (paired log n (map (told_as stored) (replies_due h changes cs)) rest)
 
--- where it wants no change
+-- if it wants no change
 still : (h : CurrentOpening) (log changes rest : List PlainChange) (cs : List Command) (stored : Bool) → h.pending ≡ [] → log ≡ flat h.acked ++ (changes ++ rest) → (n : ℕ) → n ≡ length (flat h.acked) + length changes → On h log cs stored
     → (s : Result Step Refusal) (x : Reply) → changes_of s ≡ [] → changes_due h (changes ++ changes_of s) cs ≡ changes ++ rest
     → First h log changes s x (slip_at log (n + 0) (slice_get (changes_of s) 0) x) × AreAnswered h log (changes ++ changes_of s) cs (paired log (n + 0) (map (told_as stored) (replies_due h (changes ++ changes_of s) cs)) rest)
@@ -66,7 +66,7 @@ still h log changes rest cs stored none all n is on s x nothing due =
       on (changes ++ changes_of s) rest (due ∙ ap (λ (l : List PlainChange). l ++ rest) (sym same)) (all ∙ ap (λ (l : List PlainChange). flat h.acked ++ (l ++ rest)) (sym same)) (n + 0) count,
     )
 
--- and where it wants one
+-- and if it wants one
 wants : (h : CurrentOpening) (log changes rest : List PlainChange) (cs : List Command) (stored : Bool) → h.pending ≡ [] → log ≡ flat h.acked ++ (changes ++ rest) → (n : ℕ) → n ≡ length (flat h.acked) + length changes → On h log cs stored
     → (e : PlainChange) (o : Outcome) (x : Reply) (left : List PlainChange) → rest ≡ e ∷ left → changes_due h (changes ++ e ∷ []) cs ≡ (changes ++ e ∷ []) ++ left
     → First h log changes (Ok (Wants e o)) x (slip_at log (n + 1) (Some e) x) × AreAnswered h log (changes ++ e ∷ []) cs (paired log (n + 1) (map (told_as stored) (replies_due h (changes ++ e ∷ []) cs)) left)
@@ -105,7 +105,7 @@ slips h log changes rest (c ∷ cs) stored none may due all n is =
 
 -- ---- the replies
 
--- the receipts leave them as they are
+-- pairing with receipts leaves the replies as they are
 pub paired-replies : (log : List PlainChange) (n : ℕ) (replies : List Reply) (given : List PlainChange) → map (λ (a : Answered). a.0) (paired log n replies given) ≡ replies
 paired-replies log n [] given = refl
 paired-replies log n (r ∷ replies) given = ap (λ (rs : List Reply). r ∷ rs) (paired-replies log (behind r n) replies (left_behind r given))
@@ -120,7 +120,7 @@ kept-step false a (Ok (OfHistory x)) rest = refl
 kept-step true a (Err e) rest = refl
 kept-step false a (Err e) rest = refl
 
--- as many keep a change as there are changes
+-- as many replies keep a change as there are changes
 pub kept-due : (h : CurrentOpening) (changes : List PlainChange) (commands : List Command) (stored : Bool) → length changes + kept_count (map (told_as stored) (replies_due h changes commands)) ≡ length (changes_due h changes commands)
 kept-due h changes [] stored = omega arith
 kept-due h changes (c ∷ cs) stored =
@@ -131,7 +131,7 @@ kept-due h changes (c ∷ cs) stored =
     let more : length (changes ++ changes_of s) + kept_count rest ≡ length (changes_due h (changes ++ changes_of s) cs) = kept-due h (changes ++ changes_of s) cs stored in
     omega (arith, one, more, length-append changes (changes_of s))
 
--- there is one to each command
+-- there is one reply to each command
 pub one-each : (h : CurrentOpening) (changes : List PlainChange) (commands : List Command) → length (replies_due h changes commands) ≡ length commands
 one-each h changes [] = refl
 one-each h changes (c ∷ cs) = ap (λ (n : ℕ). suc n) (one-each h (changes_with h changes c) cs)
@@ -144,7 +144,7 @@ drop-next [] (suc n) e left is = absurd (cc (is))
 drop-next (x ∷ xs) zero e left is = let same : x ≡ e = cc (is) in let rest : xs ≡ left = cc (is) in (rest, (omega arith, ap (λ (y : PlainChange). y ∷ []) same))
 drop-next (x ∷ xs) (suc n) e left is = let more = drop-next xs n e left is in (more.0, (omega (arith, more.1.0), ap (λ (l : List PlainChange). x ∷ l) more.1.1))
 
--- what holds behind a reply
+-- what holds after a reply
 pub record IsPaired (log : List PlainChange) (n : ℕ) (given : List PlainChange) (rest : List Reply) : Type 0 where
   pub given_is : drop n log ≡ given
   pub within : n ≤ length log
@@ -173,7 +173,7 @@ pub no-items : {A : Type 0} (xs : List A) → length xs ≡ 0 → xs ≡ []
 no-items [] is = refl
 no-items (x ∷ xs) is = absurd (omega (arith, is))
 
--- ---- what a group was told
+-- ---- the result of a group
 
 fits-step : (stored : Bool) (a : CurrentOpening) (s : Result Step Refusal) (shown n : ℕ) → (stored ≡ false → shown ≡ n) → ShownFits (told_as stored (reply_to a s)) shown n
 fits-step true a (Ok (Done x)) shown n all = tt
@@ -185,7 +185,7 @@ fits-step false a (Ok (OfHistory x)) shown n all = tt
 fits-step true a (Err e) shown n all = tt
 fits-step false a (Err e) shown n all = tt
 
--- where all is shown, or the changes are stored
+-- the replies fit what is shown, if all is shown or the changes are stored
 fits-due : (h : CurrentOpening) (changes : List PlainChange) (commands : List Command) (stored : Bool) (shown n : ℕ) → (stored ≡ false → shown ≡ n) → AllByRecursion (λ r. ShownFits r shown n) (map (told_as stored) (replies_due h changes commands))
 fits-due h changes [] stored shown n all = tt
 fits-due h changes (c ∷ cs) stored shown n all = (fits-step stored (amid h changes) (step_in (amid h changes) c) shown n all, fits-due h (changes_with h changes c) cs stored shown n all)
@@ -200,7 +200,7 @@ silent-fits false a (Ok (OfHistory x)) shown n nothing = tt
 silent-fits true a (Err e) shown n nothing = tt
 silent-fits false a (Err e) shown n nothing = tt
 
--- or where there are no changes
+-- or if there are no changes
 fits-none : (h : CurrentOpening) (changes : List PlainChange) (commands : List Command) (stored : Bool) (shown n : ℕ) → length (changes_due h changes commands) ≡ length changes → AllByRecursion (λ r. ShownFits r shown n) (map (told_as stored) (replies_due h changes commands))
 fits-none h changes [] stored shown n nothing = tt
 fits-none h changes (c ∷ cs) stored shown n nothing =
@@ -211,7 +211,7 @@ fits-none h changes (c ∷ cs) stored shown n nothing =
     let first : length (changes ++ changes_of s) ≡ length changes + length (changes_of s) = length-append changes (changes_of s) in
     (silent-fits stored (amid h changes) s shown n (omega (arith, long, same, first)), fits-none h (changes ++ changes_of s) cs stored shown n (omega (arith, long, same, first)))
 
--- what its replies are, and what the history is behind it
+-- what its replies are, and what the history is after it
 pub record IsTold (h : CurrentOpening) (new : WorldBook) (commands : List Command) (replies : List Reply) : Type 0 where
   pub stored : Bool
   pub none : h.pending ≡ []

@@ -1,4 +1,4 @@
--- A group of commands of a Book, from each way out of it.
+-- A group of commands of a Book, for each way that it can end.
 use Rattle.std.proofs.{Common.{◌≡◌, ◌≢◌, ◌⊎◌, inl, inr, Option, None, Some, ℕ, ◌+◌, ◌<◌, ◌≤◌, Bool, true, false, cond, List, [], ◌∷◌, ◌++◌, length, take, Result, Ok, Err, refl, sym, ap, ◌∙◌, subst, append-nil, le_refl, arith}, lemmas.{Bool.Decides.nat_tests, List.{length-append, map-id}}}
 use Rattle.std.specs.Prelude.{IfErr, IfOk, Vec, flat_map, fold, map, nat_lt, not, position}
 use Rattle.std.specs.declared.alloc.Global.{Global}
@@ -15,7 +15,7 @@ use Rattle.pf_book.proofs.{Calling.{durable-is, log-acked, front-left, still-lef
 
 -- ---- a calm opening
 
--- the opening that a page with nothing pending is
+-- the opening of a world book with nothing pending
 pub calm : (h : CurrentOpening) (b : WorldBook) → IsAt h b → IsFolded b → b.pending ≡ [] → IsCalm h b.whole (length (flat b.acked))
 calm h b at folded none = record {
   tickets = sym at.tickets;
@@ -36,7 +36,7 @@ number-step false a (Ok (OfHistory x)) n m rest is all = subst (λ (k : ℕ). Ar
 number-step true a (Err e) n m rest is all = subst (λ (k : ℕ). AreNumbered rest k m) (omega arith) all
 number-step false a (Err e) n m rest is all = subst (λ (k : ℕ). AreNumbered rest k m) (omega arith) all
 
--- the numbers of the replies that are due go on from what was acknowledged
+-- the numbers of the due replies go on from what was acknowledged
 pub numbers : (h : CurrentOpening) (changes : List PlainChange) (commands : List Command) (stored : Bool) → h.pending ≡ []
     → AreNumbered (map (told_as stored) (replies_due h changes commands)) (length (flat h.acked) + length changes) (length (flat h.acked) + length (changes_due h changes commands))
 numbers h changes [] stored none = refl
@@ -61,7 +61,7 @@ silent-step a _ _ n (told c x unmentioned silent) nothing = silent.shown n
 silent-step a _ _ n (wanted c e o mentions) nothing = absurd (omega (arith, nothing))
 silent-step a _ _ n (refused c e) nothing = refl
 
--- replies without a change show nothing
+-- replies that keep no change show nothing
 silent-due : (h : CurrentOpening) (changes : List PlainChange) (n : ℕ) (commands : List Command) → MayBeGrouped commands → length (changes_due h changes commands) ≡ length changes
     → fold (λ (m : ℕ) (r : Reply). shown_by r m) n (replies_due h changes commands) ≡ n
 silent-due h changes n [] may nothing = refl
@@ -92,7 +92,7 @@ take-grouped (e ∷ es) = refl
 
 -- ---- where it leads
 
--- what refuses a group before its commands are looked at
+-- the refusal of a group before its commands are run, if any
 abbrev pub begins : WorldBook → List Command → Result (Unit {0}) Refusal
 begins b commands = and_then (unless (is_halted b.pending) Halted) (group_words commands)
 
@@ -109,7 +109,7 @@ begun-by b commands is =
     let both : AreBothPassed (unless (is_halted b.pending) Halted) (group_words commands) tt = both_passed (unless (is_halted b.pending) Halted) (group_words commands) tt (sym is) in
     record { none = not-halted b.pending (not_refused (is_halted b.pending) Halted both.first); words = both.second }
 
--- such a refusal leads to nothing else
+-- such a refusal leaves all as it is
 pub begin-leads : (h : CurrentOpening) (b : WorldBook) (commands : List Command) (e : Refusal) → IsAt h b → Err e ≡ begins b commands → LeadsGroup h b commands (Err e) (upshot b.shown false)
 begin-leads h b commands e at is =
     let start : group_start h commands ≡ Err e = ap (λ (gs : List (List PlainChange)). and_then (unless (is_halted gs) Halted) (group_words commands)) (sym at.pending) ∙ sym is in
@@ -138,7 +138,7 @@ module _ (h : CurrentOpening) (b : WorldBook) (commands : List Command) (at : Is
   start-is : group_start h commands ≡ group_words commands
   start-is = ap (λ (gs : List (List PlainChange)). and_then (unless (is_halted gs) Halted) (group_words commands)) calm-none
 
-  -- memory was refused behind these
+  -- or memory runs out after those checks
   pub memory-refuses : group_words commands ≡ Ok tt → LeadsGroup h b commands (Err Memory) (upshot b.shown false)
   memory-refuses words = refused-group-leads h b b commands Memory (inr (start-is ∙ words)) refl at
 
@@ -200,7 +200,7 @@ module _ (h : CurrentOpening) (b : WorldBook) (commands : List Command) (at : Is
         };
       })
 
-  -- they were kept
+  -- the changes were kept
   kept-leads : (new kept : WorldBook) (stored : Bool) → (more : IsMore b kept es) → new.base ≡ kept.base → new.whole ≡ kept.whole → new.acked ≡ kept.acked → new.pending ≡ kept.pending → new.setting ≡ kept.setting
       → LegalReplies h commands (Ok (map (told_as stored) due)) false → new.shown ≡ fold (λ (m : ℕ) (r : Reply). shown_by r m) h.shown (map (told_as stored) due)
       → LeadsGroup h new commands (Ok (map (told_as stored) due)) (upshot new.shown false)
@@ -231,7 +231,7 @@ module _ (h : CurrentOpening) (b : WorldBook) (commands : List Command) (at : Is
       by (inl (nothing, still)) = absurd (omega (arith, some, ap length nothing))
       by (inr is) = is
 
-  -- the device failed: they are pending
+  -- the device failed: the changes are pending
   faulted : (new : WorldBook) → 0 < length es → IsPending b new es → LeadsGroup h new commands (Err Fault) (upshot new.shown true)
   faulted new some pending =
       let t : IsTaken h commands = taken pending.room in
@@ -272,7 +272,7 @@ module _ (h : CurrentOpening) (b : WorldBook) (commands : List Command) (at : Is
       (unkept Full new (ap (λ (r : Result (Unit {0}) Refusal). replies_unless r due) (checked ∙ past-device h es some low (full-is ∙ full))) same)
   all-made-leads (Err why) new failed some made is = absurd made.1
 
-  -- what an image holds while they are kept is what some crash leaves
+  -- what an image holds while the changes are being kept is what some crash leaves
   pub all-left : IsFolded b → HasRoom b es → (image : List ℕ) → HoldsEither b.whole.durable (after b.whole.durable es) image → HoldsLeft h (grouping commands) image
   all-left folded room image (inl holds) =
       front-left h b (grouping commands) image at (0, subst (λ (k : PlainDurable). Holds image k) (folded.durable ∙ ap (λ (l : List (List PlainChange)). after b.base (flat l)) (sym (append-nil b.acked))) holds)
@@ -285,7 +285,7 @@ module _ (h : CurrentOpening) (b : WorldBook) (commands : List Command) (at : Is
         (1, ap (λ (k : PlainDurable). down k) (ap (λ (l : List (List PlainChange)). after h.base (flat l)) kept ∙ durable-amid h es ∙ ap (λ (k : PlainDurable). after k es) (sym (durable-is h b at folded)))),
       )
 
--- what a group that is refused leaves, and one that is kept
+-- what a refused group leaves, and what a kept one leaves
 pub all-made-stay : {D : Type 0} (now new : PlainBook D) (result : Result (List Reply) Refusal) (due : List Reply) (es : List PlainChange) → 0 < length es → AreMade result due es (world_book now) (world_book new)
     → ((why : Refusal) → result ≡ Err why → is_fault why ≡ false → new.disk ≡ now.disk) → StaysUnlessAnyKept result now new
 all-made-stay now new (Ok replies) due es some (kept, more, how) device = λ same. absurd (by how same) where
@@ -318,7 +318,7 @@ module _ {D : Type 0} (seen : D → List ℕ) (unsynced : D → ℕ → Bool) (m
   all-made-moment h b new commands at none words folded old next only images moved (Err why) made still =
       subst (λ (d : D). EachMoment moment left_since old d (HoldsLeft h (grouping commands))) (sym (still why refl refl)) (still-left seen unsynced moment left_since h b (grouping commands) old only images at)
 
--- ---- with what the commands came to
+-- ---- by what the commands came to
 
 module _ (h : CurrentOpening) (b b' : WorldBook) (commands : List Command) (at : IsAt h b) (begun : IsBegun b commands) (replies : List Reply) (changes : List PlainChange) (same : b' ≡ b)
     (told_is : replies ≡ replies_due h [] commands) (wants : changes ≡ changes_due h [] commands) where
@@ -341,7 +341,7 @@ module _ (h : CurrentOpening) (b b' : WorldBook) (commands : List Command) (at :
       all-made-moment seen unsynced moment left_since h b new commands at begun.none begun.words folded old next only images
       (subst (λ (es : List PlainChange). EachMoment moment left_since old next (HoldsEither b.whole.durable (after b.whole.durable es))) wants moved) result (as_due result new made) still
 
--- ---- what a group is told
+-- ---- the result of a group
 
 -- the device didn't fail
 pub calm-group : (h : CurrentOpening) (new : WorldBook) (commands : List Command) (result : Result (List Reply) Refusal) (shown : ℕ) (failed : Bool) → failed ≡ false → LeadsGroup h new commands result (upshot shown false) → LeadsGroup h new commands result (upshot shown failed)
@@ -365,7 +365,7 @@ pub replied-fault : {X : Type 0} (r : Result (Vec Reply Global × X) Refusal) �
 replied-fault (Ok r) = refl
 replied-fault (Err e) = refl
 
--- no call of the device was made where it was refused but for a fault
+-- no call of the device was made if it was refused for anything but a fault
 pub still-by : {X P : Type 0} (r : Result (Vec Reply Global × X) Refusal) → IfErr r (λ e. is_fault e ≡ false → P) → (why : Refusal) → replied r ≡ Err why → is_fault why ≡ false → P
 still-by (Ok r) still why is quiet = absurd (cc (is))
 still-by (Err e) still why is quiet = let same : e ≡ why = cc (is) in still (ap is_fault same ∙ quiet)

@@ -12,7 +12,7 @@ map-take f xs zero = refl
 map-take f [] (suc n) = refl
 map-take f (x ∷ xs) (suc n) = ap (λ ys. f x ∷ ys) (map-take f xs n)
 
--- what is offered, and what is offered next
+-- what was offered and what is offered next, put together
 pub seam : {A B : Type 0} (f : A → B) (xs : List A) (o a m : ℕ) → o + m ≡ a → take o (map f xs) ++ map f (take m (drop o xs)) ≡ take a (map f xs)
 seam f xs zero a m is = map-take f xs m ∙ ap (λ n. take n (map f xs)) (omega arith)
 seam f [] (suc o) zero m is = absurd (omega arith)
@@ -41,11 +41,11 @@ prefix_is [] ys p = refl
 prefix_is (x ∷ xs) [] p = absurd (cc (p.1))
 prefix_is (x ∷ xs) (y ∷ ys) p = let rest = prefix_is xs ys (p.0, cc (p.1)) in cc (p.1, rest)
 
--- and no longer
+-- and is no longer than the list
 pub prefix_short : (xs ys : List PlainChange) → IsPrefix xs ys → length xs ≤ length ys
 prefix_short xs ys p = omega (arith, length-append xs p.0, ap length p.1)
 
--- what workers see is a front of what is offered, also where nothing more was shown
+-- what workers see is a front of what is offered, also if nothing more was shown
 pub shown_either : {E : Type 0} (r : Result (Unit {0}) E) (s s' o : List PlainChange) → OnOk r (s' ≡ o) → OnErr r (s' ≡ s) → IsPrefix s o → IsPrefix s' o
 shown_either (Ok u) s s' o ok err p = subst (λ (z : List PlainChange). IsPrefix z o) (sym ok) (prefix_self o)
 shown_either (Err e) s s' o ok err p = subst (λ (z : List PlainChange). IsPrefix z o) (sym err) p
@@ -55,13 +55,13 @@ shown_either (Err e) s s' o ok err p = subst (λ (z : List PlainChange). IsPrefi
 sum-cons : (n : ℕ) (sizes : List ℕ) → sum (n ∷ sizes) ≡ n + sum sizes
 sum-cons n sizes = sum_by-cons (λ x. x) n sizes
 
--- the groups are the first changes, as many as they have
+-- the groups together are the first changes, as many as their sizes say
 pub flat-cut : (sizes : List ℕ) (es : List PlainChange) → flat (cut sizes es) ≡ take (sum sizes) es
 flat-cut [] es = refl
 flat-cut (n ∷ sizes) es =
     ap (λ (l : List PlainChange). take n es ++ l) (flat-cut sizes (drop n es)) ∙ sym (ap (λ (m : ℕ). take m es) (sum-cons n sizes) ∙ take-add n (sum sizes) es)
 
--- changes behind them leave them as they are
+-- changes after them leave them as they are
 pub cut-still : (sizes : List ℕ) (es more : List PlainChange) → sum sizes ≤ length es → cut sizes (es ++ more) ≡ cut sizes es
 cut-still [] es more low = refl
 cut-still (n ∷ sizes) es more low =
@@ -71,7 +71,7 @@ cut-still (n ∷ sizes) es more low =
     ap (λ (l : List PlainChange). l ∷ cut sizes (drop n (es ++ more))) (take-append-le n es more first)
     ∙ ap (λ (l : List PlainChange). take n es ∷ cut sizes l) (drop-append-le n es more first) ∙ ap (λ (gs : List (List PlainChange)). take n es ∷ gs) (cut-still sizes (drop n es) more rest)
 
--- where nothing is behind them, what comes next is the next group
+-- if nothing comes after them, what is appended is the next group
 pub cut-more : (sizes : List ℕ) (es group : List PlainChange) → sum sizes ≡ length es → cut (sizes ++ length group ∷ []) (es ++ group) ≡ cut sizes es ++ group ∷ []
 cut-more [] [] group all = ap (λ (l : List PlainChange). l ∷ []) (take_all (length group) group (omega arith))
 cut-more [] (e ∷ es) group all = absurd (omega (arith, all))
@@ -87,7 +87,7 @@ cut-more (n ∷ sizes) es group all =
 pub flat-more : (gs : List (List PlainChange)) (group : List PlainChange) → flat (gs ++ group ∷ []) ≡ flat gs ++ group
 flat-more gs group = flat-append gs (group ∷ []) ∙ ap (λ (l : List PlainChange). flat gs ++ l) (append-nil group)
 
--- changes are a group, where there are any
+-- changes are one group, if there are any
 pub grouped-some : (es : List PlainChange) → 0 < length es → grouped es ≡ es ∷ []
 grouped-some [] some = absurd (omega (arith, some))
 grouped-some (e ∷ es) some = refl
@@ -106,32 +106,32 @@ some-left zero (x ∷ xs) is = absurd (cc (is))
 some-left (suc n) [] is = omega arith
 some-left (suc n) (x ∷ xs) is = let rest = some-left n xs is in omega (arith, rest)
 
--- where nothing is pending all was acknowledged
+-- if nothing is pending all was acknowledged
 pub all-acked : (log : List PlainChange) (acked : ℕ) → acked ≤ length log → grouped (drop acked log) ≡ [] → acked ≡ length log
 all-acked log acked low none = let few = some-left acked log (none-grouped (drop acked log) none) in omega (arith, few, low)
 
 pub taken-still : (log group : List PlainChange) (n : ℕ) → n ≤ length log → take n (log ++ group) ≡ take n log
 taken-still log group n le = take-append-le n log group le
 
--- what is behind those that were acknowledged
+-- what comes after the acknowledged changes
 pub left-group : (log group : List PlainChange) (acked : ℕ) → acked ≡ length log → drop acked (log ++ group) ≡ group
 left-group log group acked all = drop-append-le acked log group (omega (arith, all)) ∙ ap (λ (l : List PlainChange). l ++ group) (drop_all acked log (omega (arith, all)))
 
--- what the acknowledged groups have
+-- which changes the acknowledged groups have
 pub flat-acked : (log : List PlainChange) (sizes : List ℕ) (acked : ℕ) → sum sizes ≡ acked → flat (cut sizes log) ≡ take acked log
 flat-acked log sizes acked cuts = flat-cut sizes log ∙ ap (λ (n : ℕ). take n log) cuts
 
--- how many were acknowledged
+-- how many changes were acknowledged
 pub counted-acked : (log : List PlainChange) (sizes : List ℕ) (acked : ℕ) → sum sizes ≡ acked → acked ≤ length log → acked ≡ length (flat (cut sizes log))
 counted-acked log sizes acked cuts low = sym (length-take-le acked log low) ∙ ap length (sym (flat-acked log sizes acked cuts))
 
--- and what all of them are
+-- and what all the groups have
 pub whole-log : (log : List PlainChange) (sizes : List ℕ) (acked : ℕ) → sum sizes ≡ acked → flat (cut sizes log ++ grouped (drop acked log)) ≡ log
 whole-log log sizes acked cuts =
     flat-append (cut sizes log) (grouped (drop acked log)) ∙ ap (λ (l : List PlainChange). l ++ flat (grouped (drop acked log))) (flat-acked log sizes acked cuts)
     ∙ ap (λ (l : List PlainChange). take acked log ++ l) (flat-grouped (drop acked log)) ∙ take-append-drop acked log
 
--- nothing pending is nothing behind
+-- something is pending exactly if the log has more than was acknowledged
 pub halted-is : (log : List PlainChange) (acked : ℕ) → acked ≤ length log → is_halted (grouped (drop acked log)) ≡ nat_lt acked (length log)
 halted-is log acked low = by (drop acked log) (length-drop acked log)
   where
@@ -139,9 +139,9 @@ halted-is log acked low = by (drop acked log) (length-drop acked log)
     by [] is = sym (grind (arith, nat_tests, is, low))
     by (e ∷ es) is = sym (grind (arith, nat_tests, is, low))
 
--- ---- a group more
+-- ---- one group more
 
--- where all was acknowledged, a group more is, and its size is noted
+-- if all was acknowledged: one group more is too, and its size is noted
 pub record IsGrown (log log' : List PlainChange) (sizes sizes' : List ℕ) (acked acked' : ℕ) (group : List PlainChange) : Type 0 where
   pub cuts : sum sizes ≡ acked
   pub all : acked ≡ length log

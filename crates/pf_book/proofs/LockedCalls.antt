@@ -16,7 +16,7 @@ same-rest : (gs xs ys : List (List PlainChange)) → gs ++ xs ≡ gs ++ ys → x
 same-rest [] xs ys is = is
 same-rest (g ∷ gs) xs ys is = same-rest gs xs ys (cc (is))
 
--- a list begins with its front
+-- what begins a list begins a longer one
 pub begins-more : (xs ys zs : List PlainChange) → IsPrefix xs ys → IsPrefix xs (ys ++ zs)
 begins-more xs ys zs p = (p.0 ++ zs, sym (append_assoc xs p.0 zs) ∙ ap (λ (l : List PlainChange). l ++ zs) p.1)
 
@@ -28,14 +28,14 @@ shorter xs ys p = omega (arith, ap length p.1, length-append xs p.0)
 pub log-at : (h : CurrentOpening) (b : WorldBook) → IsAt h b → log_in b ≡ log_of h
 log-at h b at = ap (λ (gs : List (List PlainChange)). flat (gs ++ b.pending)) at.acked ∙ ap (λ (gs : List (List PlainChange)). flat (h.acked ++ gs)) at.pending
 
--- a change behind all others
+-- a change after all others
 pub log-added : (change : Option PlainChange) (old new : WorldBook) → (added : IsAdded change old new) → log_in new ≡ log_in old ++ added.made ∷ []
 log-added change old new added =
     let one : List (List PlainChange) = (added.made ∷ []) ∷ [] in
     ap (λ (gs : List (List PlainChange)). flat (new.acked ++ gs)) added.none_after ∙ ap flat (append-nil new.acked) ∙ ap flat added.acked ∙ flat-push old.acked added.made
     ∙ ap (λ (gs : List (List PlainChange)). flat gs ++ added.made ∷ []) (sym (append-nil old.acked)) ∙ ap (λ (gs : List (List PlainChange)). flat (old.acked ++ gs) ++ added.made ∷ []) (sym added.none_before)
 
--- a change that was kept is one
+-- a change that was kept is such a change
 pub added-by : (old kept new : WorldBook) (e : PlainChange) (change : Option PlainChange) → IsMore old kept (e ∷ []) → new.acked ≡ kept.acked → new.pending ≡ kept.pending → old.pending ≡ [] → change ≡ Some e → IsAdded change old new
 added-by old kept new e change more acked pending free is = record {
   made = e;
@@ -45,17 +45,17 @@ added-by old kept new e change more acked pending free is = record {
   none_after = pending ∙ more.pending ∙ free;
 }
 
--- what is told of the history gives none
+-- an answer about the history gives none
 pub told-given : (x : HistoryCommand) (r : Reply) (b new p q : WorldBook) → IsTold x r b new → IsGiven r None p q
 told-given Log r b new p q told = subst (λ (y : Reply). IsGiven y None p q) (sym told.1) refl
 told-given Publish r b new p q (inl told) = subst (λ (y : Reply). IsGiven y None p q) (sym told.0) refl
 told-given Publish r b new p q (inr told) = subst (λ (y : Reply). IsGiven y None p q) (sym told.0) refl
 
--- all of the history is acknowledged then
+-- then the whole history is acknowledged
 all-added : (change : Option PlainChange) (old new : WorldBook) → IsAdded change old new → log_in new ≡ flat new.acked
 all-added change old new added = ap (λ (gs : List (List PlainChange)). flat (new.acked ++ gs)) added.none_after ∙ ap flat (append-nil new.acked)
 
--- and the change is its last
+-- and the change is its last one
 added-last : (change : Option PlainChange) (old new : WorldBook) → IsAdded change old new → ForSome change (λ e. EndsIn (log_in new) e × (length (log_in new) ≤ length (flat new.acked)))
 added-last change old new added = λ e some.
     let same : added.made ≡ e = cc (added.is, some) in
@@ -75,7 +75,7 @@ shown-fits (Applied n o) change before old new is numbered given = is ∙ number
 shown-fits (Stored n o) change before old new is numbered given = tt
 shown-fits (Refused e) change before old new is numbered given = tt
 
--- so what is shown then is all
+-- so what is shown then is the whole history
 pub token-is : (r : Reply) (shown log : List PlainChange) → IsPrefix shown log → ShownFits r (length shown) (length log) → token_of r shown ≡ token_of r log
 token-is (Answer a) shown log begins fits = refl
 token-is (Applied n o) shown log begins fits = ap Some (prefix_whole shown log begins (omega (arith, fits)))
@@ -100,7 +100,7 @@ change-is h c (Refused e) t slip old new at after front given = given
 
 module _ (base : PlainDurable) (setting : Setting) (old new : WorldBook) (c : Command) (r : Reply) (t : Upshot) (reached : IsReached base setting old) (leads : (h : CurrentOpening) → IsAt h old → Leads h new (call c r) t)
     (folded : IsFolded new) where
-  -- what a call leads to is reached too
+  -- what a call leads to is reached as well
   pub reached-on : new.base ≡ old.base → new.setting ≡ old.setting → IsReached base setting new
   reached-on same_base same_setting = record {
     base_is = same_base ∙ reached.base_is;
@@ -134,7 +134,7 @@ module _ (base : PlainDurable) (setting : Setting) (old new : WorldBook) (c : Co
 
 -- ---- what receipts come to
 
--- a reply that makes no change leaves the history as it was, but for a change that wasn't acknowledged
+-- a reply that keeps no change leaves the history as it was, but perhaps with a change at its end that wasn't acknowledged
 still-begins : (h : CurrentOpening) (gs : List (List PlainChange)) (xs : List PlainChange) → IsPrefix xs (log_of h) → IsPrefix xs (flat ((h.acked ++ []) ++ (h.pending ++ gs)))
 still-begins h gs xs p =
     let is : flat ((h.acked ++ []) ++ (h.pending ++ gs)) ≡ log_of h ++ flat gs =
@@ -169,7 +169,7 @@ unhalted-none true [] s x may is = refl
 unhalted-none true (g ∷ gs) s x may is = absurd (cc (is))
 unhalted-none false gs s x may is = absurd (cc (may))
 
--- where a change is kept none was pending
+-- if a change is kept none was pending
 none-pending : (h : CurrentOpening) (c : Command) (slip : PlainReceipt) → IsLast h c slip → h.pending ≡ []
 none-pending h c slip last = by (kept-or-not h (step_in h c)) where
   steps : Result Step Refusal
@@ -249,7 +249,7 @@ module _ (base : PlainDurable) (setting : Setting) (c : Command) (slip : PlainRe
   pub stored-acked : (n : ℕ) (o : Outcome) → IsAnswered base setting c (Stored n o) slip last → n ≡ slip.acked
   stored-acked n o a = last-acked a.before c slip n a.change a.acked (legal-stored a.before c n o a.came.failed (call-legal (Stored n o) a).reply)
 
-  -- what was acknowledged at the reply of the receipt that was handed in still is
+  -- what was acknowledged at the reply of the receipt that was handed in still is acknowledged
   pub still-acked : (r : Reply) (handed : PlainReceipt) → last ≡ Some handed → IsAnswered base setting c r slip last → handed.acked ≤ slip.acked
   still-acked r handed is a =
       let before : handed.acked ≤ length (flat a.before.acked) = (a.follows handed is).1 in
@@ -262,7 +262,7 @@ module _ (base : PlainDurable) (setting : Setting) (old new : WorldBook) (comman
   stands-then : StandsFor reached.first new (reached.world ++ called_group commands (replies_of answers) t ∷ [])
   stands-then = stands-on-group reached.first old new reached.world commands (replies_of answers) t reached.stands (leads reached.stands.held reached.stands.at) folded
 
-  -- what a group leads to is reached too
+  -- what a group leads to is reached as well
   pub reached-behind : new.base ≡ old.base → new.setting ≡ old.setting → IsReached base setting new
   reached-behind same_base same_setting = record {
     base_is = same_base ∙ reached.base_is;

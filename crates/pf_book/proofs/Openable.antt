@@ -1,4 +1,4 @@
--- What a call leaves of what an opening needs.
+-- What a later opening needs, and how calls keep it.
 use Rattle.std.proofs.Common.{◌≡◌, ◌⊎◌, inl, inr, ℕ, ◌+◌, ◌^◌, ◌<◌, ◌≤◌, Bool, List, length, refl, sym, ap, ◌∙◌, subst, arith}
 use Rattle.pf_disk.specs.Disk.{EachMoment, IsImage}
 use Rattle.pf_disk.proofs.Moments.{started}
@@ -12,18 +12,18 @@ use Rattle.pf_book.specs.Books.{PlainBook, StaysOpenable}
 pub later : (g h : ℕ) → g ≤ h → (c : List ℕ) → IsNoLaterThan g c → IsNoLaterThan h c
 later g h le c is d held = omega (arith, is d held, le)
 
--- a read is an image of itself
+-- what a device reads as is one of its images
 pub itself : (seen : List ℕ) (unsynced : ℕ → Bool) → IsImage seen unsynced seen
 itself seen unsynced = record { same_length = refl; agrees = λ i out. refl }
 
--- each image of a device that holds what is kept, and as long as its read
+-- if each image holds only `d`, which leaves room on the device, each image leaves room: it is as long as the device
 pub roomy_images : (seen : List ℕ) (unsynced : ℕ → Bool) (size : ℕ) (d : PlainDurable) → size ≡ bank_size (length seen)
     → ((c : List ℕ) → IsImage seen unsynced c → (e : PlainDurable) → Holds c e → e ≡ d) → IsRoomy size d → (c : List ℕ) → IsImage seen unsynced c → LeavesRoom c
 roomy_images seen unsynced size d is one roomy c image e holds =
     roomy_in _ holds.content.version (bank_size (length c)) e
     (subst (λ (n : ℕ). IsRoomy n e) (is ∙ ap bank_size (sym image.same_length)) (subst (λ (k : PlainDurable). IsRoomy size k) (sym (one c image e holds)) roomy))
 
--- what is held, early and with room, is refused by chance alone, or for its epoch
+-- an image that holds something, with an early generation and with room, is refused by chance alone or for its epoch
 pub left_by_chance : (image : List ℕ) (g : ℕ) (fault : OpenFault) (d : PlainDurable) (held : Holds image d) → IsNoLaterThan g image → g < 2 ^ 63 → LeavesRoom image → IsUnopened fault image
     → (fault ≡ Memory) ⊎ ((fault ≡ Fault) ⊎ ((fault ≡ EpochsExhausted) × (k : PlainDurable) × Holds image k × (k.epoch ≡ last_epoch)))
 left_by_chance image g BadSize d held is low room refused = absurd (held_is_found image BadSize d held (omega (arith, is d held, low)) refused tt)
@@ -37,7 +37,7 @@ left_by_chance image g Full d held is low room refused = absurd (roomy_is_not_fu
 left_by_chance image g Places d held is low room refused = absurd refused
 
 module _ {D : Type 0} (seen : D → List ℕ) (unsynced : D → ℕ → Bool) (moment : D → ℕ) (left_since : D → ℕ → List ℕ → Type 0) where
-  -- a call by what a view tells of what was before
+  -- a call, by what its view says of the Book before it
   pub saved-openable : (view old new : PlainBook D) → view ≡ old → view.generation ≤ new.generation → new.generation ≤ view.generation + 1 → new.size ≡ view.size
       → EachMoment moment left_since view.disk new.disk (IsNoLaterThan (view.generation + 1))
       → (IsRoomy view.size view.base → EachMoment moment left_since view.disk new.disk LeavesRoom)
@@ -65,7 +65,7 @@ module _ {D : Type 0} (seen : D → List ℕ) (unsynced : D → ℕ → Bool) (m
   same-openable view old is only generations roomy =
       subst (λ (l : PlainBook D). StaysOpenable moment left_since l l) is (still-openable view view view refl refl refl refl only generations roomy)
 
-  -- and none after another call
+  -- nor was any after another call
   pub then-still : (old mid new : PlainBook D) → StaysOpenable moment left_since old mid → new.disk ≡ mid.disk → new.generation ≡ mid.generation → new.size ≡ mid.size
       → StaysOpenable moment left_since old new
   then-still old mid new o disk generation size = record {

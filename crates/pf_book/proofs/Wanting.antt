@@ -1,4 +1,4 @@
--- What a command wants can be wanted, and its step keeps the transactions within their limits.
+-- The change that a command wants can be wanted, and its step keeps the transactions within their limits.
 use Rattle.std.proofs.{Common.{◌≡◌, ◌≤◌, inl, ℕ, Bool, true, false, cond, List, [], ◌∷◌, length, Result, Ok, Err, refl, sym, ap, ◌∙◌, subst, arith}, Math.Bool.and-false, lemmas.Bool.Decides.nat_tests, lemmas.List.length-map}
 use Rattle.std.specs.{Prelude.{◌&&◌, ◌==◌, not, nat_le}, List.list_all}
 use Rattle.pf_core.specs.Refusing.{both_passed, refused_at}
@@ -11,7 +11,7 @@ use Rattle.pf_store.specs.{Groups.{can_be_wanted, has_item_form, is_commit}, Roo
 
 -- ---- what is wanted
 
--- as many tables at a path as were offered
+-- no more tables at a path than were offered
 few-tables : (k : RulesetKind) (p : List ℕ) (l : Loaded) → IsFew (offered_as k l) → has_item_form (item_of (record { kind = k; path = p }) (offered_as k l)) ≡ true
 few-tables Filter p l few = refl
 few-tables Table p l few =
@@ -30,7 +30,7 @@ counted : (bad : Bool) (rest : Result (Unit {0}) TicketRefusal) → cond bad (Er
 counted true rest is = absurd (cc (is))
 counted false rest is = refl
 
--- a commit that isn't refused has as many items as it may have
+-- a commit that isn't refused has no more items than it may have
 commit-can : (t : PlainTickets) (entries : List RulesetTicket) → IsWithin t → commit_check t entries ≡ Ok tt → can_be_wanted (commits (items (content t) entries)) ≡ true
 commit-can t entries within good =
     let checked : list_check entries ≡ Ok tt = (both_passed (list_check entries) (refused_at (λ i. Busy i) (busy_in t entries)) tt good).first in
@@ -63,7 +63,7 @@ wanted-can t d (History c) e o within is = absurd (cc (is))
 
 -- ---- the limits of what is offered
 
--- an opening that keeps this, with these transactions, and no change yet
+-- an opening that keeps `d`, with these transactions and no change yet
 abbrev pub with_tickets : PlainTickets → PlainDurable → CurrentOpening
 with_tickets t d = record { setting = on_device 0 0; base = d; tickets = t; acked = []; pending = []; shown = 0; sights = [] }
 
@@ -72,7 +72,7 @@ answered-within t d c a is =
     let h : CurrentOpening = with_tickets t d in
     (legal-told h c (Answered a) false (inl (sym (ap (λ (b : Bool). due_at h (cond b (Err Halted) (step_by t d c))) (and-false (may_change c)) ∙ ap (due_at h) is)))).within
 
--- whatever a step comes to
+-- whatever the step's result is
 pub stepped-within : (t : PlainTickets) (d : PlainDurable) (c : Command) (takes : Bool) (r : Result Step Refusal) → OrMemory takes r (step_by t d c) → IsWithin t → IsWithin (answered t c r)
 stepped-within t d c takes (Ok (Done a)) steps within = answered-within t d c a (sym (steps.0 (λ m. cc (m)))) within
 stepped-within t d c takes (Ok (Wants e o)) steps within = within

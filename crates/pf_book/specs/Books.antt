@@ -16,8 +16,8 @@ use Rattle.pf_view.specs.Seers.{PlainShower}
 
 -- ---- an opened device
 
--- the device; what it held, in the next epoch; how many bytes each of its banks has, and the generation of the one that counts; and which
--- history is its own
+-- the device; what it held, in the next epoch; how many bytes each of its banks has, and the generation of the one that counts; and its own
+-- history
 pub record PlainOpening (D : Type 0) : Type 0 where
   pub disk : D
   pub given : PlainDurable
@@ -28,29 +28,29 @@ pub record PlainOpening (D : Type 0) : Type 0 where
 abbrev pub opening_of : {D : Type 0} → PlainStore D → PlainDurable → Book → PlainOpening D
 opening_of store d history = record { disk = store.disk; given = d; size = store.size; generation = store.generation; history = history }
 
--- what the opening keeps within, with so many changes as its history may have
+-- the limits of an opening whose history may have `limit` changes
 abbrev pub setting_of : {D : Type 0} → PlainOpening D → ℕ → Setting
 setting_of o limit = on_device limit o.size
 
--- what a Book over a store keeps within
+-- the limits of a Book over a store
 abbrev pub setting_in : {D : Type 0} → PlainStore D → ℕ → Setting
 setting_in store limit = on_device limit store.size
 
--- The opening, with so many changes as its history may have, is named by these: what it gave, its history, and what it keeps within.
+-- These name an opening whose history may have `limit` changes: what it gave, its history, and its limits.
 abbrev pub IsNamed : {D : Type 0} → PlainDurable → Book → Setting → PlainOpening D → ℕ → Type 0
 IsNamed base history setting o limit = (o.given ≡ base) × (o.history ≡ history) × (setting_of o limit ≡ setting)
 
--- why no history was begun over an opened device: memory was refused, or a place for what is shown
+-- why no history began over an opened device: out of memory, or no place for what is shown
 abbrev pub IsUnshown : OpenFault → Type 0
 IsUnshown e = (e ≡ OutOfMemory) ⊎ (e ≡ Places)
 
--- what is kept is what an epoch less was, in its next epoch
+-- `d` is what was kept before, in the next epoch
 pub record IsRaised (d : PlainDurable) : Type 0 where
   pub before : PlainDurable
   pub raises : d ≡ raised before
   pub low : before.epoch < last_epoch
 
--- what its type keeps
+-- what its type keeps (its invariant)
 pub record IsOpened {D : Type 0} (seen : D → List ℕ) (unsynced : D → ℕ → Bool) (store : PlainStore D) (d : PlainDurable) : Type 0 where
   pub goes_on : store.halted ≡ false
   pub stands : Stands seen unsynced store d
@@ -68,8 +68,8 @@ abbrev pub cut : List ℕ → List PlainChange → List (List PlainChange)
 cut [] es = []
 cut (n ∷ sizes) es = take n es ∷ cut sizes (drop n es)
 
--- Of the changes since the opening the first so many were acknowledged, in groups of these sizes; what is behind them is one group, if there is
--- anything. And these are shown.
+-- What a world's laws see of a Book. Of `log`, the changes since the opening, the first `acked` were acknowledged, in groups of these
+-- `sizes`; what comes after them, if anything, is one group. `shown` are the changes that are shown.
 abbrev pub world_book_of : PlainDurable → PlainCore → List PlainChange → List ℕ → ℕ → Setting → List PlainChange → WorldBook
 world_book_of base whole log sizes acked setting shown = record {
   base = base;
@@ -81,9 +81,9 @@ world_book_of base whole log sizes acked setting shown = record {
   published = after base shown;
 }
 
--- What contracts see of a Book: its device; what its opening gave; its core; the groups of changes that were acknowledged, and the one that
--- wasn't; how many changes it may have, how many bytes each of its device's banks has, and the generation of the one that counts; how many
--- changes are shown, and the copy that shows them.
+-- What contracts see of a Book: its device; what its opening gave; its core; the groups of changes that were acknowledged, and the one, if
+-- any, that wasn't; how many changes it may have, how many bytes each bank of its device has, and the generation of the bank that counts;
+-- how many changes are shown, and the copy that shows them.
 pub record PlainBook (D : Type 0) : Type 0 where
   pub disk : D
   pub base : PlainDurable
@@ -110,7 +110,7 @@ book_with disk base whole log sizes acked limit size generation shown = record {
   published = after base shown;
 }
 
--- the page in it, whose opening keeps within that room
+-- what a world's laws see of it, with its limits
 abbrev pub world_book : {D : Type 0} → PlainBook D → WorldBook
 world_book b = record {
   base = b.base;
@@ -122,19 +122,19 @@ world_book b = record {
   published = b.published;
 }
 
--- The image holds the fold of a front of the history, which has all that was acknowledged and cuts no group.
+-- The image holds the fold of a front of the history that has all that was acknowledged and cuts no group.
 abbrev pub HoldsFront : WorldBook → List ℕ → Type 0
 HoldsFront b image = (n : ℕ) × Holds image (after b.base (flat (b.acked ++ take n b.pending)))
 
--- The image holds what some crash within this leaves of the opening.
+-- The image holds what some crash leaves of the opening, in the middle of `doing`.
 abbrev pub HoldsLeft : CurrentOpening → Doing → List ℕ → Type 0
 HoldsLeft h doing image = (d : PlainDurable) × Holds image d × Leaves h doing d
 
--- what a Book's type keeps
+-- what a Book's type keeps (its invariant)
 pub record IsBook {D : Type 0} (seen : D → List ℕ) (unsynced : D → ℕ → Bool)
     (store : PlainStore D) (b : WorldBook) (d : PlainDurable) (log : List PlainChange) (sizes : List ℕ) (acked offered : ℕ) (stage : PlainShower) (past front : PlainFront) : Type 0 where
   pub folded : IsFolded b
-  -- so whatever a command wants has bytes, where the device has room for them
+  -- so whatever a command wants can be written as bytes, if the device has room for them
   pub tickets : AreTicketsWithin b.whole.tickets
   pub log_is : past.front ≡ log
   pub acked_is : past.acked ≡ acked
@@ -142,17 +142,17 @@ pub record IsBook {D : Type 0} (seen : D → List ℕ) (unsynced : D → ℕ →
   -- the groups have as many changes as were acknowledged
   pub cuts : sum sizes ≡ acked
   pub low : acked ≤ length log
-  -- one group at most is behind them
+  -- at most one group comes after them
   pub high : length log ≤ acked + GROUP_LIMIT
   pub halted : store.halted ≡ nat_lt acked (length log)
   pub stands : store.halted ≡ false → Stands seen unsynced store b.whole.durable
-  -- each group has a change, and raises the bank's generation by one at most
+  -- each group has a change, and raises the bank's generation by at most one
   pub early : store.halted ≡ false → store.generation ≤ 2 ^ 63 + length log
   pub limit : b.setting.limit ≤ 2 ^ 20
   pub few : length log ≤ b.setting.limit
   pub images : (c : List ℕ) → IsImage (seen store.disk) (unsynced store.disk) c → HoldsFront b c
   pub generations : (c : List ℕ) → IsImage (seen store.disk) (unsynced store.disk) c → IsNoLaterThan (store.generation + 1) c
-  -- an opening finds room, where it would in what the last one gave
+  -- an opening finds room, if it would in what the last one gave
   pub roomy : IsRoomy store.size b.base → (c : List ℕ) → IsImage (seen store.disk) (unsynced store.disk) c → LeavesRoom c
   pub offered_low : offered ≤ acked
   pub offered_is : stage.offered ≡ take offered log
@@ -165,31 +165,31 @@ pub record IsBook {D : Type 0} (seen : D → List ℕ) (unsynced : D → ℕ →
 abbrev pub log_in : WorldBook → List PlainChange
 log_in b = flat (b.acked ++ b.pending)
 
--- the one of this number, from 1 on
+-- the change with this number, from 1 on
 abbrev pub change_in : List PlainChange → ℕ → Option PlainChange
 change_in log zero = None
 change_in log (suc n) = slice_get log n
 
--- what a group was told, as a list
+-- the replies to a group as a list, or its refusal
 abbrev pub listed : Result (Vec Reply Global) Refusal → Result (List Reply) Refusal
 listed (Ok replies) = Ok replies.items
 listed (Err e) = Err e
 
--- the replies of a group that was told more beside
+-- the same where more comes with the replies
 abbrev pub replied : {X : Type 0} → Result (Vec Reply Global × X) Refusal → Result (List Reply) Refusal
 replied (Ok told) = Ok told.0.items
 replied (Err e) = Err e
 
--- what changes leave of what is kept, one after the other, and the tickets that all of them void
+-- what changes, one after the other, make of what is kept, and the tickets that all of them void
 abbrev pub left_together : PlainDurable → List PlainChange → PlainNext
 left_together d es = next_with (after d es) (flat_map voided_by es)
 
--- it has room for these changes together: the history hasn't too many then, and the device isn't full
+-- there is room for these changes together: the history doesn't get too many, and the device isn't full
 pub record HasRoom (b : WorldBook) (es : List PlainChange) : Type 0 where
   pub few : length (flat b.acked) + length es ≤ b.setting.limit
   pub device : b.setting.is_full b.base b.acked es ≡ false
 
--- why it has none: the history would have too many, or else the device is full
+-- why there is no room: the history would get too many, or else the device is full
 abbrev pub HasNoRoom : Refusal → WorldBook → List PlainChange → Type 0
 HasNoRoom HistoryFull b es = b.setting.limit < length (flat b.acked) + length es
 HasNoRoom Full b es = (length (flat b.acked) + length es ≤ b.setting.limit) × (b.setting.is_full b.base b.acked es ≡ true)
@@ -205,7 +205,7 @@ pub record IsMore (old new : WorldBook) (es : List PlainChange) : Type 0 where
   pub setting : new.setting ≡ old.setting
   pub shown : new.shown ≡ old.shown
 
--- the device failed while they were kept
+-- the device failed while these changes were being kept
 pub record IsPending (old new : WorldBook) (es : List PlainChange) : Type 0 where
   pub room : HasRoom old es
   pub same : new ≡ record old { pending = grouped es }
@@ -216,11 +216,11 @@ IsUnkept Memory old new es = (new ≡ old) × HasRoom old es
 IsUnkept Fault old new es = IsPending old new es
 IsUnkept why old new es = (new ≡ old) × HasNoRoom why old es
 
--- all that was acknowledged is shown
+-- the same, with all that was acknowledged shown
 abbrev pub shows_all : WorldBook → WorldBook
 shows_all b = record b { shown = length (flat b.acked); published = after b.base (flat b.acked) }
 
--- a device failed in the call that was told this
+-- the device failed in the call that got this reply
 abbrev pub is_fault_reply : Reply → Bool
 is_fault_reply (Answer a) = false
 is_fault_reply (Applied n o) = false
@@ -238,7 +238,7 @@ IsNumbered (Applied seq outcome) new = seq ≡ length (flat new.acked)
 IsNumbered (Stored seq outcome) new = seq ≡ length (flat new.acked)
 IsNumbered (Refused e) new = ⊤
 
--- The numbers of these replies' changes go on from so many, one by one, and come to so many.
+-- The numbers of these replies' changes go up one by one from `n` + 1 to `m`.
 abbrev pub AreNumbered : List Reply → ℕ → ℕ → Type 0
 AreNumbered [] n m = n ≡ m
 AreNumbered (Answer a ∷ replies) n m = AreNumbered replies n m
@@ -251,17 +251,17 @@ abbrev pub IsJudged : PlainDurable → Command → Reply → Type 0
 IsJudged d (Ask (Judge packet)) r = r ≡ Answer (answer.Judged (verdict d packet))
 IsJudged d c r = ⊤
 
--- the call that asks what happens to a packet, answered so
+-- the call that asks what happens to a packet, with this answer
 abbrev pub judging : PlainPacket → Verdict → Call
 judging packet v = call (Ask (Judge packet)) (Answer (answer.Judged v))
 
--- Where a command is refused nothing changes, unless the device failed: then a group is pending, and nothing else has changed.
+-- If a command is refused nothing changes, unless the device failed: then a group is pending, and nothing else has changed.
 pub record Stays {D : Type 0} (e : Refusal) (old new : PlainBook D) : Type 0 where
   pub same : is_fault e ≡ false → (world_book new ≡ world_book old) × (new.disk ≡ old.disk)
   pub pending : is_fault e ≡ true → (group : List PlainChange) × (world_book new ≡ record (world_book old) { pending = group ∷ [] })
 
--- What an opening will need: the bank's generation stays or is one greater, and banks have as many bytes; each image at each moment holds what
--- it holds by the next generation at the latest, and leaves an opening room, where what the last one gave does.
+-- What a later opening needs of a call: the bank's generation stays or is one greater, and banks have as many bytes as before; at each
+-- moment each image has the next generation at the latest, and leaves room for an opening if what the last one gave does.
 pub record StaysOpenable {D : Type 0} (moment : D → ℕ) (left_since : D → ℕ → List ℕ → Type 0) (old new : PlainBook D) : Type 0 where
   pub stays : old.generation ≤ new.generation
   pub one_more : new.generation ≤ old.generation + 1
@@ -269,24 +269,24 @@ pub record StaysOpenable {D : Type 0} (moment : D → ℕ) (left_since : D → �
   pub early : EachMoment moment left_since old.disk new.disk (IsNoLaterThan (old.generation + 1))
   pub roomy : IsRoomy old.size old.base → EachMoment moment left_since old.disk new.disk LeavesRoom
 
--- What the device's images hold, they hold by the next generation at most, and leave room for an opening where what the last one gave does.
+-- Each image of the device has the next generation at the latest, and leaves room for an opening if what the last one gave does.
 pub record IsOpenable {D : Type 0} (seen : D → List ℕ) (unsynced : D → ℕ → Bool) (b : PlainBook D) : Type 0 where
   pub generations : (c : List ℕ) → IsImage (seen b.disk) (unsynced b.disk) c → IsNoLaterThan (b.generation + 1) c
   pub roomy : IsRoomy b.size b.base → (c : List ℕ) → IsImage (seen b.disk) (unsynced b.disk) c → LeavesRoom c
 
--- No call of the device is made for what is answered without a change, nor where a command is refused but for a fault.
+-- No call of the device is made for an answer without a change, nor for a refusal other than a fault.
 abbrev pub StaysUnlessKept : {D : Type 0} → Reply → PlainBook D → PlainBook D → Type 0
 StaysUnlessKept (Answer a) old new = new.disk ≡ old.disk
 StaysUnlessKept (Applied seq outcome) old new = ⊤
 StaysUnlessKept (Stored seq outcome) old new = ⊤
 StaysUnlessKept (Refused e) old new = Stays e old new
 
--- The same of a group: where none of its commands wants a change all is as before, and no call of the device is made.
+-- The same of a group: if none of its commands wants a change all is as before, and no call of the device is made.
 abbrev pub StaysUnlessAnyKept : {D : Type 0} → Result (List Reply) Refusal → PlainBook D → PlainBook D → Type 0
 StaysUnlessAnyKept (Ok replies) old new = new.acked ≡ old.acked → (world_book new ≡ world_book old) × (new.disk ≡ old.disk)
 StaysUnlessAnyKept (Err e) old new = Stays e old new
 
--- ---- what a change comes to, and what the history is asked
+-- ---- what a change comes to, and what is asked of the history
 
 -- the change was kept by itself, with this number
 pub record IsKept (old new : WorldBook) (e : PlainChange) (n : ℕ) : Type 0 where
@@ -300,13 +300,13 @@ IsMade (Applied n p) o e old new = (p ≡ o) × (kept : WorldBook) × IsKept old
 IsMade (Stored n p) o e old new = (p ≡ o) × IsKept old new e n
 IsMade (Refused why) o e old new = IsUnkept why old new (e ∷ [])
 
--- Of a group's changes, with the replies that are due: they were kept, and are shown or not; or why they weren't.
+-- The changes of a group to which these replies are due: they were kept, and are shown or not; or why they weren't kept.
 abbrev pub AreMade : Result (List Reply) Refusal → List Reply → List PlainChange → WorldBook → WorldBook → Type 0
 AreMade (Ok replies) due es old new = (kept : WorldBook) × IsMore old kept es
     × (((replies ≡ due) × (new ≡ shows_all kept)) ⊎ ((replies ≡ map as_stored due) × (new ≡ kept)))
 AreMade (Err why) due es old new = IsUnkept why old new es
 
--- how much there is, is acknowledged and is shown; or all that was acknowledged is shown, unless memory was refused
+-- `log`: how many changes there are, were acknowledged and are shown. `publish`: all that was acknowledged is shown, unless out of memory.
 abbrev pub IsTold : HistoryCommand → Reply → WorldBook → WorldBook → Type 0
 IsTold Log r old new = (new ≡ old) × (r ≡ Answer (answer.Logged (length (log_in old)) (length (flat old.acked)) old.shown))
 IsTold Publish r old new =

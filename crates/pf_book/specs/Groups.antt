@@ -9,20 +9,20 @@ use Rattle.pf_book.specs.Receipts.{PlainReceipt, token_of, Follows}
 abbrev pub Answered : Type 0
 Answered = Reply × PlainReceipt
 
--- the replies alone, or the refusal of the whole
+-- the replies alone, or the refusal of the whole group
 abbrev pub replies_of : Result (List Answered) Refusal → Result (List Reply) Refusal
 replies_of (Ok answers) = Ok (map (λ a. a.0) answers)
 replies_of (Err e) = Err e
 
--- The receipt of a command in the course of a group, which is shown with all before it behind the group: its front has the changes of the
--- group up to and with the command's own, and all of them are acknowledged.
+-- The receipt of a command in a group, after which `shown` is the whole history: its front has the changes of the group up to the command's
+-- own and with it, and all of them are acknowledged.
 pub record IsAnsweredAmid (h : CurrentOpening) (c : Command) (shown : List PlainChange) (r : Reply) (slip : PlainReceipt) : Type 0 where
   pub front : slip.front ≡ log_of h ++ changes_of (step_in h c)
   pub acked : slip.acked ≡ length slip.front
   pub change : slip.change ≡ slice_get (changes_of (step_in h c)) 0
   pub token : slip.token ≡ token_of r shown
 
--- each command's in turn, behind the changes that the group wants so far
+-- the receipt of each command in turn, after the `changes` that the group wants so far
 abbrev pub AreAnswered : CurrentOpening → List PlainChange → List PlainChange → List Command → List Answered → Type 0
 AreAnswered h shown changes [] answers = answers ≡ []
 AreAnswered h shown changes (c ∷ cs) [] = ⊥
@@ -34,17 +34,17 @@ abbrev pub HasReceipts : CurrentOpening → List PlainChange → List Command �
 HasReceipts h shown commands (Ok answers) = AreAnswered h shown [] commands answers
 HasReceipts h shown commands (Err e) = ⊤
 
--- what is told as a list
+-- a group's result as a list
 abbrev pub told : {X : Type 0} → Result (Vec X Global) Refusal → Result (List X) Refusal
 told (Ok answers) = Ok answers.items
 told (Err e) = Err e
 
--- What a group under the lock is answered, each command with its receipt, or refused whole, where the caller may have handed in a receipt:
--- there is a world whose last event is this group.
+-- What a group under the lock is answered, each reply with its receipt, or refused whole; the caller may have handed in a receipt. There is
+-- a world whose last event is this group.
 pub record IsGroupAnswered (base : PlainDurable) (setting : Setting) (commands : List Command) (result : Result (List Answered) Refusal) (last : Option PlainReceipt) : Type 0 where
   pub first : PlainDurable
   pub world : List Event
-  -- the opening, as it had come when the group began
+  -- the opening as it was when the group began
   pub before : CurrentOpening
   pub came : Upshot
   pub comes : state_after (down first) world ≡ up before
@@ -52,7 +52,7 @@ pub record IsGroupAnswered (base : PlainDurable) (setting : Setting) (commands :
   pub setting_is : before.setting ≡ setting
   pub legal : IsWorld first (world ++ called_group commands (replies_of result) came ∷ [])
   pub receipts : HasReceipts before (log_of (heard_group before commands (replies_of result) came)) commands result
-  -- the front of the receipt that was handed in begins the history before it, where what it has as acknowledged is so
+  -- the history before the group begins with the front of the receipt that was handed in, and what that has as acknowledged is so
   pub follows : Follows last (log_of before) (length (flat before.acked))
 
 -- ---- how receipts are made
@@ -68,22 +68,22 @@ abbrev pub kept_count : List Reply → ℕ
 kept_count [] = 0
 kept_count (r ∷ replies) = (if is_kept r then 1 else 0) + kept_count replies
 
--- how many changes the history has behind a reply, which had so many before it
+-- how many changes the history has after a reply, if it had `n` of them before it
 abbrev pub behind : Reply → ℕ → ℕ
 behind r n = n + (if is_kept r then 1 else 0)
 
--- of changes that are given to replies in turn, the one that a reply gets, and what is left to those behind it
+-- of changes that are given to replies in turn, the one that a reply gets, and what is left to the replies after it
 abbrev pub given_to : Reply → List PlainChange → Option PlainChange
 given_to r given = if is_kept r then slice_get given 0 else None
 
 abbrev pub left_behind : Reply → List PlainChange → List PlainChange
 left_behind r given = if is_kept r then drop 1 given else given
 
--- the receipt of a reply behind which the history has so many changes, all of them acknowledged
+-- the receipt of a reply after which the history has `n` changes, all of them acknowledged
 abbrev pub slip_at : List PlainChange → ℕ → Option PlainChange → Reply → PlainReceipt
 slip_at log n change r = record { front = take n log; acked = n; change = change; token = token_of r log }
 
--- Replies with their receipts, of which the first is behind so many changes: each that kept a change is given the next of these.
+-- Replies with their receipts, after `n` changes: each reply that kept a change gets the next of `given`.
 abbrev pub paired : List PlainChange → ℕ → List Reply → List PlainChange → List Answered
 paired log n [] given = []
 paired log n (r ∷ replies) given = (r, slip_at log (behind r n) (given_to r given) r) ∷ paired log (behind r n) replies (left_behind r given)

@@ -9,8 +9,8 @@ use Rattle.pf_book.specs.Books.{change_in}
 
 -- ---- receipts
 
--- A receipt: the changes that the history had at the reply, with those before it, and how many of them were acknowledged; the change that
--- the call made, if it was kept; and after `Applied` the changes that were shown then.
+-- A receipt: all changes that the history had at the reply, and how many of them were acknowledged; the change that the call made, if it
+-- was kept; and after `Applied` the changes that were shown then.
 pub record PlainReceipt : Type 0 where
   pub front : List PlainChange
   pub acked : ℕ
@@ -21,31 +21,31 @@ pub record PlainReceipt : Type 0 where
 abbrev pub EndsIn : List PlainChange → PlainChange → Type 0
 EndsIn front e = (rest : List PlainChange) × (front ≡ rest ++ e ∷ [])
 
--- what a receipt's type keeps, whose front is the first so many of these
+-- what a receipt's type keeps (its invariant): its front is the first `seq` changes of `past`
 pub record IsReceipt (past : PlainFront) (seq : ℕ) (change : Option PlainChange) : Type 0 where
   pub within : seq ≤ length past.front
   pub last : ForSome change (λ e. EndsIn (take seq past.front) e)
   pub acked : ForSome change (λ e. seq ≤ past.acked)
 
--- The history has as many changes as the receipt says, and the receipt's change, where it has one, under its number.
+-- The history has at least as many changes as the receipt says, and under this number the receipt's change, if it has one.
 abbrev pub Confirms : List PlainChange → PlainReceipt → Type 0
 Confirms log slip = (length slip.front ≤ length log) × IfSome slip.change (λ e. change_in log (length slip.front) ≡ Some e)
 
 -- ---- replies with receipts
 
--- after `Applied` a token of the whole history at the reply
+-- after `Applied` a token of the whole history at the reply, else none
 abbrev pub token_of : Reply → List PlainChange → Option (List PlainChange)
 token_of (Answer a) log = None
 token_of (Applied seq outcome) log = Some log
 token_of (Stored seq outcome) log = None
 token_of (Refused e) log = None
 
--- what a seer knows that has learnt a token, if there is one
+-- what a seer knows after it has learnt a token, if there is one
 abbrev pub learns_from : Option (List PlainChange) → PlainSeer → PlainSeer
 learns_from None known = known
 learns_from (Some token) known = learns token known
 
--- the change was kept and acknowledged behind all others
+-- the change was kept and acknowledged after all others
 pub record IsAdded (change : Option PlainChange) (old new : WorldBook) : Type 0 where
   pub made : PlainChange
   pub is : change ≡ Some made
@@ -60,21 +60,21 @@ IsGiven (Applied seq outcome) change old new = IsAdded change old new
 IsGiven (Stored seq outcome) change old new = IsAdded change old new
 IsGiven (Refused e) change old new = change ≡ None
 
--- all are shown after `Applied`
+-- after `Applied` all changes are shown
 abbrev pub ShownFits : Reply → ℕ → ℕ → Type 0
 ShownFits (Answer a) shown all = ⊤
 ShownFits (Applied seq outcome) shown all = shown ≡ all
 ShownFits (Stored seq outcome) shown all = ⊤
 ShownFits (Refused e) shown all = ⊤
 
--- The front of a receipt that is handed in begins the history, and what was acknowledged at its reply is, as is the receipt's change, where
--- it has one.
+-- The history begins with the front of the receipt that was handed in, if any. What was acknowledged at its reply still is, and so is the
+-- receipt's change, if it has one.
 abbrev pub Follows : Option PlainReceipt → List PlainChange → ℕ → Type 0
 Follows last log acked = ForSome last (λ l. IsPrefix l.front log × (l.acked ≤ acked) × ForSome l.change (λ e. length l.front ≤ acked))
 
 -- ---- under the lock
 
--- some world is stood for, in an opening that gave this and keeps within that
+-- it stands for some world, in an opening that gave `base` and has the limits `setting`
 pub record IsReached (base : PlainDurable) (setting : Setting) (b : WorldBook) : Type 0 where
   pub base_is : b.base ≡ base
   pub setting_is : b.setting ≡ setting
@@ -82,36 +82,36 @@ pub record IsReached (base : PlainDurable) (setting : Setting) (b : WorldBook) :
   pub world : List Event
   pub stands : StandsFor first b world
 
--- The receipt's change is the one that the command was due, by what was acknowledged before, and the last of its front.
+-- The receipt's change is the one that was due to the command, by what was acknowledged before, and the last of its front.
 pub record IsLast (h : CurrentOpening) (c : Command) (slip : PlainReceipt) : Type 0 where
   pub made : PlainChange
   pub is : slip.change ≡ Some made
   pub due : group_in h c ≡ (made ∷ []) ∷ []
   pub last : slip.front ≡ log_of h ++ made ∷ []
 
--- after `Applied` and `Stored` a receipt has a change, and else none
+-- after `Applied` and `Stored` a receipt has a change, else none
 abbrev pub IsChangeOf : Reply → CurrentOpening → Command → PlainReceipt → Type 0
 IsChangeOf (Answer a) h c slip = slip.change ≡ None
 IsChangeOf (Applied seq outcome) h c slip = IsLast h c slip
 IsChangeOf (Stored seq outcome) h c slip = IsLast h c slip
 IsChangeOf (Refused e) h c slip = slip.change ≡ None
 
--- What a call under the lock is answered, with its receipt, where the caller may have handed in a receipt: there is a world whose last event is
+-- What a call under the lock is answered, with its receipt; the caller may have handed in a receipt. There is a world whose last event is
 -- this call.
 pub record IsAnswered (base : PlainDurable) (setting : Setting) (c : Command) (r : Reply) (slip : PlainReceipt) (last : Option PlainReceipt) : Type 0 where
   pub first : PlainDurable
   pub world : List Event
-  -- the opening, as it had come when the call began
+  -- the opening as it was when the call began
   pub before : CurrentOpening
   pub came : Upshot
   pub comes : state_after (down first) world ≡ up before
   pub base_is : before.base ≡ base
   pub setting_is : before.setting ≡ setting
   pub legal : IsWorld first (world ++ called (call c r) came ∷ [])
-  -- the receipt's front is the history after it, with as many acknowledged changes
+  -- the receipt's front is the history after the call, with as many acknowledged changes
   pub front : slip.front ≡ log_of (heard before (call c r) came)
   pub acked : slip.acked ≡ length (flat (heard before (call c r) came).acked)
   pub change : IsChangeOf r before c slip
   pub token : slip.token ≡ token_of r slip.front
-  -- the front of the receipt that was handed in begins the history before it, where what it has as acknowledged is so
+  -- the history before the call begins with the front of the receipt that was handed in, and what that has as acknowledged is so
   pub follows : Follows last (log_of before) (length (flat before.acked))

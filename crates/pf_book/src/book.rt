@@ -1,4 +1,4 @@
-//! One history over a device. Its groups of commands stand in `groups`, and its replies with receipts in `receipts`.
+//! One history over a device. Groups of commands are in `groups`, replies with receipts in `receipts`.
 ghost use Rattle.std.specs.Prelude.{◌≡◌, ℕ, ◌+◌, ◌<◌, ◌≤◌, [], ◌∷◌, ◌++◌, List, All, Ok, true, false, IfOk, IfErr, IfSome, OnOk, OnErr, IsErrOf, MatchBool, MatchResult, length, map, take, slice_get, nat_lt, not, if◌then◌else◌};
 ghost use Rattle.std.specs.{Arc.arc_value, List.list_all, Option.option_map};
 ghost use Rattle.pf_disk.specs.Disk.{EachMoment, IsImage};
@@ -30,8 +30,8 @@ use std::marker::Model;
 use std::slice::from_ref;
 use std::sync::{Arc, Wait};
 
-/// What an opening gave, and each change since: saved on the device before it is answered, and shown to the packet workers. It keeps the
-/// handle `R`, by which it waits for workers that are judging. Contracts see it as a `PlainBook`.
+/// What an opening gave, and each change since: saved on the device before it is answered, and shown to the packet workers. By
+/// its handle `R` it waits for workers that are judging. Contracts see it as a `PlainBook`.
 #[derive(Drop)]
 pub struct Book<D: Disk + Drop, J: Chapter, R: Wait + Drop> {
     alloc: Global,
@@ -40,14 +40,14 @@ pub struct Book<D: Disk + Drop, J: Chapter, R: Wait + Drop> {
     // what the core keeps, shared
     durable: Arc<Durable>,
     log: Vec<Arc<Change>>,
-    // how many changes each group has that was acknowledged
+    // how many changes each acknowledged group has
     sizes: Vec<usize>,
     acked: usize,
     offered: usize,
     limit: usize,
     shower: Shower<J, R>,
     tip: Tip<J>,
-    // the history as far as it was acknowledged
+    // the acknowledged part of the history
     front: Front<J>,
 }
 
@@ -65,7 +65,7 @@ impl<D: Disk + Drop, J: Chapter, R: Wait + Drop> Model for Book<D, J, R> {
         (arc_value b.durable) (map arc_value b.log.items) b.sizes.items b.acked b.offered b.shower b.tip b.front };
 }
 
-// Why no history is begun, where what it would show has no place.
+// Why no history begins: out of memory, or no place for what it would show.
 fn unshown(fault: ViewFault) -> OpenFault
     ensures { IsUnshown result }
 {
@@ -75,7 +75,7 @@ fn unshown(fault: ViewFault) -> OpenFault
     }
 }
 
-// Whether it may change something, so that it is refused once the device has failed.
+// Whether the command may change something: if so it is refused once the device has failed.
 fn may_change(command: &Command) -> bool
     ensures { result ≡ may_change command.now }
 {
@@ -86,11 +86,11 @@ fn may_change(command: &Command) -> bool
 }
 
 impl<D: Disk + Drop, J: Chapter, R: Wait + Drop> Book<D, J, R> {
-    /// The history of an opening, which has no change yet and will have at most so many, and so many workers' ways into what is shown.
+    /// Begins the history of an opening, with no change yet and `history_limit` at most, and makes `seers` seers, one for each worker.
     /// `J` names the opening.
     ///
-    /// `Err` hands the device back: `Memory` was refused, or a worker's place, or the history's first one, wasn't given (`Places`), which
-    /// no run is known to meet. It is no other fault, and the device holds what the opening gave.
+    /// `Err` hands the device back, which holds what the opening gave. The fault is `Memory`, when out of memory, or `Places`, when a
+    /// worker or the history was given no place, which no run is known to meet.
     pub fn of(
         rt: R,
         alloc: Global,
@@ -110,7 +110,7 @@ impl<D: Disk + Drop, J: Chapter, R: Wait + Drop> Book<D, J, R> {
         ensures refused { IfErr result (λ e. IsUnshown e.0) }
         ensures seers { IfOk result (λ r. (length r.1.items ≡ seers) × All IsNewSeer r.1.items) }
 
-        // Of whatever world the device held this after, but for the epoch, it stands for that with an opening at its end.
+        // If the device held what some world leaves, but for the epoch, the Book stands for that world with an opening at its end.
         ensures worlds { IfOk result (λ r. (first d : PlainDurable) (world : List Event) → IsWorld first world → state_after (down first) world ≡ down d
             → d.epoch < last_epoch → opening.given ≡ raised d
             → StandsFor first (world_book r.0) (world ++ opened (setting_of opening history_limit) ∷ [])) }
@@ -151,7 +151,7 @@ impl<D: Disk + Drop, J: Chapter, R: Wait + Drop> Book<D, J, R> {
         }
     }
 
-    // Whether the history and the device have room for changes that leave this, kept as one group. No call of the device is made.
+    // Whether the history and the device have room for changes as one group, which leaves `next`. It makes no call of the device.
     fn find_room(&self, changes: &[Change], next: &Next) -> Result<(), Refusal>
         requires left { next.now.durable ≡ after self.now.whole.durable changes.now }
         requires group { is_group changes.now ≡ true }
@@ -176,7 +176,7 @@ impl<D: Disk + Drop, J: Chapter, R: Wait + Drop> Book<D, J, R> {
         Ok(())
     }
 
-    // Keeps a change of the core's, which leaves this, and shares it for a receipt. It isn't shown yet.
+    // Keeps a change that the core wants and that leaves `next`, and returns it for a receipt. It isn't shown yet.
     fn keep(&mut self, change: Change, next: Next) -> Result<Arc<Change>, Refusal>
         requires made { next ≡ left_by self.old.whole.durable change }
         requires fits { fits self.old.whole.durable change ≡ Ok tt }
@@ -199,7 +199,7 @@ impl<D: Disk + Drop, J: Chapter, R: Wait + Drop> Book<D, J, R> {
         Ok(change)
     }
 
-    // Saves changes as one group, for which the history has numbers and the device room, and notes them there.
+    // Saves changes as one group, for which the history and the device have room, and notes them in the history.
     fn save(&mut self, changes: &[Arc<Change>], next: Next) -> Result<(), Refusal>
         requires made { next ≡ left_together self.old.whole.durable (map arc_value changes.now) }
         requires fit { FollowInTurn self.old.whole.durable (made_all (map arc_value changes.now)) }
@@ -246,7 +246,7 @@ impl<D: Disk + Drop, J: Chapter, R: Wait + Drop> Book<D, J, R> {
         }
     }
 
-    // Shows all that was acknowledged, unless memory is refused: then what is shown stays.
+    // Shows all that was acknowledged. Returns false when out of memory: then what is shown stays as it is.
     fn show_all(&mut self) -> bool
         ensures device { self.new.disk ≡ self.old.disk }
         ensures size { self.new.size ≡ self.old.size }
@@ -271,7 +271,7 @@ impl<D: Disk + Drop, J: Chapter, R: Wait + Drop> Book<D, J, R> {
         }
     }
 
-    // Keeps a change that the core wants, and shows it. Where it is kept it is shared for a receipt.
+    // Keeps a change that the core wants, and shows it. If it was kept, it is returned for a receipt.
     fn make(&mut self, change: Change, next: Next, outcome: Outcome) -> (Reply, Option<Arc<Change>>)
         requires made { next ≡ left_by self.old.whole.durable change }
         requires fits { fits self.old.whole.durable change ≡ Ok tt }
@@ -300,7 +300,7 @@ impl<D: Disk + Drop, J: Chapter, R: Wait + Drop> Book<D, J, R> {
         }
     }
 
-    // What is asked of the history itself.
+    // Answers what is asked of the history itself.
     fn tell(&mut self, command: HistoryCommand) -> Reply
         ensures device { self.new.disk ≡ self.old.disk }
         ensures size { self.new.size ≡ self.old.size }
@@ -324,7 +324,7 @@ impl<D: Disk + Drop, J: Chapter, R: Wait + Drop> Book<D, J, R> {
         }
     }
 
-    // One call, wherever the opening has come to, with the change that it made, if it was kept.
+    // One call, whatever came before it in the opening. Returns the change that it made, if it was kept.
     fn call(&mut self, command: &Command) -> (Reply, Option<Arc<Change>>)
         ensures leads { (h : CurrentOpening) → IsAt h (world_book self.old) → Leads h (world_book self.new) (call command.now result.0)
             (upshot self.new.shown (nat_lt (D.fault_count self.old.disk) (D.fault_count self.new.disk))) }
@@ -353,25 +353,25 @@ impl<D: Disk + Drop, J: Chapter, R: Wait + Drop> Book<D, J, R> {
 
     /// One call. A change is saved before it is answered, and its number, from 1 on, is how many changes the history then has.
     ///
-    /// `Applied`: the change is on the device, and shown with all before it. `Stored`: it is on the device, and not shown yet, as memory
-    /// was refused for that. The refusals, in their order: `Halted`, where the device failed in an earlier call and the command may change
-    /// something; the core's own; `HistoryFull`, where the history has as many changes as it may have; `Full`, exactly where a bank has no room
-    /// for the change's record behind a snapshot of what was kept before, or less than 64 bytes left behind one of what is kept then; `Fault`,
-    /// where a call of the device failed. `Memory` may come instead of any reply but that to a judge, a test, a sum, a rollback and a `log`; but
-    /// once the core has made what a change leaves, the two limits come before any further want of memory. All growths but those for showing
-    /// come before the device is written.
+    /// `Applied`: the change is on the device, and shown with all before it. `Stored`: it is on the device but not shown yet, for want of
+    /// memory. The refusals, in this order: `Halted`, if the device failed in an earlier call and the command may change something; the
+    /// core's own; `HistoryFull`, if the history has as many changes as it may have; `Full`, exactly if a bank has no room for the change's
+    /// record after a snapshot of what was kept before, or fewer than 64 bytes left after a snapshot of what is kept then; `Fault`, if a
+    /// call of the device failed. `Memory` may come instead of any reply but those to a judge, a test, a sum, a rollback and a `log`; but
+    /// once the core has made what a change leaves, the two limits are tested before any more memory is taken. All memory but that for
+    /// showing is taken before the device is written.
     ///
-    /// For an answer no call of the device is made. After every refusal but `Fault` all is as before. After `Fault` the change stands in the
-    /// history, not acknowledged, all else is as before, and each later command that may change something is `Halted`.
+    /// An answer makes no call of the device. After every refusal but `Fault` all is as before. After `Fault` the change is in the history,
+    /// not acknowledged, all else is as before, and each later command that may change something is `Halted`.
     pub fn run(&mut self, command: Command) -> Reply
-        // The reply is legal in each world that the Book stood for, and it stands for that with this call at its end.
+        // The reply is legal in each world that the Book stood for, and the Book now stands for that world with this call at its end.
         ensures worlds { (first : PlainDurable) (world : List Event) → StandsFor first (world_book self.old) world →
             StandsFor first (world_book self.new) (world ++ called (call command result)
             (upshot self.new.shown (nat_lt (D.fault_count self.old.disk) (D.fault_count self.new.disk))) ∷ []) }
         ensures legal { (h : CurrentOpening) → IsAt h (world_book self.old)
             → LegalReply h command result (nat_lt (D.fault_count self.old.disk) (D.fault_count self.new.disk)) }
 
-        // At each moment of the call an image holds what some crash within it leaves of the opening, and after it what one then leaves.
+        // At each moment of the call an image holds what some crash within it leaves of the opening, and after it what a crash then leaves.
         ensures any_moment { (h : CurrentOpening) → IsAt h (world_book self.old)
             → EachMoment D.moment D.left_since self.old.disk self.new.disk (HoldsLeft h (calling command)) }
         ensures images { (h : CurrentOpening) → IsAt h (world_book self.new) → (c : List ℕ)
@@ -387,7 +387,7 @@ impl<D: Disk + Drop, J: Chapter, R: Wait + Drop> Book<D, J, R> {
         ensures base { self.new.base ≡ self.old.base }
         ensures setting { (world_book self.new).setting ≡ (world_book self.old).setting }
 
-        // What an opening needs of each image at each moment of the call.
+        // What a later opening needs of each image, at each moment of the call.
         ensures openable { StaysOpenable D.moment D.left_since self.old self.new }
 
         ensures moments { D.moment self.new.disk ≤ D.moment self.old.disk + 10 }
@@ -395,7 +395,7 @@ impl<D: Disk + Drop, J: Chapter, R: Wait + Drop> Book<D, J, R> {
         ensures faults { D.fault_count self.new.disk ≡ D.fault_count self.old.disk + (if is_fault_reply result then 1 else 0) }
     {
         let (reply, _) = self.call(&command);
-        // looked at, so that what a Book keeps is known here
+        // reading a field makes the Book's invariant known here
         let _ = &self.core;
         reply
     }
@@ -407,12 +407,12 @@ impl<D: Disk + Drop, J: Chapter, R: Wait + Drop> Book<D, J, R> {
         ensures openable { IsOpenable D.seen D.unsynced self.now }
         ensures folded { IsFolded (world_book self.now) }
     {
-        // looked at, so that what a Book keeps is known here
+        // reading a field makes the Book's invariant known here
         let _ = &self.core;
     }
 
-    /// What happens to a packet, by what is kept: the call that asks for it, made without its command and its reply, which are long to
-    /// move. It changes nothing, and memory is never refused for it.
+    /// What happens to a packet, by what is kept. It is the call that asks for this, made without its command and its reply, which are long
+    /// to move. It changes nothing, and never runs out of memory.
     pub fn judge(&self, packet: &Packet) -> Verdict
         ensures worlds { (first : PlainDurable) (world : List Event) → StandsFor first (world_book self.now) world →
             StandsFor first (world_book self.now) (world ++ called (judging packet.now result) (upshot self.now.shown false) ∷ []) }
@@ -428,7 +428,7 @@ impl<D: Disk + Drop, J: Chapter, R: Wait + Drop> Book<D, J, R> {
         self.log.len()
     }
 
-    /// The change of this number, from 1 on; none has a greater one than the history has changes.
+    /// The change with this number, from 1 on, or none if the history has fewer changes.
     pub fn change_at(&self, number: usize) -> Option<&Change>
         ensures { option_map (λ change. change.now) result ≡ change_in (log_in (world_book self.now)) number }
     {
@@ -441,14 +441,14 @@ impl<D: Disk + Drop, J: Chapter, R: Wait + Drop> Book<D, J, R> {
         }
     }
 
-    /// How many of them were acknowledged: all, or all but those of one call.
+    /// How many of the changes were acknowledged: all, or all but those of one call.
     pub fn acked(&self) -> usize
         ensures { result ≡ length (flat self.now.acked) }
     {
         self.acked
     }
 
-    /// How many of them are shown to packet workers.
+    /// How many of the changes are shown to packet workers.
     pub fn shown(&self) -> usize
         ensures { result ≡ self.now.shown }
     {
@@ -469,7 +469,7 @@ impl<D: Disk + Drop, J: Chapter, R: Wait + Drop> Book<D, J, R> {
         self.store.disk()
     }
 
-    /// The device as it stands. Workers see nothing any more.
+    /// Gives the device back as it is. Workers see nothing any more.
     pub fn into_disk(self) -> D
         ensures { result ≡ self.disk }
     {

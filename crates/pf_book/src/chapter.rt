@@ -1,13 +1,13 @@
-//! The name of an opening, with what it keeps within.
+//! The name of an opening, with its limits.
 use pf_past::Naming;
 use std::marker::Brand;
 
-/// Names one opening with its history and what it keeps within, so that a type can say of which one its values are. A program picks it once,
+/// Names one opening with its history and its limits, so that a type can say which opening its values belong to. A program picks it once,
 /// when it has the opening.
 pub trait Chapter: Naming {
     ghost use Rattle.pf_core.specs.Worlds.{Setting};
 
-    /// What the opening keeps within.
+    /// The limits that the opening keeps within.
     ghost setting: { Setting };
 }
 

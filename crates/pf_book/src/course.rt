@@ -1,4 +1,4 @@
-//! What the commands of a group come to, one after the other, before any of it is kept.
+//! What the commands of a group come to, one after the other, before anything is kept.
 ghost use Rattle.std.specs.{Prelude.{◌≡◌, ◌≢◌, ◌≤◌, ◌<◌, ◌+◌, ◌^◌, ◌++◌, ◌∷◌, [], List, IfOk, OnOk, Ok, Err, true, length, map}, List.{AllByRecursion, list_all}};
 ghost use Rattle.pf_ticket.specs.{Laws.Tickets.IsWithin as AreTicketsWithin, Mentions.{after as moved_by, switches}};
 ghost use Rattle.pf_core.specs.declared.reply.Refusal.TheVariants as told;
@@ -11,7 +11,7 @@ use pf_core::{Change, Command, Core, Next, ReadyStep, Refusal, Reply};
 use std::alloc::{AllocError, Global};
 use std::mem;
 
-/// The replies to a group's commands so far, the changes that these want, and what all of them leave, where there are any.
+/// The replies to a group's commands so far, the changes that these want, and what all of them leave, if there are any.
 #[derive(Drop)]
 pub(crate) struct Course {
     pub(crate) replies: Vec<Reply>,
@@ -20,7 +20,7 @@ pub(crate) struct Course {
 }
 
 impl Course {
-    // The step of the next command, behind the changes so far.
+    // The step of the next command, after the changes so far.
     fn step(&self, core: &mut Core, command: &Command) -> Result<ReadyStep, Refusal>
         requires may { may_be_grouped command.now ≡ true }
         ensures reply { (plain result ≢ Err told.Memory) → plain result ≡ step_by
@@ -35,7 +35,7 @@ impl Course {
         }
     }
 
-    // Takes the step of one command more, behind so many changes that were acknowledged.
+    // Adds the step of the next command. `acked` changes were acknowledged before the group.
     fn take(&mut self, acked: usize, step: Result<ReadyStep, Refusal>) -> Result<(), AllocError>
         requires few { (acked < 2 ^ 62) × (length self.old.changes.items < 2 ^ 62) }
         requires own { (x : HistoryCommand) → plain step ≢ Ok (OfHistory x) }
@@ -61,8 +61,7 @@ impl Course {
     }
 }
 
-/// What the commands of a group come to, behind so many changes that were acknowledged. `AllocError`: memory was refused, and nothing
-/// changes.
+/// What the commands of a group come to, after `acked` changes that were acknowledged. `AllocError`: out of memory, and nothing changes.
 pub(crate) fn course_of(
     alloc: Global,
     core: &mut Core,
@@ -92,7 +91,7 @@ pub(crate) fn course_of(
     Ok(course)
 }
 
-// A change that is kept and not shown.
+// The reply to a change that is kept but not shown.
 fn stored(reply: Reply) -> Reply
     ensures { result ≡ as_stored reply }
 {
@@ -102,7 +101,7 @@ fn stored(reply: Reply) -> Reply
     }
 }
 
-/// Says of all changes that they are kept and not shown. It takes no memory.
+/// Makes the replies say of all changes that they are kept but not shown. It takes no memory.
 pub(crate) fn all_stored(replies: &mut [Reply])
     ensures { replies.new ≡ map as_stored replies.old }
 {

@@ -1,4 +1,4 @@
-//! What the definitions come to, whoever made what they speak of: receipts, and openings after crashes.
+//! What follows from the definitions alone, whoever made the values: of receipts, and of openings after crashes.
 ghost use Rattle.std.specs.Prelude.{◌≡◌, ◌⊎◌, ◌^◌, ◌<◌, ◌≤◌, ◌++◌, ◌∷◌, [], ℕ, List, length, Option, Some};
 ghost use mathlib.Core.List.{IsPrefix};
 ghost use Rattle.pf_core.specs.declared.{command.Command.Command, reply.Outcome.Outcome, reply.Reply.Reply, reply.Reply.TheVariants.{Applied, Stored}};
@@ -7,9 +7,9 @@ ghost use Rattle.pf_store.specs.declared.store.fault.{OpenFault.OpenFault, OpenF
 ghost use Rattle.pf_store.specs.{Openings.{IsNoLaterThan, IsUnopened, LeavesRoom}, Stores.{Holds, IsRoomy}};
 ghost use Rattle.pf_book.specs.{Books.HoldsLeft, Receipts.{PlainReceipt, IsAnswered}};
 
-/// The receipt that a caller hands in and the one that it is given: the front of the first begins that of the second, and has fewer changes
-/// where the call made one; as many changes as were acknowledged at the first one's reply are at the second's. A reply's number is that of
-/// its receipt, and so many changes are acknowledged then: they stay so at each later call, where each hands in the receipt of the one
+/// The receipt that a caller hands in and the one that it gets: the front of the first begins that of the second, and has fewer changes if
+/// the call made one; at the second one's reply at least as many changes are acknowledged as at the first one's. A reply's number is that
+/// of its receipt, and so many changes are acknowledged then. They stay so at each later call, if each hands in the receipt of the one
 /// before.
 pub fn receipts()
     ensures begins { (base : PlainDurable) (setting : Setting) (c : Command) (r : Reply) (slip last : PlainReceipt)
@@ -24,17 +24,17 @@ pub fn receipts()
         → IsAnswered base setting c (Stored seq o) slip last → (seq ≡ length slip.front) × (seq ≡ slip.acked) }
 {}
 
-/// Whatever image a crash leaves of an opening, within a call or between two: what an opening of that image gives stands for the world with
-/// the crash and the new opening at its end.
+/// Whatever image a crash leaves, within a call or between two: what an opening of that image gives stands for the world with the crash and
+/// the new opening at its end.
 pub fn crashes_are_opened()
     ensures { (first : PlainDurable) (world : List Event) (h : CurrentOpening) (doing : Doing) (image : List ℕ) (d : PlainDurable) (setting : Setting) (b : WorldBook)
         → IsWorld first world → state_after (down first) world ≡ up h → HoldsLeft h doing image → Holds image d → d.epoch < last_epoch
         → IsAt (begun setting (raised d)) b → IsFolded b → (n : ℕ) × StandsFor first b ((world ++ crashed doing n ∷ []) ++ opened setting ∷ []) }
 {}
 
-/// Whatever image a crash leaves of an opening, where it holds what it holds by a generation below 2^63 and leaves an opening room: only want of
-/// memory or a fault of the device keeps it from being opened, or that its epoch is the last one. An opening leaves as much room as it found,
-/// and what `Book::run` says of each image makes it so.
+/// If an image that a crash leaves has a generation below 2^63 and room for an opening, then only want of memory, a fault of the device or
+/// an epoch that is the last one keeps it from being opened. An opening leaves as much room as it found, and the clause `openable` of
+/// `Book::run` says the same of a call.
 pub fn left_images_are_refused_by_chance_alone()
     ensures chance { (h : CurrentOpening) (doing : Doing) (image : List ℕ) (generation : ℕ) (fault : OpenFault) → HoldsLeft h doing image
         → IsNoLaterThan generation image → generation < 2 ^ 63 → LeavesRoom image → IsUnopened fault image

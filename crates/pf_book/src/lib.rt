@@ -1,24 +1,30 @@
-//! One history over a device: what an opening gave, each change since, saved before it is answered, and shown to packet workers.
+//! One history over a device: what an opening gave, and each change since, saved before it is answered and shown to packet workers.
 //!
-//! The crate joins `pf_core`, which tells the one step that a command may get, `pf_store`, which saves a change, `pf_past`, which notes it in the
-//! history, and `pf_view`, which shows it. It knows no text, no bytes of a change and no rule. The modules:
+//! The crate joins `pf_core`, which says the one step that a command may get, `pf_store`, which saves a change, `pf_past`, which notes it
+//! in the history, and `pf_view`, which shows it. It knows no text, no bytes of a change and no rule. The modules:
 //!
 //! - `opening`: [`Opening`], a device that was opened.
-//! - `book`: [`Book`], the history of an opening, which answers commands.
-//! - `showing`: what is shown of a history; `book` uses it.
-//! - `saving`: what a save of changes needs in memory; `book` uses it.
-//! - `course`: what the commands of a group come to, one after the other; `book` uses it.
-//! - `chapter`: [`Chapter`], the name of an opening.
-//! - `receipt`: [`Receipt`], what a caller is given with a reply.
-//! - `worker`: what a worker does with a receipt: [`judge_after`].
+//! - `book`: [`Book`], the history of an opening, which answers commands, one by one or in groups.
+//! - `showing`, `saving`, `course`: used by `book`: what is shown of a history, the memory that a save needs, and what the commands of a
+//!   group come to one after the other.
+//! - `chapter`: [`Chapter`], the name of an opening, as a type.
+//! - `receipt`: [`Receipt`], what a caller gets with a reply.
+//! - `worker`: what a worker does with a receipt: [`learn_from`] and [`judge_after`].
 //! - `shared`: [`Shared`], a Book under a lock.
-//! - `laws`: what receipts come to, and openings after crashes.
+//! - `laws`: what follows for receipts, and for openings after crashes.
 //!
-//! Read first `specs/Books.antt`: what a Book is to contracts, then `specs/Receipts.antt`. What a Book keeps to is in the words of `pf_core`'s
-//! worlds.
+//! Read `specs/Books.antt` first: what contracts see of a Book; then `specs/Receipts.antt` and `specs/Groups.antt`. Contracts say what a
+//! Book does in the words of `pf_core`'s worlds.
 //!
-//! What its users need of the devices and of the store is given out again: [`MemDisk`], [`FileDisk`], [`FuseDisk`], [`format`], and [`Store`] for
-//! its `peek`.
+//! Proved, by public contracts: every reply is legal, and the Book stands for the world with the call at its end; at each moment of a call
+//! an image of the device holds what some crash within the call leaves ([`Book::run`], [`Book::group`]); each receipt's front begins the
+//! later history ([`Shared::run`], [`Shared::group`], [`Book::confirm`]), and so does what a seer saw and learnt ([`Book::covers`]); after
+//! `Applied` a worker that has the receipt judges by that change and all before it ([`judge_after`]); and an opening of any image that a
+//! crash leaves goes on with the same world ([`Opening::open`], `laws::crashes_are_opened`). Not proved is that no run meets
+//! `OpenFault::Places` or `Gone`. The crate has no tests: nothing here is only tested.
+//!
+//! What its users need of the devices and of the store is exported again: [`MemDisk`], [`FileDisk`], [`FuseDisk`], [`format`], and
+//! [`Store`] for its `peek`.
 #![tactic(auto)]
 
 mod book;

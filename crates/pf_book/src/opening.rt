@@ -13,8 +13,8 @@ use std::alloc::Global;
 use std::marker::Model;
 use std::sync::Arc;
 
-/// A device that was opened, and what it held, in the next epoch, with a new history. A `Book` is made of it; until then it takes no
-/// change. Contracts see it as an `PlainOpening`.
+/// A device that was opened, with what it held, in the next epoch, and a new history. A `Book` is made of it; until then it takes no
+/// change. Contracts see it as a `PlainOpening`.
 #[derive(Drop)]
 pub struct Opening<D: Disk> {
     pub(crate) durable: Arc<Durable>,
@@ -34,11 +34,11 @@ impl<D: Disk> Model for Opening<D> {
 }
 
 impl<D: Disk> Opening<D> {
-    /// Opens a device, whatever a crash or a fault made of it, in fifteen moments of the device at most. What was read gets the next epoch,
+    /// Opens a device, whatever a crash or a fault made of it, in at most fifteen moments of the device. What was read gets the next epoch,
     /// which is on the device before this returns, so that no ticket of an earlier opening is ever valid again.
     ///
-    /// `Err` hands the device back with the cause, as [`OpenFault`] tells them. It reads as before, and each image is one from before, but
-    /// for `Fault` and `Memory`, after which an image may hold what was read with the next epoch.
+    /// `Err` hands the device back with the cause, as [`OpenFault`] lists them. The device reads as before, and each image is one from
+    /// before, except after `Fault` and `Memory`: then an image may hold what was read with the next epoch.
     pub fn open(alloc: Global, disk: D) -> Result<Opening<D>, (OpenFault, D)>
         requires few { D.fault_count disk < 2 ^ 63 }
 
@@ -47,7 +47,7 @@ impl<D: Disk> Opening<D> {
         ensures images { IfOk result (λ o. (c : List ℕ) → IsImage (D.seen o.disk) (D.unsynced o.disk) c → Holds c o.given) }
         ensures within { IfOk result (λ o. IsWithin o.given) }
 
-        // By the generation that was found, which is below 2^63, or the next one.
+        // Its generation is the one that was found, which is below 2^63, or the next one.
         ensures generation { IfOk result (λ o. (d : PlainDurable) × (held : Holds (D.seen disk) d)
             × (o.generation ≤ generation_of (D.seen disk) d held + 1) × (generation_of (D.seen disk) d held < 2 ^ 63)) }
         ensures generations { IfOk result (λ o. (c : List ℕ) → IsImage (D.seen o.disk) (D.unsynced o.disk) c → IsNoLaterThan o.generation c) }
@@ -55,8 +55,8 @@ impl<D: Disk> Opening<D> {
         ensures size { IfOk result (λ o. o.size ≡ bank_size (length (D.seen o.disk))) }
         ensures room { IfOk result (λ o. (d : PlainDurable) → ¬ IsFull (D.seen disk) d) }
 
-        // At each moment an image is one from the start, or holds what was read, its epoch perhaps one greater: by the generation that was
-        // found or the next one, and with room for another opening where there was room.
+        // At each moment an image is one from the start, or holds what was read, its epoch perhaps one greater: with the generation that
+        // was found or the next one, and with room for another opening if there was room.
         ensures any_moment { IfOk result (λ o. EachMoment D.moment D.left_since disk o.disk (IsOfOpening (D.seen disk) (D.unsynced disk))) }
         ensures any_moment_err { IfErr result (λ e. EachMoment D.moment D.left_since disk e.1 (IsOfOpening (D.seen disk) (D.unsynced disk))) }
 
@@ -88,7 +88,7 @@ impl<D: Disk> Opening<D> {
         &self.durable
     }
 
-    /// The device as it stands.
+    /// Gives the device back as it is.
     pub fn into_disk(self) -> D
         ensures { result ≡ self.disk }
     {

@@ -1,4 +1,4 @@
-//! What a caller is given with a reply.
+//! The receipt that a caller gets with a reply.
 ghost use Rattle.std.specs.Prelude.{◌≡◌, length};
 ghost use Rattle.std.specs.{Arc.arc_value, Option.{ForSome, option_copied, option_map}};
 ghost use Rattle.pf_book.specs.Receipts.{EndsIn};
@@ -10,11 +10,11 @@ use pf_view::Token;
 use std::marker::Model;
 use std::sync::Arc;
 
-/// Stands for the history as it was at a reply, in a group with its changes so far: each later history of the opening begins with it.
+/// Stands for the history as it was at a reply, in a group with its changes so far. Each later history of the opening begins with it.
 /// Contracts see it as a `PlainReceipt`.
 #[derive(Drop)]
 pub struct Receipt<J: Chapter> {
-    // the history behind the call, of which the first so many changes are the receipt's
+    // the history after the call, whose first `seq` changes are the receipt's
     pub(crate) front: Front<J>,
     pub(crate) seq: usize,
     pub(crate) change: Option<Arc<Change>>,
@@ -33,8 +33,8 @@ impl<J: Chapter> Model for Receipt<J> {
 }
 
 impl<J: Chapter> Receipt<J> {
-    /// The number of the reply's change, from 1 on; where the reply has none, how many changes the history had at the reply. One that wasn't
-    /// acknowledged, since the device failed, counts.
+    /// The number of the reply's change, from 1 on; if the reply has none, how many changes the history had at the reply. Changes that
+    /// weren't acknowledged because the device failed count too.
     pub fn seq(&self) -> usize
         ensures seq { result ≡ length self.now.front }
         ensures last { ForSome self.now.change (λ e. EndsIn self.now.front e) }
@@ -52,8 +52,8 @@ impl<J: Chapter> Receipt<J> {
         }
     }
 
-    /// What a worker may learn, so that it judges by the whole history at the reply, whose last change is the reply's: there is one exactly
-    /// after `Applied`.
+    /// What a worker may learn, so that it judges by the whole history at the reply at least, whose last change is the reply's. There is
+    /// one exactly after `Applied`.
     pub fn token(&self) -> Option<&Token<J>>
         ensures { option_copied result ≡ self.now.token }
     {

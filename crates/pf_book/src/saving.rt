@@ -1,4 +1,4 @@
-//! What a save of changes needs in memory, and where the changes go then.
+//! What a save of changes needs in memory, and where the changes go afterwards.
 ghost use Rattle.std.specs.Prelude.{◌≡◌, ◌+◌, ◌<◌, ◌≤◌, ◌++◌, IfOk, OnOk, length, map, vec_len, vec_capacity, if◌then◌else◌};
 ghost use Rattle.std.specs.Arc.{arc_value};
 
@@ -8,14 +8,14 @@ use pf_past::{Naming, Tip};
 use std::alloc::{AllocError, Global};
 use std::sync::Arc;
 
-/// A change that can have several owners. `AllocError`: memory was refused.
+/// A change that can have several owners. `AllocError`: out of memory.
 pub(crate) fn share(alloc: Global, change: Change) -> Result<Arc<Change>, AllocError>
     ensures { IfOk result (λ c. arc_value c ≡ change) }
 {
     Ok(Arc::new(alloc, change)?)
 }
 
-/// Changes that can have several owners. `AllocError`: memory was refused.
+/// Changes that can have several owners. `AllocError`: out of memory.
 pub(crate) fn share_all(alloc: Global, changes: Vec<Change>) -> Result<Vec<Arc<Change>>, AllocError>
     ensures { IfOk result (λ v. map arc_value v.items ≡ changes.items) }
 {
@@ -34,8 +34,8 @@ pub(crate) struct Copies {
     pub(crate) after: Arc<Durable>,
 }
 
-/// Shares changes that leave this, and makes places for them in a log and for their number among the groups' sizes. `AllocError`: the log and
-/// the sizes are as before.
+/// Shares changes, which leave `next`, and makes room for them in the log and for their number among the groups' sizes. After `AllocError`
+/// the log and the sizes are as before.
 pub(crate) fn prepare(
     alloc: Global,
     log: &mut Vec<Arc<Change>>,
@@ -63,7 +63,7 @@ pub(crate) fn prepare(
     })
 }
 
-/// Puts changes behind a log that has places for them.
+/// Appends changes to a log that has room for them.
 pub(crate) fn put_all(log: &mut Vec<Arc<Change>>, mut changes: Vec<Arc<Change>>)
     requires room { vec_len log.old + vec_len changes ≤ vec_capacity log.old }
     ensures { log.new.items ≡ log.old.items ++ changes.items }
@@ -74,7 +74,7 @@ pub(crate) fn put_all(log: &mut Vec<Arc<Change>>, mut changes: Vec<Arc<Change>>)
     }
 }
 
-/// Notes changes in the history, which were acknowledged or not.
+/// Notes changes in the history, as acknowledged or not.
 pub(crate) fn note_all<J: Naming>(tip: &mut Tip<J>, changes: Vec<Arc<Change>>, acked: bool)
     ensures front { tip.new.front ≡ tip.old.front ++ map arc_value changes.items }
     ensures acked { tip.new.acked ≡ tip.old.acked + (if acked then length changes.items else 0) }

@@ -12,7 +12,7 @@ use pf_disk::Disk;
 use std::marker::Model;
 use std::sync::{Mutex, Wait};
 
-// What lies under the lock: a Book that stands for some world of this opening.
+// What is under the lock: a Book that stands for some world of this opening.
 #[derive(Drop)]
 struct Locked<D: Disk + Drop, J: Chapter, R: Wait + Drop> {
     book: Book<D, J, R>,
@@ -29,7 +29,7 @@ impl<D: Disk + Drop, J: Chapter, R: Wait + Drop> Model for Locked<D, J, R> {
 }
 
 impl<D: Disk + Drop, J: Chapter, R: Wait + Drop> Locked<D, J, R> {
-    // One call, and no other. At each moment of it an image of the device holds what some crash within it leaves of the opening.
+    // One call. At each moment of it an image of the device holds what some crash within it leaves of the opening.
     fn run(&mut self, command: &Command, last: Option<&Receipt<J>>) -> (Reply, Receipt<J>)
         ensures answered { IsAnswered J.base J.setting command.now result.0 result.1 (option_copied last.entry) }
         ensures leads { (h : CurrentOpening) → IsAt h (world_book self.old) → Leads h (world_book self.new) (call command.now result.0)
@@ -44,7 +44,7 @@ impl<D: Disk + Drop, J: Chapter, R: Wait + Drop> Locked<D, J, R> {
         answer
     }
 
-    // One group, and no other call. At each moment of it an image of the device holds what some crash within it leaves of the opening.
+    // One group. At each moment of it an image of the device holds what some crash within it leaves of the opening.
     fn group(
         &mut self,
         commands: &[Command],
@@ -83,8 +83,8 @@ impl<D: Disk + Drop, J: Chapter, R: Wait + Drop> Shared<D, J, R> {
     /// One call, as `Book::run` answers it, with a receipt. It waits for the lock, and under it for workers that are judging.
     ///
     /// The reply is legal in a world of this opening whose last event is this call. The receipt's front is the history after it, and begins
-    /// with that of a receipt that is handed in; that receipt's change, where it has one, is acknowledged there. Each reply has a receipt,
-    /// also `Memory`: what a receipt needs was made before the device was written, or takes no memory.
+    /// with the front of a receipt that is handed in; that receipt's change, if it has one, is acknowledged there. Each reply has a
+    /// receipt, `Memory` too: what a receipt needs was made before the device was written, or takes no memory.
     pub fn run<W: Wait>(
         &self,
         rt: &W,
@@ -96,14 +96,14 @@ impl<D: Disk + Drop, J: Chapter, R: Wait + Drop> Shared<D, J, R> {
         self.locked.lock(rt).run(&command, last)
     }
 
-    /// A group of commands, as `Book::group` runs it, with a receipt for each reply. It waits for the lock, and under it for workers that are
-    /// judging.
+    /// A group of commands, as `Book::group` runs it, with a receipt for each reply. It waits for the lock, and under it for workers that
+    /// are judging.
     ///
-    /// The replies are legal in a world of this opening whose last event is this group. Each receipt's front is the history up to and with the
-    /// changes of the group's commands so far; its change is the one that its command wanted, if it was kept; and after `Applied` its token is
-    /// of all that the group's history shows. The history before the group begins with the front of a receipt that is handed in, and that
-    /// receipt's change, where it has one, is acknowledged there. `Err` refuses the group whole, as `Book::group` says, and is legal in such a
-    /// world too. The places for the answers are made before the device is written.
+    /// The replies are legal in a world of this opening whose last event is this group. Each receipt's front is the history with the
+    /// changes of the group's commands so far; its change is the one that its command wanted, if it was kept; and after `Applied` its token
+    /// is of the whole history after the group. The history before the group begins with the front of a receipt that is handed in, and that
+    /// receipt's change, if it has one, is acknowledged there. `Err` refuses the whole group, as `Book::group` says, and is legal in such a
+    /// world too. The room for the answers is made before the device is written.
     pub fn group<W: Wait>(
         &self,
         rt: &W,
@@ -116,8 +116,8 @@ impl<D: Disk + Drop, J: Chapter, R: Wait + Drop> Shared<D, J, R> {
     }
 
     /// The Book, once all callers have ended. It confirms each receipt of this opening, and each image of its device holds what a crash
-    /// leaves of the opening, as behind each call of `Book::run`, by the next generation at most and with room for an opening where what
-    /// the last one gave leaves it.
+    /// leaves of the opening, as after each call of `Book::run`: with the next generation at most, and with room for an opening if what the
+    /// last one gave leaves it.
     pub fn close(self) -> Book<D, J, R>
         ensures reached { IsReached J.base J.setting (world_book result) }
         ensures images { (h : CurrentOpening) → IsAt h (world_book result) → (c : List ℕ)

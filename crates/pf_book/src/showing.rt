@@ -10,7 +10,7 @@ use pf_view::Shower;
 use std::alloc::{AllocError, Global};
 use std::sync::{Arc, Wait};
 
-/// The same changes, shared. `AllocError`: one of them can't have another owner, or memory was refused.
+/// The same changes, shared. `AllocError`: one of them can't have another owner, or out of memory.
 pub(crate) fn shared(alloc: Global, changes: &[Arc<Change>]) -> Result<Vec<Arc<Change>>, AllocError>
     ensures { IfOk result (λ v. map arc_value v.items ≡ map arc_value changes.now) }
 {
@@ -21,8 +21,8 @@ pub(crate) fn shared(alloc: Global, changes: &[Arc<Change>]) -> Result<Vec<Arc<C
     Ok(all)
 }
 
-/// Offers what was acknowledged and not offered yet, with what all of it leaves and the front of the history that all of it is, and says
-/// whether all that was acknowledged is offered then. It isn't where memory was refused.
+/// Offers the changes that were acknowledged and not offered yet, with what all acknowledged changes leave and the front that they are.
+/// Returns whether all that was acknowledged is offered now: it isn't when out of memory.
 pub(crate) fn offer_rest<J: Naming, R: Wait + Drop>(
     shower: &mut Shower<J, R>,
     alloc: Global,

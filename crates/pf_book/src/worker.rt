@@ -10,7 +10,7 @@ use pf_core::Verdict;
 use pf_rule::Packet;
 use pf_view::{Gone, Seer};
 
-/// Learns what a receipt tells: from now on each verdict is by a front that begins with the receipt's, where this is of an `Applied`.
+/// Learns what a receipt says: if it is of an `Applied`, each later verdict is by a front that begins with the receipt's.
 pub fn learn_from<J: Chapter>(seer: &mut Seer<J>, receipt: &Receipt<J>)
     ensures learnt { seer.new ≡ learns_from receipt.now.token seer.old }
     ensures told { ForSome receipt.now.token (λ t. IsPrefix t seer.new.learnt) }
@@ -19,14 +19,14 @@ pub fn learn_from<J: Chapter>(seer: &mut Seer<J>, receipt: &Receipt<J>)
     if let Some(token) = receipt.token() {
         seer.learn(token);
     } else {
-        // looked at, so that what a seer keeps is known here
+        // reading it makes the seer's invariant known here
         let _ = seer.learnt();
     }
 }
 
-/// Learns what a receipt tells, and judges. The verdict is by a front of the history that begins with all that this seer saw and learnt
+/// Learns what a receipt says, and judges. The verdict is by a front of the history that begins with all that this seer saw and learnt
 /// before, and after `Applied` with the whole history at that reply, whose last change is the reply's. `Gone`: it judged nothing and saw
-/// nothing new, but has learnt what the receipt tells.
+/// nothing new, but has learnt what the receipt says.
 pub fn judge_after<J: Chapter>(
     seer: &mut Seer<J>,
     receipt: &Receipt<J>,

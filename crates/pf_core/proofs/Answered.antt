@@ -1,4 +1,4 @@
--- What tests and judges are told, of what any legal world holds.
+-- How tests and judges are answered, by what any legal world holds.
 use Rattle.std.proofs.Common.{◌≡◌, Bool, false, Option, Some, None, refl, ap, inl, inr}
 use Rattle.std.specs.Option.{option_map_or}
 use Rattle.pf_rule.specs.Packets.{PlainPacket}
@@ -14,7 +14,7 @@ none-stands-in : (h : CurrentOpening) (c : Command) (failed : Bool) (a : Answer)
 none-stands-in h c failed a (Refused Memory) none stands = cc (none, stands)
 none-stands-in h c failed a r none stands = stands
 
--- to a question that takes no memory the one reply is legal that is due
+-- to a question that takes no memory only the reply that is due is legal
 only-due : (h : CurrentOpening) (q : Question) (r : Reply) (failed : Bool) → asks_for_memory q ≡ false → LegalReply h (Ask q) r failed → r ≡ Answered (answer_of (durable_of h) q)
 only-due h q r failed none (inl is) = is
 only-due h q r failed none (inr stands) = absurd (none-stands-in h (Ask q) failed (answer_of (durable_of h) q) r none stands)

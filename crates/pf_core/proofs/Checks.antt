@@ -1,11 +1,11 @@
--- What names nothing twice.
+-- Commits that name nothing twice.
 use Rattle.std.proofs.{Common.{◌≡◌, ℕ, not, Bool, true, false, List, [], ◌∷◌, Option, Some, None, Ok, refl, ap, ◌∙◌, cond, length, arith}, lemmas.Bool.Decides.nat_tests}
 use Rattle.std.specs.{Prelude.{map, nat_lt}, List.{list_all, position, prefix_len}, Option.option_or}
 use Rattle.pf_addr.specs.Refusing.{refused_at}
 use Rattle.pf_ticket.specs.Replies.{twice_behind}
 use Rattle.pf_core.specs.{declared.{durable.change.Item.Item, durable.refusal.ChangeRefusal.TheVariants.Twice}, Durable.Changes.{name_of, is_in_order, named_again}}
 
--- where all pass none fails
+-- if all pass, none fails
 all-pass : (is : List Item) → list_all is_in_order is ≡ true → prefix_len (λ (i : Item). not (not (is_in_order i))) is ≡ length is
 all-pass [] h = refl
 all-pass (i ∷ is) h = by (is_in_order i) refl h (all-pass is) where

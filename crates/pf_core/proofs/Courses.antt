@@ -14,23 +14,23 @@ flat-grouped : (es : List PlainChange) → flat (grouped es) ≡ es
 flat-grouped [] = refl
 flat-grouped (e ∷ es) = append-nil (e ∷ es)
 
--- behind these groups one of these changes
+-- appending these changes as a group appends them to the changes of all groups
 pub flat-with : (gs : List (List PlainChange)) (es : List PlainChange) → flat (gs ++ grouped es) ≡ flat gs ++ es
 flat-with gs es = flat-append gs (grouped es) ∙ ap (λ (l : List PlainChange). flat gs ++ l) (flat-grouped es)
 
 pub length-with : (gs : List (List PlainChange)) (es : List PlainChange) → length (flat (gs ++ grouped es)) ≡ length (flat gs) + length es
 length-with gs es = ap length (flat-with gs es) ∙ length-append (flat gs) es
 
--- what is kept in the course of a group
+-- what is kept in the middle of a group
 pub durable-amid : (h : CurrentOpening) (changes : List PlainChange) → durable_of (amid h changes) ≡ after (durable_of h) changes
 durable-amid h changes = ap (after h.base) (flat-with h.acked changes) ∙ fold-append applied h.base (flat h.acked) changes
 
--- the log in its course, where nothing was left without an acknowledgement
+-- the log there, if nothing was left unacknowledged
 pub log-amid : (h : CurrentOpening) (changes : List PlainChange) → h.pending ≡ [] → length (log_of (amid h changes)) ≡ length (flat h.acked) + length changes
 log-amid h changes none =
     ap (λ (gs : List (List PlainChange)). length (flat ((h.acked ++ grouped changes) ++ gs))) none ∙ ap (λ (gs : List (List PlainChange)). length (flat gs)) (append-nil (h.acked ++ grouped changes)) ∙ length-with h.acked changes
 
--- the tickets in its course, with more changes
+-- the tickets there, after more changes
 pub tickets-amid : (h : CurrentOpening) (changes more : List PlainChange) → moved_by (amid h changes).tickets (switches (flat_map voided_by more)) ≡ (amid h (changes ++ more)).tickets
 tickets-amid h changes more =
     let before : List RulesetName = flat_map voided_by changes in
@@ -46,8 +46,8 @@ pub record IsSilent (a : Answer) : Type 0 where
   pub shown : (n : ℕ) → shown_by_answer a n ≡ n
   pub hidden : (hidden : Bool) → hides hidden (Answered a) ≡ hidden
 
--- A packet that is tracked may be answered so, and no ruleset is mentioned; or a change is wanted, and the rulesets are mentioned whose tickets
--- it voids; or the command is refused.
+-- What a group's command comes to: such an answer, for a packet that is tracked, with no ruleset mentioned; or a change that is wanted,
+-- with the rulesets mentioned whose tickets it voids; or a refusal.
 pub data IsOfGroup : Command → Result Step Refusal → Type 0 where
   told : (c : Command) (a : Answer) → mentioned c ≡ [] → IsSilent a → IsOfGroup c (Ok (Done a))
   wanted : (c : Command) (e : PlainChange) (o : Outcome) → mentioned c ≡ switches (voided_by e) → IsOfGroup c (Ok (Wants e o))
@@ -84,11 +84,11 @@ unhalted-in h c none = by (may_change c) (is_halted h.pending) (ap is_halted non
   by true false is = refl
   by false halted is = refl
 
--- the step in the course of a group, by what is kept and by the tickets there
+-- the step in the middle of a group, by what is kept there and by the tickets there
 pub step-there : (h : CurrentOpening) (changes : List PlainChange) (c : Command) → h.pending ≡ [] → step_in (amid h changes) c ≡ step_by (amid h changes).tickets (after (durable_of h) changes) c
 step-there h changes c none = unhalted-in (amid h changes) c none ∙ ap (λ (d : PlainDurable). step_by (amid h changes).tickets d c) (durable-amid h changes)
 
--- what is prepared there, with one change more
+-- what is prepared there, after one more change
 pub left-there : (d : PlainDurable) (changes : List PlainChange) (e : PlainChange) → left_behind (next_with (after d changes) (flat_map voided_by changes)) e ≡ next_with (after d (changes ++ e ∷ [])) (flat_map voided_by (changes ++ e ∷ []))
 left-there d changes e =
     let names : flat_map voided_by (changes ++ e ∷ []) ≡ flat_map voided_by changes ++ voided_by e =
@@ -97,17 +97,17 @@ left-there d changes e =
 
 -- ---- the reply to it
 
--- as it is due, or stored
+-- the reply as it is due, or as stored
 abbrev pub told_as : Bool → Reply → Reply
 told_as true r = as_stored r
 told_as false r = r
 
--- of so many changes all are shown, where nothing is hidden
+-- of this many changes all are shown, if nothing is hidden
 pub record AreShown (total shown : ℕ) (hidden : Bool) : Type 0 where
   pub within : shown ≤ total
   pub all : hidden ≡ false → shown ≡ total
 
--- the reply gives no ticket, mentions what the step's change voids, and shows it with all before it, where it isn't stored
+-- the reply gives no ticket, mentions what the step's change voids, and shows it with all before it, unless it is stored
 pub record IsOneMore (total : ℕ) (c : Command) (s : Result Step Refusal) (r : Reply) : Type 0 where
   pub untold : tickets_in r ≡ []
   pub mentions : mentions_of (call c r) ≡ switches (flat_map voided_by (changes_of s))
@@ -150,7 +150,7 @@ one-more a false _ _ (refused c e) = refusal-more (length (log_of a)) c e
 abbrev pub MayBeGrouped : List Command → Type 0
 MayBeGrouped commands = AllByRecursion (λ c. may_be_grouped c ≡ true) commands
 
--- what the replies come to: they give no ticket, void what the changes void, and show these
+-- what the replies come to: they give no ticket, void what the changes void, and show the changes
 pub record IsCourse (h : CurrentOpening) (changes : List PlainChange) (commands : List Command) (replies : List Reply) : Type 0 where
   pub untold : flat_map tickets_in replies ≡ []
   pub mentions : moved_by (amid h changes).tickets (flat_map mentions_of (calls_of commands replies)) ≡ (amid h (changes_due h changes commands)).tickets
@@ -246,9 +246,9 @@ taken-or-not h commands = by (group_check h commands) refl where
   by (Ok tt) is = inl (taken-group h commands is)
   by (Err e) is = inr (ap (λ (r : Result (Unit {0}) Refusal). if_ok r (grouped (changes_due h [] commands)) []) is)
 
--- ---- by what a group is told
+-- ---- by the group's replies
 
--- it is accepted with the replies that are due, or with these stored
+-- it is accepted with the replies that are due, or with these as stored
 pub record IsAccepted (h : CurrentOpening) (commands : List Command) (replies : List Reply) : Type 0 where
   pub taken : IsTaken h commands
   pub stored : Bool
@@ -282,7 +282,7 @@ pub group-untold : (h : CurrentOpening) (commands : List Command) (result : Resu
 group-untold h commands (Ok replies) failed legal = (accepted-course h commands replies (accepted h commands replies failed legal)).untold
 group-untold h commands (Err e) failed legal = refl
 
--- where the device didn't fail a refusal of the whole leaves nothing
+-- if the device didn't fail, a refusal of the whole leaves nothing
 none-kept : (h : CurrentOpening) (commands : List Command) (due : Result (List Reply) Refusal) (e : Refusal) (gs : List (List PlainChange)) → GroupStandsIn h commands false due (Err e) → cond (is_fault e) gs [] ≡ []
 none-kept h commands due Memory gs stands = refl
 none-kept h commands (Ok replies) Fault gs stands = absurd (cc (stands.0))

@@ -25,7 +25,7 @@ then-equal Less s = refl
 then-equal Equal s = refl
 then-equal Greater s = refl
 
--- the keys of two tables are one where their paths and names are
+-- the keys of two tables are equal if their paths and names are
 pub same-keys : (p q name other : List ℕ) → eq_by_cmp table_order (p, name) (q, other) ≡ (same_path p q && eq_by_cmp name_order name other)
 same-keys p q name other = then-equal (path_order p q) (name_order name other)
 
@@ -34,7 +34,7 @@ equal-is Less h = absurd (cc (h))
 equal-is Equal h = refl
 equal-is Greater h = absurd (cc (h))
 
--- keys that aren't one don't tie
+-- keys that aren't equal don't tie
 keys-differ : (p q name other : List ℕ) → (p ≢ q) ⊎ (name ≢ other) → eq_by_cmp table_order (p, name) (q, other) ≡ false
 keys-differ p q name other differ = same-keys p q name other ∙ by (same_path p q) (eq_by_cmp name_order name other) refl refl differ where
   by : (a b : Bool) → same_path p q ≡ a → eq_by_cmp name_order name other ≡ b → (p ≢ q) ⊎ (name ≢ other) → (a && b) ≡ false

@@ -69,7 +69,7 @@ given-up st ms (ev ∷ evs) legal agrees =
     let e : ℕ = (base_of (state_after (next st ev) evs)).epoch in
     up-append e (tickets_by ev) (tickets_given evs) (step-up st ms ev e legal.0 agrees (epoch-after st (ev ∷ evs))) (given-up (next st ev) (mentions_by ms ev) evs legal.1 (agrees-next st ms ev legal.0 agrees))
 
--- ---- are valid no more
+-- ---- are no longer valid
 
 -- a valid ticket has the opening's epoch
 valid-epoch : (h : CurrentOpening) (ms : List Mention) (name : RulesetName) (t : Ticket) → h.tickets ≡ left_by h.base.epoch ms → valid_ticket h.tickets name ≡ Some t → t.epoch ≡ h.base.epoch

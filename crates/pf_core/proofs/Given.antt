@@ -3,7 +3,7 @@ use Rattle.std.proofs.Common.{◌≡◌, List, [], ◌∷◌, ◌++◌, refl, sy
 use Rattle.pf_core.specs.{Durable.Changes.{PlainChange, after}, History.{base_of, kept_by, earlier, history}, Laws.Openings.{IsButForEpoch, GivesAllThatWasKept}, Worlds.{Setting, State, up, down, Event, opened, flat, next, IsLegal, state_after}}
 use Rattle.pf_core.proofs.{Folds.fold-law, Groups.{history-first, acknowledged-front, among-from}, LongerWorlds.{in-two}}
 
--- between two openings all is earlier
+-- between two openings all that was kept is of earlier ones
 before-opening : (st : State) (world : List Event) (setting : Setting) → IsLegal (state_after st world) (opened setting) → earlier st (world ++ opened setting ∷ []) ≡ history st world
 before-opening (up h) [] setting legal = absurd legal
 before-opening (down d) [] setting legal = refl

@@ -22,7 +22,7 @@ shown-step h first changes n _ _ none (wanted c e o mentions) old =
     inr (omega (arith, log, long))
 shown-step h first changes n _ _ none (refused c e) old = shown-still h first changes n old
 
--- the replies that are due show all of a group's changes, where it has any
+-- the replies that are due show all of a group's changes, if it has any
 pub shown-due : (h : CurrentOpening) (first : ℕ) (changes : List PlainChange) (n : ℕ) (commands : List Command) → h.pending ≡ [] → MayBeGrouped commands → IsShownSo h first changes n
     → IsShownSo h first (changes_due h changes commands) (fold (λ (m : ℕ) (r : Reply). shown_by r m) n (replies_due h changes commands))
 shown-due h first changes n [] none may old = old
@@ -45,7 +45,7 @@ shown-stored h changes n (c ∷ cs) may =
 
 -- ---- where it leads
 
--- a group that is refused whole leads to nothing else, where the device didn't fail
+-- a group that is refused whole leads to nothing else, if the device didn't fail
 pub refused-group-leads : (h : CurrentOpening) (b new : WorldBook) (commands : List Command) (e : Refusal) → LegalReplies h commands (Err e) false → new ≡ b → IsAt h b → LeadsGroup h new commands (Err e) (upshot new.shown false)
 refused-group-leads h b new commands e legal same at =
     subst (λ (p : WorldBook). LeadsGroup h p commands (Err e) (upshot p.shown false)) (sym same) (record {
@@ -60,7 +60,7 @@ refused-group-leads h b new commands e legal same at =
       };
     })
 
--- a group that the device failed to keep is left without an acknowledgement
+-- a group that the device failed to keep is left unacknowledged
 pub fault-group-leads : (h : CurrentOpening) (b : WorldBook) (commands : List Command) → LegalReplies h commands (Err Fault) true → IsAt h b
     → LeadsGroup h (record b { pending = b.pending ++ group_all h commands }) commands (Err Fault) (upshot b.shown true)
 fault-group-leads h b commands legal at = record {

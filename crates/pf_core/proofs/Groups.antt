@@ -6,7 +6,7 @@ use Rattle.pf_core.proofs.Prefixes.{front-more, front-trans, front-behind, among
 
 -- ---- the group of a step
 
--- a step's change is kept where there is room
+-- a step's change is kept if there is room
 pub record IsKept (h : CurrentOpening) (s : Result Step Refusal) : Type 0 where
   pub change : PlainChange
   pub outcome : Outcome
@@ -15,7 +15,7 @@ pub record IsKept (h : CurrentOpening) (s : Result Step Refusal) : Type 0 where
   pub group : group_at h s ≡ (change ∷ []) ∷ []
   pub reply : due_at h s ≡ Applied (length (log_of h) + 1) outcome
 
--- or it wants none, or is refused
+-- else it wants none, or is refused
 pub record IsNotKept (h : CurrentOpening) (s : Result Step Refusal) : Type 0 where
   pub group : group_at h s ≡ []
   pub reply : (n : ℕ) (o : Outcome) → Applied n o ≡ due_at h s → ⊥
@@ -56,7 +56,7 @@ room-found h e few room =
     let low : nat_lt h.setting.limit (length (log_of h) + 1) ≡ false = grind (arith, nat_tests, few) in
     ap (λ (b : Bool). cond b (Err HistoryFull) (cond (h.setting.is_full h.base h.acked (e ∷ [])) (Err Full) (Ok tt))) low ∙ ap (λ (b : Bool). cond b (Err Full) (Ok tt)) room
 
--- the same of several changes
+-- the same for several changes
 pub rooms-found : (h : CurrentOpening) (es : List PlainChange) → length (log_of h) + length es ≤ h.setting.limit → h.setting.is_full h.base h.acked es ≡ false → room_for h es ≡ Ok tt
 rooms-found h [] few room = refl
 rooms-found h (e ∷ es) few room =
@@ -72,14 +72,14 @@ refused-group h s e is = by (kept-or-not h s) where
 
 -- ---- what was acknowledged stays
 
--- what an event keeps stands before all that comes later
+-- what an event keeps comes before all that comes later
 pub history-first : (st : State) (ev : Event) (evs : List Event) → history st (ev ∷ evs) ≡ kept_by st ev ++ history (next st ev) evs
 history-first st ev evs =
     let mid : State = next st ev in
     let end : State = state_after mid evs in
     ap (λ (l : List (List PlainChange)). l ++ pending_of end) (append_assoc (kept_by st ev) (earlier mid evs) (acked_of end)) ∙ append_assoc (kept_by st ev) (acknowledged mid evs) (pending_of end)
 
--- in the opening that lasts
+-- in the current opening
 acked-front : (st : State) (later : List Event) → IsFrontOf (acked_of st) (history st later)
 acked-front st [] = front-more (acked_of st) (pending_of st)
 acked-front (up h) (called c t ∷ evs) =
@@ -124,7 +124,7 @@ either h c = by h.pending refl where
   by [] is = inl is
   by (g ∷ gs) is = inr (quiet h c g gs is)
 
--- of no group nothing is offered
+-- if there is no group, nothing is offered
 none-offered : (r : Reply) → acked_by r [] ++ pending_by r [] ≡ []
 none-offered (Answer a) = refl
 none-offered (Applied n o) = refl
@@ -141,7 +141,7 @@ either-offered h c r = by (either h c) where
   by (inl none) = inl none
   by (inr none) = inr (ap (λ (g : List (List PlainChange)). acked_by r g ++ pending_by r g) none ∙ none-offered r)
 
--- the same of a group of commands
+-- the same for a group of commands
 either-group : (h : CurrentOpening) (cs : List Command) → (h.pending ≡ []) ⊎ (group_all h cs ≡ [])
 either-group h cs = by h.pending refl where
   by : (p : List (List PlainChange)) → h.pending ≡ p → (h.pending ≡ []) ⊎ (group_all h cs ≡ [])
@@ -162,7 +162,7 @@ no-parts : (a p : List (List PlainChange)) → a ++ p ≡ [] → (a ≡ []) × (
 no-parts [] p is = (refl, is)
 no-parts (x ∷ xs) p is = absurd (cc (is))
 
--- the log once these groups were acknowledged, and not
+-- the log after some of these groups were acknowledged, and some not
 more-among : (acked pending a p : List (List PlainChange)) → (pending ≡ []) ⊎ (a ++ p ≡ []) → AreAmong ((acked ++ a) ++ (pending ++ p)) ((acked ++ pending) ++ (a ++ p))
 more-among acked pending a p (inl none) =
     subst (λ (l : List (List PlainChange)). AreAmong ((acked ++ a) ++ (l ++ p)) ((acked ++ l) ++ (a ++ p))) (sym none)
@@ -173,7 +173,7 @@ more-among acked pending a p (inr none) =
     subst (λ (l : List (List PlainChange)). AreAmong ((acked ++ a) ++ (pending ++ p)) ((acked ++ pending) ++ l)) (sym none)
     (rw (parts.0, parts.1) (simp (append-nil {A = List PlainChange}) (among-refl (acked ++ pending))))
 
--- an event that offers nothing leaves the log
+-- an event that offers nothing leaves the log as it is
 log-stays : (h : CurrentOpening) → AreAmong (h.acked ++ h.pending) ((h.acked ++ h.pending) ++ [])
 log-stays h = subst (λ (l : List (List PlainChange)). AreAmong (h.acked ++ h.pending) l) (sym (append-nil (h.acked ++ h.pending))) (among-refl (h.acked ++ h.pending))
 

@@ -5,7 +5,7 @@ use Rattle.pf_ticket.specs.{Mentions.{Mention, after as moved_by}, Tickets.Plain
 use Rattle.pf_core.specs.{declared.{command.Command.Command, reply.Outcome.Outcome, reply.Refusal.Refusal, reply.Refusal.TheVariants.HistoryFull, reply.Refusal.TheVariants.Full, reply.Reply.Reply, reply.Reply.TheVariants.Applied, step.Step.Step, step.Step.TheVariants.Wants}, Calls.{call, mentions_of}, Commands.step_by, Durable.Changes.{PlainDurable, PlainChange, after}, Laws.Groups.{heard_due, dues_one_by_one, one_by_one, has_room, GroupsAreInTurn}, Worlds.{CurrentOpening, flat, log_of, durable_of, step_in, reply_to, changes_of, if_ok, or_refused, due_at, due, group_at, group_in, amid, changes_due, replies_due, acked_by, is_fault, pending_by}}
 use Rattle.pf_core.proofs.{Courses.{flat-with, log-amid, tickets-amid, IsOfGroup, told, wanted, refused, step-amid, unhalted-in, IsOneMore, one-more, MayBeGrouped}, Prefixes.flat-append, LongerWorlds.none-of-none}
 
--- the opening in the course of a group is like the one that its calls led to
+-- the opening in the middle of a group is like the one that its calls led to
 record IsLike (h : CurrentOpening) (changes : List PlainChange) (b : CurrentOpening) : Type 0 where
   base : h.base ≡ b.base
   tickets : (amid h changes).tickets ≡ b.tickets
@@ -24,7 +24,7 @@ same-log h changes b like =
     log-amid h changes like.none ∙ sym (length-append (flat h.acked) changes) ∙ ap length like.acked
     ∙ sym (ap (λ (gs : List (List PlainChange)). length (flat (b.acked ++ gs))) like.calm ∙ ap (λ (gs : List (List PlainChange)). length (flat gs)) (append-nil b.acked))
 
--- a reply that is due by itself is the one in the course of a group, and keeps the same change
+-- a reply that is due by itself is the one in the middle of a group, and keeps the same change
 record IsSame (a : CurrentOpening) (s : Result Step Refusal) (r : Reply) (g : List (List PlainChange)) : Type 0 where
   reply : reply_to a s ≡ r
   changes : flat (acked_by r g) ≡ changes_of s

@@ -1,4 +1,4 @@
--- In each opening that a world comes to each ticket was given once, and all limits hold.
+-- In each opening that a world ends in, each ticket was given once, and all limits hold.
 use Rattle.std.proofs.{Common.{T, ◌&&◌, ◌||◌, ◌⊎◌, ◌≡◌, ℕ, ◌+◌, ◌≤◌, Bool, true, false, cond, List, [], ◌∷◌, length, refl, sym, ap, ◌∙◌, subst, inl, inr, Option, None, Result, Ok, Err, arith, zero, suc, ◌++◌, take}, Math.Seq.{take-nil, take-length}, lemmas.List.{append-nil, length-append}, lemmas.List.Sums.fold_push}
 use Rattle.std.specs.{Prelude.{map, flat_map, fold}, FinMap.is_sorted, List.list_all}
 use Rattle.pf_addr.specs.{Path.Names.name_order, Refusing.{refused_at, both_passed}}
@@ -37,7 +37,7 @@ applied-step h s n o is = by (kept-or-not h s) where
   by (inl k) = record { kept = k; number = cc (is, k.reply) }
   by (inr none) = absurd (none.reply n o is)
 
--- and so was what was stored
+-- so was what was stored
 stored-undue : (h : CurrentOpening) (s : Result Step Refusal) (n : ℕ) (o : Outcome) → Stored n o ≡ due_at h s → ⊥
 stored-undue h (Ok (Done a)) n o is = cc (is)
 stored-undue h (Ok (OfHistory c)) n o is = cc (is)
@@ -80,9 +80,9 @@ legal-told h c (Stored n o) failed legal =
     applied-told h.tickets (durable_of h) c k.change (wants h.tickets (durable_of h) c k.change k.outcome (due-wanted h c k))
 legal-told h c (Refused e) failed legal = none-told h.tickets h.tickets (λ w. w) (record { epoch = refl; next = omega arith })
 
--- ---- one event more
+-- ---- one more event
 
--- What holds of the groups of an opening, wherever it has come to. What is kept is within the limits after each front that a crash may keep.
+-- What holds of the groups of an opening, as far as it has come. What is kept is within the limits after each front that a crash may keep.
 record IsLogged (first base : PlainDurable) (limit : ℕ) (acked pending : List (List PlainChange)) : Type 0 where
   one : length pending ≤ 1
   room : length (flat (acked ++ pending)) ≤ limit
@@ -115,7 +115,7 @@ numbered-on : (epoch : ℕ) (ts us : List Ticket) → ts ≡ tickets_from epoch 
 numbered-on epoch ts us old new =
     ap (λ (xs : List Ticket). xs ++ us) old ∙ ap (λ (xs : List Ticket). tickets_from epoch 1 (length ts) ++ xs) new ∙ sym (more-from epoch 1 (length ts) (length us)) ∙ ap (tickets_from epoch 1) (sym (length-append ts us))
 
--- with those of a reply more
+-- with the tickets of one more reply
 numbered-more : (epoch : ℕ) (t new : PlainTickets) (ts us : List Ticket) → AreTold t new us → AreNumbered epoch t ts → AreNumbered epoch new (ts ++ us)
 numbered-more epoch t new ts us told all =
     let before : t.next ≡ 1 + length ts = all.next in
@@ -131,7 +131,7 @@ numbered-more epoch t new ts us told all =
 acked-within : (first : PlainDurable) (h : CurrentOpening) (ts : List Ticket) (failed : Bool) → Holds first h ts failed → IsWithin first → IsWithin (durable_of h)
 acked-within first h ts failed all within = subst (λ (gs : List (List PlainChange)). IsWithin (after h.base (flat gs))) (append-nil h.acked) (all.logged.kept within 0)
 
--- the group of one change more, kept or not
+-- the group of one more change, kept or not
 one-more : (first : PlainDurable) (h : CurrentOpening) (ts : List Ticket) (failed : Bool) (c : Command) → Holds first h ts failed → h.pending ≡ [] → (k : IsKept h (step_in h c)) → IsLogged first h.base h.setting.limit h.acked ((k.change ∷ []) ∷ [])
 one-more first h ts failed c all none k =
     let log : length (log_of h) ≡ length (flat h.acked) = ap (λ (gs : List (List PlainChange)). length (flat (h.acked ++ gs))) none ∙ ap (λ (gs : List (List PlainChange)). length (flat gs)) (append-nil h.acked) in
@@ -144,7 +144,7 @@ one-more first h ts failed c all none k =
           rw (take-nil n) (subst (λ (d : PlainDurable). IsWithin d) (sym (ap (after h.base) (flat-push h.acked k.change) ∙ fold_push applied h.base (flat h.acked) k.change))
           (change-within h.tickets (durable_of h) c k.change k.outcome (due-wanted h c k) all.tickets.within (acked-within first h ts failed all within)))
 
--- no group leaves the log
+-- no group leaves the log as it is
 unlogged : (first : PlainDurable) (h : CurrentOpening) (g : List (List PlainChange)) → g ≡ [] → IsLogged first h.base h.setting.limit h.acked h.pending → IsLogged first h.base h.setting.limit h.acked (h.pending ++ g)
 unlogged first h g none old = subst (λ (gs : List (List PlainChange)). IsLogged first h.base h.setting.limit h.acked gs) (sym (ap (λ (gs : List (List PlainChange)). h.pending ++ gs) none ∙ append-nil h.pending)) old
 
@@ -159,7 +159,7 @@ acked-logged first h g left =
           (subst (λ (gs : List (List PlainChange)). IsWithin (after h.base (flat (h.acked ++ gs)))) (take-length g) (left.kept within (length g))));
     }
 
--- what a command's group may leave in the log, acknowledged by nobody
+-- what a command's group may leave in the log, unacknowledged
 group-logged : (first : PlainDurable) (h : CurrentOpening) (ts : List Ticket) (failed : Bool) (c : Command) → Holds first h ts failed → IsLogged first h.base h.setting.limit h.acked (h.pending ++ group_in h c)
 group-logged first h ts failed c all = by (either h c) (kept-or-not h (step_in h c)) where
   by : (h.pending ≡ []) ⊎ (group_in h c ≡ []) → IsKept h (step_in h c) ⊎ IsNotKept h (step_in h c) → IsLogged first h.base h.setting.limit h.acked (h.pending ++ group_in h c)
@@ -192,7 +192,7 @@ logged-on first h ts was c (Applied n o) failed (inr none) all = absurd none
 logged-on first h ts was c (Stored n o) failed legal all = applied-logged first h ts was c n (stored-step h c n o failed legal) all
 logged-on first h ts was c (Refused e) failed legal all = refused-logged first h (group_in h c) (is_fault e) all.logged (group-logged first h ts was c all)
 
--- where the device didn't fail, no group is left
+-- if the device didn't fail, no group is left
 quiet-on : (h : CurrentOpening) (c : Command) (r : Reply) (was failed : Bool) → LegalReply h c r failed → (was ≡ false → h.pending ≡ []) → (was || failed) ≡ false → h.pending ++ pending_by r (group_in h c) ≡ []
 quiet-on h c r true failed legal quiet none = absurd (cc (none))
 quiet-on h c r false true legal quiet none = absurd (cc (none))
@@ -210,7 +210,7 @@ holds-on first h ts failed c t legal all = record {
   logged = logged-on first h ts failed c.command c.reply t.failed legal.reply all;
 }
 
--- ---- one group more
+-- ---- one more group
 
 -- what a group that isn't refused whole may leave in the log
 taken-logged : (first : PlainDurable) (h : CurrentOpening) (ts : List Ticket) (failed : Bool) (cs : List Command) → Holds first h ts failed → IsTaken h cs → IsLogged first h.base h.setting.limit h.acked (group_all h cs)
@@ -247,7 +247,7 @@ taken-logged first h ts failed cs all taken = subst (λ (gs : List (List PlainCh
     fronts (e ∷ es) is within (suc n) =
         rw (take-nil n) (subst (λ (d : PlainDurable). IsWithin d) (sym (durable-amid h (e ∷ es))) (subst (λ (xs : List PlainChange). IsWithin (after (durable_of h) xs)) is (kept within)))
 
--- what any group may leave in it, acknowledged by nobody
+-- what any group may leave in it, unacknowledged
 all-logged : (first : PlainDurable) (h : CurrentOpening) (ts : List Ticket) (failed : Bool) (cs : List Command) → Holds first h ts failed → IsLogged first h.base h.setting.limit h.acked (h.pending ++ group_all h cs)
 all-logged first h ts failed cs all = by (taken-or-not h cs) where
   by : IsTaken h cs ⊎ (group_all h cs ≡ []) → IsLogged first h.base h.setting.limit h.acked (h.pending ++ group_all h cs)
@@ -332,7 +332,7 @@ keeps_the_limits first world h within legal comes =
     let all : Holds first h (tickets_since world) (failed_since world) = holds-after first world h legal comes in
     record { tickets = all.tickets.within; log = all.logged.room; kept = acked-within first h (tickets_since world) (failed_since world) all within }
 
--- one group at most isn't acknowledged, and none where the device didn't fail
+-- at most one group isn't acknowledged, and none if the device didn't fail
 pub record AreFewUnacknowledged (world : List Event) (h : CurrentOpening) : Type 0 where
   pub one : length h.pending ≤ 1
   pub none : failed_since world ≡ false → h.pending ≡ []

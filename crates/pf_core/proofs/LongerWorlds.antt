@@ -5,11 +5,11 @@ use Rattle.pf_core.specs.{declared.{command.Command.Command, reply.Refusal.Refus
 use Rattle.pf_ticket.specs.{Tickets.{PlainTickets, fresh}, Mentions.{Mention, moved, after, opened as left_by}}
 use Rattle.pf_core.proofs.{Prefixes.flat-append, Groups.refused-group}
 
--- a group of one change more
+-- a group of one more change
 pub flat-push : (gs : List (List PlainChange)) (e : PlainChange) → flat (gs ++ (e ∷ []) ∷ []) ≡ flat gs ++ e ∷ []
 flat-push gs e = flat-append gs ((e ∷ []) ∷ [])
 
--- ---- one event more
+-- ---- one more event
 
 legal-push : (st : State) (world : List Event) (e : Event) → IsLegalFrom st world → IsLegal (state_after st world) e → IsLegalFrom st (world ++ e ∷ [])
 legal-push st [] e all now = (now, tt)
@@ -38,14 +38,14 @@ pub stands-on-group : (first : PlainDurable) (old new : WorldBook) (world : List
 stands-on-group first old new world commands result t stands leads folded =
     stands-by first new world (called_group commands result t) (up stands.held) (heard_group stands.held commands result t) stands.legal stands.comes leads.legal refl leads.at folded
 
--- a worker may judge by what is shown, where it saw and learnt of no more
+-- a worker may judge by what is shown, if it saw and learnt of no more
 pub stands-entered : (first : PlainDurable) (b : WorldBook) (world : List Event) (worker n : ℕ) → (stands : StandsFor first b world) → SawNoMore stands.held.sights worker n → n ≤ b.shown → StandsFor first b (world ++ entered worker n ∷ [])
 stands-entered first b world worker n stands no_more low =
     let h : CurrentOpening = stands.held in
     let shown : n ≤ h.shown = subst (λ (m : ℕ). n ≤ m) stands.at.shown low in
     stands-by first b world (entered worker n) (up h) (sighted h worker n) stands.legal stands.comes (no_more, shown) refl (sighted-at h b worker n stands.at) stands.folded
 
--- or learn of it
+-- a worker may learn of what is shown
 pub stands-learned : (first : PlainDurable) (b : WorldBook) (world : List Event) (worker n : ℕ) → (stands : StandsFor first b world) → n ≤ b.shown → StandsFor first b (world ++ learned worker n ∷ [])
 stands-learned first b world worker n stands low =
     let h : CurrentOpening = stands.held in
@@ -56,7 +56,7 @@ stands-learned first b world worker n stands low =
 pub stands-opened : (first : PlainDurable) (new : WorldBook) (setting : Setting) → first.epoch < last_epoch → IsAt (begun setting (raised first)) new → IsFolded new → StandsFor first new (opened setting ∷ [])
 stands-opened first new setting low at folded = stands-by first new [] (opened setting) (down first) (begun setting (raised first)) tt refl low refl at folded
 
--- a reply that keeps nothing leads to another core at most
+-- a reply that keeps nothing leads at most to another core
 pub nothing-leads : (h : CurrentOpening) (b : WorldBook) (w : PlainCore) (c : Command) (r : Reply) → LegalReply h c r false → acked_by r (group_in h c) ≡ [] → pending_by r (group_in h c) ≡ [] → shown_by r h.shown ≡ h.shown →
     w.tickets ≡ after b.whole.tickets (mentions_of (call c r)) → IsAt h b → Leads h (record b { whole = w }) (call c r) (upshot b.shown false)
 nothing-leads h b w c r legal none unkept still moved at = record {
@@ -80,7 +80,7 @@ none-stands h c told Memory gs stands = refl
 none-stands h c (Applied n o) Fault gs stands = absurd (cc (stands))
 none-stands h c told e gs stands = absurd stands
 
--- where the device didn't fail a refusal leaves nothing
+-- if the device didn't fail, a refusal leaves nothing
 pub refused-unkept : (h : CurrentOpening) (c : Command) (e : Refusal) → LegalReply h c (Refused e) false → pending_by (Refused e) (group_in h c) ≡ []
 refused-unkept h c e (inl is) = none-of-none (is_fault e) (group_in h c) (refused-group h (step_in h c) e is)
 refused-unkept h c e (inr stands) = none-stands h c (due h c) e (group_in h c) stands

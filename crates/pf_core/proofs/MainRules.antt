@@ -1,4 +1,4 @@
--- The main rules, where others are replaced.
+-- The main rules stay if only other rulesets are replaced.
 use Rattle.std.proofs.Common.{◌≡◌, Bool, true, false, cond, List, [], ◌∷◌, refl, ap, ◌∙◌}
 use Rattle.std.specs.List.{list_any}
 use Rattle.pf_addr.specs.Path.Paths.{same_path}

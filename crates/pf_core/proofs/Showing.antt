@@ -7,7 +7,7 @@ use Rattle.pf_core.proofs.{Prefixes.{flat-append, front-trans, front-behind, fro
 
 -- ---- by the reply
 
--- what is shown of what was acknowledged: all of it, where nothing is hidden
+-- what is shown of what was acknowledged: all of it, if nothing is hidden
 abbrev IsShown : List (List PlainChange) → ℕ → Bool → Type 0
 IsShown acked shown hidden = AreShown (length (flat acked)) shown hidden
 
@@ -135,7 +135,7 @@ learned-within : (st : State) (worker n : ℕ) (hidden : Bool) → IsLegal st (l
 learned-within (up h) worker n hidden legal shown = le_trans legal shown.within
 learned-within (down d) worker n hidden legal shown = absurd legal
 
--- what was acknowledged where an event stands is kept behind it, whatever the event and what comes later
+-- what was acknowledged before an event is kept after it, whatever the event and what comes later
 stays-behind : (event : Event) (first : PlainDurable) (world later : List Event) (n : ℕ) → n ≤ length (flat (acked_of (state_after (down first) world))) → IsSeenBy event first world later n
 stays-behind event first world later n within =
     let st : State = down first in

@@ -1,4 +1,4 @@
--- What one step tells, and that its change keeps within the limits.
+-- What one step answers, and that its change keeps within the limits.
 use Rattle.std.proofs.Common.{◌≡◌, ℕ, ◌+◌, Bool, true, false, cond, List, [], ◌∷◌, length, refl, sym, ap, ◌∙◌, subst, Option, Some, None, Result, Ok, Err, arith, zero, suc, ◌++◌}
 use Rattle.std.specs.{Prelude.{is_some, if◌then◌else◌}, List.AllByRecursion}
 use Rattle.pf_ticket.specs.{Replies.{begin_reply, add_reply, define_reply, list_check, commit_check}, declared.{name.RulesetName.RulesetName, refusal.TicketRefusal.TicketRefusal, ticket.Ticket.Ticket, ticket.TicketRange.TicketRange, name.RulesetKind.RulesetKind, name.RulesetKind.TheVariants.Filter, name.RulesetKind.TheVariants.Table, entry.RulesetTicket.RulesetTicket}, Laws.Tickets.{AreGiven, IsFew, IsWithin as AreTicketsWithin}, Mentions.{Mention, gives, switches, after as moved_by}, Names.{filter_at, table_ruleset_at, tickets_from}, NamedTables.PlainDefinedTable, Tickets.{Loaded, PlainTickets, offered_as, loaded, content}}
@@ -16,7 +16,7 @@ use Rattle.pf_anchor.specs.Tables.{PlainPlacedTable}
 
 -- ---- by the step that was answered
 
--- the transactions stay within the limits, and the tickets that were told are those that were given
+-- the transactions stay within the limits, and the tickets in the reply are those that were given
 pub record AreTold (t new : PlainTickets) (ts : List Ticket) : Type 0 where
   pub within : AreTicketsWithin t → AreTicketsWithin new
   pub given : AreGiven (length ts) t new
@@ -40,7 +40,7 @@ begin-told t names a s =
       told = told ∙ ap (λ (n : ℕ). tickets_from t.epoch t.next n) (sym number);
     }
 
--- what is only done tells none
+-- the answer of a step that is only done has no tickets
 done-told : {A : Type 0} (r : Result A TicketRefusal) (a : Answer) → unless_refused r (λ _. Ok (Done answer.Done)) ≡ Ok (Done a) → tickets_in (Answered a) ≡ []
 done-told (Ok x) a h = let is : answer.Done ≡ a = cc (h) in ap (λ (x : Answer). tickets_in (Answered x)) (sym is)
 done-told (Err e) a h = absurd (cc (h))
@@ -52,7 +52,7 @@ question-told d q = grind arith
 pub done-is-none : (a : Answer) → IsNoChange (Done a)
 done-is-none a e o is = cc (is)
 
--- a change of states that is only answered tells what happens to a packet, or that a name is taken
+-- a change of states that is only answered says what happens to a packet, or that a name is taken
 told-is : (P : Answer → Type 0) (x a : Answer) → P x → ◌≡◌ {A = Result Step Refusal} (Ok (Done x)) (Ok (Done a)) → P a
 told-is P x a holds h =
     let is : x ≡ a = cc (h) in
@@ -82,7 +82,7 @@ states-told P all d (Peer m) a h =
     absurd (never-wanted (fits d (acts (steps_here d m))) (acts (steps_here d m)) (outcome.Peered (counts d.states (steps_here d m))) (Done a) (done-is-none a) h)
 states-told P all d (KillState name) a h = absurd (never-there (is_some (held_at name d.states)) (removes name) outcome.Killed (Done a) (done-is-none a) h)
 
--- whatever holds of each answer that a step gives by itself holds of this one
+-- P holds of each answer that a step gives by itself
 pub record IsOfSteps (P : Answer → Type 0) : Type 0 where
   pub given : (range : TicketRange) → P (answer.Given range)
   pub done : P answer.Done
@@ -127,7 +127,7 @@ answered-told t d (Ask q) a h =
     subst (AreTold t t) (sym (question-told d q) ∙ ap (λ (x : Answer). tickets_in (Answered x)) is) (none-told t t (λ w. w) (record { epoch = refl; next = omega arith }))
 answered-told t d (History c) a h = absurd (cc (h))
 
--- what is left to whoever keeps the history tells none, and mentions no ruleset
+-- what is left to whoever keeps the history gives no tickets, and mentions no ruleset
 history-told : (h : CurrentOpening) (x : HistoryCommand) → tickets_in (Answered (told_of_history h x)) ≡ []
 history-told h Log = refl
 history-told h Publish = refl

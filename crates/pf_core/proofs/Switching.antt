@@ -25,12 +25,12 @@ second_holds false b h = absurd h
 abbrev named_as : RulesetKind → List ℕ → RulesetName
 named_as k p = record { kind = k; path = p }
 
--- what a value becomes where some rulesets are switched in turn, by what switching one makes of it
+-- what a value becomes after some rulesets are switched in turn, by what switching one makes of it
 abbrev pub switched_in : {A : Type 0} → (RulesetName → A → A) → List RulesetName → RulesetName → A → A
 switched_in f [] name old = old
 switched_in f (n ∷ ns) name old = switched_in f ns name (cond (same_name n name) (f n old) old)
 
--- where it isn't named it stays
+-- if the ruleset isn't named, the value stays
 unnamed : {A : Type 0} (f : RulesetName → A → A) (ns : List RulesetName) (name : RulesetName) (old : A) → is_named ns name ≡ false → switched_in f ns name old ≡ old
 unnamed f [] name old h = refl
 unnamed f (n ∷ ns) name old h =
@@ -43,7 +43,7 @@ named-step f n ns name old true same once h later =
     unnamed f ns name (f n old) (ap (λ x. is_named ns x) (sym (name_is n name same)) ∙ once) ∙ ap (λ x. f x old) (name_is n name same)
 named-step f n ns name old false same once h later = later h
 
--- and where it is named, once, it is switched
+-- if it is named, once, it is switched
 named : {A : Type 0} (f : RulesetName → A → A) (ns : List RulesetName) (name : RulesetName) (old : A) → IsDistinct ns → is_named ns name ≡ true → switched_in f ns name old ≡ f name old
 named f [] name old d h = absurd (cc (h))
 named f (n ∷ ns) name old d h = named-step f n ns name old (same_name n name) refl d.0 h (λ k. named f ns name old d.1 k)
@@ -73,11 +73,11 @@ elsewhere q (t ∷ ts) p name old h =
     let other : eq_by_cmp table_order (q, t.0) (p, name) ≡ false = same-keys q p t.0 name ∙ ap (λ (b : Bool). b && eq_by_cmp name_order t.0 name) h in
     ap (λ (b : Bool). list_by table_order (placed q ts) (p, name) (cond b t.1 old)) other ∙ elsewhere q ts p name old h
 
--- at the same path it is the names that tell
+-- at the same path only the names count
 same-names : (p a b : List ℕ) → eq_by_cmp table_order (p, a) (p, b) ≡ eq_by_cmp name_order b a
 same-names p a b = same-keys p p a b ∙ ap (λ (x : Bool). x && eq_by_cmp name_order a b) (paths_alike.refl p) ∙ (eq_by_cmp_equiv nat_list_cmp_total).symm a b
 
--- where none has the name, nothing is changed
+-- if none has the name, nothing is changed
 none-of-name : (p : List ℕ) (tables : List PlainDefinedTable) (name : List ℕ) (old : List PlainEntry) → find name_order name tables ≡ None → list_by table_order (placed p tables) (p, name) old ≡ old
 none-of-name p [] name old h = refl
 none-of-name p (t ∷ ts) name old h = by (eq_by_cmp name_order name t.0) refl h (λ none. none-of-name p ts name old none) where
@@ -96,7 +96,7 @@ below-none name (t ∷ ts) h =
     ap (λ (b : Bool). cond b (Some t.1) (find name_order name ts)) (not-equal (name_order name t.0) (first_holds (is_lt (name_order name t.0)) (below_all name_order name ts) h))
     ∙ below-none name ts (second_holds (is_lt (name_order name t.0)) (below_all name_order name ts) h)
 
--- of tables in the order of their names the one of a name is read
+-- of tables in the order of their names the one of this name is read
 read-of-name : (p : List ℕ) (tables : List PlainDefinedTable) (name : List ℕ) (old : List PlainEntry) → T (is_sorted name_order tables) → list_by table_order (placed p tables) (p, name) old ≡ unwrap_or (find name_order name tables) old
 read-of-name p [] name old sorted = refl
 read-of-name p (t ∷ ts) name old sorted = by (eq_by_cmp name_order name t.0) refl (read-of-name p ts name old (second_holds (below_all name_order t.0 ts) (is_sorted name_order ts) sorted)) where
@@ -111,7 +111,7 @@ in-two-parts : (front back : List PlainPlacedTable) (k : TableKey) (old : List P
 in-two-parts [] back k old = refl
 in-two-parts (t ∷ ts) back k old = in-two-parts ts back k (cond (eq_by_cmp table_order t.0 k) t.1 old)
 
--- what switching a table ruleset makes of the table at p under a name
+-- what switching a table ruleset makes of the table at p and name
 abbrev pub entries_of : PlainTickets → List ℕ → List ℕ → RulesetName → List PlainEntry → List PlainEntry
 entries_of t p name n old = list_by table_order (placed n.path (loaded t n).tables) (p, name) old
 
@@ -133,7 +133,7 @@ tables-switched t (e ∷ es) p name old =
     tables-step e.name.kind e.name.path (loaded t e.name) (items (content t) es) p name old
     ∙ tables-switched t es p name (cond (same_name e.name (table_ruleset_at p)) (entries_of t p name e.name old) old)
 
--- ---- out of the step
+-- ---- by the step
 
 pub not-twice : (b : Bool) (place : Option ℕ) → cond b (Err BadCount) (refused_at (λ i. Twice i) place) ≡ Ok tt → place ≡ None
 not-twice true place h = absurd (cc (h))

@@ -1,4 +1,4 @@
--- How long lists are that a change leaves: entries of a table, and tables of a map.
+-- How long the lists are that a change leaves: entries of a table, and tables of a map.
 use Rattle.std.proofs.{Common.{◌≡◌, ℕ, ◌+◌, ◌≤◌, ◌==◌, ◌&&◌, not, suc, Bool, true, false, cond, List, [], ◌∷◌, length, Option, Some, None, refl, sym, subst, arith}, lemmas.Bool.Decides.nat_tests, lemmas.List.Sums.{length-filter, count_by-le-length}}
 use Rattle.std.specs.{Prelude.{fold, is_some, filter}, declared.{cmp.Ordering.Ordering, cmp.Ordering.TheVariants.Less, cmp.Ordering.TheVariants.Equal, cmp.Ordering.TheVariants.Greater}, FinMap.{find, put}, FinMap.Entries.by_order, Ordering.eq_by_cmp}
 use Rattle.pf_table.specs.{Edits.deleted, Entries.PlainEntry}
@@ -10,7 +10,7 @@ fewer p xs = subst (λ (n : ℕ). n ≤ length xs) (sym (length-filter p xs)) (c
 
 -- ---- entries of a table
 
--- to delete entries where there are none leaves none
+-- deleting entries where there are none leaves none
 pub deleted-none : (xs : List PlainEntry) → deleted [] xs ≡ []
 unfolding deleted
 deleted-none [] = refl
@@ -49,7 +49,7 @@ only-first true false h is = h
 only-first false b h is = refl
 
 module _ {K X : Type 0} (R : K → K → Ordering) where
-  -- what takes the place of something, or is nothing, is no entry more
+  -- what replaces something, or is nothing, adds no entry
   pub no-more : (new : List X) (k : K) (es : List (K × List X)) → ((length (list_at R k es) == 0) && not (length new == 0)) ≡ false → length (with_list R es (k, new)) ≤ length es
   no-more [] k es h = fewer (λ (x : K × List X). not (eq_by_cmp R k x.0)) es
   no-more (x ∷ xs) k es h =
@@ -58,6 +58,6 @@ module _ {K X : Type 0} (R : K → K → Ordering) where
       let more : length (put R k (x ∷ xs) (without R es k)) ≤ length (without R es k) + 1 = put-one R k (x ∷ xs) (without R es k) in
       omega (arith, less, more)
 
--- where a table isn't one more there are no more tables
+-- if a table adds none, there are no more tables
 pub no-table-more : (ts : List PlainPlacedTable) (p name : List ℕ) (new : List PlainEntry) → ((length (table_at p name ts) == 0) && not (length new == 0)) ≡ false → length (fold with_table ts (placed_table p name new ∷ [])) ≤ length ts
 no-table-more ts p name new h = no-more table_order new (p, name) ts h

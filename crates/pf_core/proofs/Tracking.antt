@@ -9,7 +9,7 @@ use Rattle.pf_core.specs.{declared.{durable.verdict.Verdict.TheVariants.State, d
 use Rattle.pf_core.specs.declared.reply.Answer.TheVariants as answer
 use Rattle.pf_core.specs.declared.reply.Outcome.TheVariants as outcome
 
--- where none passes a test none passes it and another
+-- where none passes a test, none passes it and another
 none-of-both : {X : Type 0} (p q : X → Bool) (xs : List X) → first_where p xs ≡ None → list_any (λ x. q x && p x) xs ≡ false
 none-of-both p q [] h = refl
 none-of-both p q (x ∷ xs) h = by (p x) (q x) refl refl (none-of-both p q xs) where
@@ -18,7 +18,7 @@ none-of-both p q (x ∷ xs) h = by (p x) (q x) refl refl (none-of-both p q xs) w
   by false true is also rest = rw (is, also) (rest (cc (is, h)))
   by false false is also rest = rw (is, also) (rest (cc (is, h)))
 
--- a state of no state's flow, under a free name, is new
+-- a state whose flow is no state's, under a free name, is new
 new-state : (es : List PlainState) (s : PlainState) → state_of s.1.flow es ≡ None → held_at s.0 es ≡ None → insertion es s ≡ New
 new-state es s flow name =
     let apart : is_clash es s ≡ false = none-of-both (λ (t : PlainState). same_flow t.1.flow s.1.flow) (λ (t : PlainState). not (eq_by_cmp name_order t.0 s.0)) es flow in

@@ -42,7 +42,7 @@ replaceable-within d p name es order h w =
     let few : nat_lt TABLE_LIMIT (length es) ≡ false = not_refused (nat_lt TABLE_LIMIT (length es)) TableFull both.first in
     table-within d p name es (record { sorted = order; few = grind (arith, nat_tests, few) }) (room-within d p name es both.second w) w
 
--- what is left of a table that isn't there isn't one more
+-- what is left of a table adds no table
 still-there : (old xs : List PlainEntry) → is_one_more old (deleted old xs) ≡ false
 still-there [] xs = ap (λ (es : List PlainEntry). is_one_more [] es) (deleted-none xs)
 still-there (e ∷ es) xs =

@@ -17,7 +17,7 @@ mentions_of c = cond (is_accepted c.reply) (mentioned c.command) []
 
 -- ---- groups
 
--- the replies to a group's commands; one that was refused whole has none
+-- the replies to a group's commands; there are none if it was refused whole
 abbrev pub replies_in : Result (List Reply) Refusal → List Reply
 replies_in (Ok replies) = replies
 replies_in (Err e) = []

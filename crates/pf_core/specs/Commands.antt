@@ -1,6 +1,6 @@
 -- What a command means: the step that it is due, what it mentions, and whether it takes memory (pf(4), DIOCXBEGIN to DIOCXROLLBACK,
--- DIOCRADDADDRS to DIOCRTSTADDRS; pf.conf(5); pfctl(8), -k). One line each, by family. The limits, the order of refusals and what peers
--- tell are own.
+-- DIOCRADDADDRS to DIOCRTSTADDRS; pf.conf(5); pfctl(8), -k). One line each, by family. The limits, the order of refusals and what peers say
+-- are this project's own.
 use Rattle.std.specs.Prelude.{ℕ, ◌==◌, ◌||◌, Bool, true, false, not, if◌then◌else◌, is_some, List, [], ◌∷◌, length, map, filter, Option, Some, None, Result, Ok, Err, nat_lt, position}
 use Rattle.pf_addr.specs.Refusing.{and_then, unless, refused_at}
 use Rattle.pf_table.specs.{declared.{answer.Addition.Addition, answer.Deletion.Deletion}, Edits.{additions, deletions}, Entries.PlainEntry, Tables.deciding}
@@ -26,12 +26,12 @@ abbrev pub unless_refused : {A B : Type 0} → Result A TicketRefusal → (A →
 unless_refused (Ok x) f = f x
 unless_refused (Err e) f = Err (refusal_of e)
 
--- what a commit replaces at a name's path: the rules by those that are offered, and of the tables those that are offered
+-- what a commit replaces at a name's path by what is offered: all rules, or those tables that are offered
 abbrev pub item_of : RulesetName → Offered → Item
 item_of name (offered.Rules rules) = item.Rules (ruled name.path rules)
 item_of name (offered.Tables named) = item.Tables name.path named
 
--- what a commit of these entries replaces: each ruleset by what is offered for it
+-- what a commit of these entries replaces: each ruleset, with what is offered for it
 abbrev pub items : (RulesetName → Offered) → List RulesetTicket → List Item
 items content entries = map (λ e. item_of e.name (content e.name)) entries
 
@@ -40,14 +40,14 @@ abbrev pub unless_unfit : {A : Type 0} → Result (Unit {0}) ChangeRefusal → R
 unless_unfit (Ok u) next = next
 unless_unfit (Err e) next = Err (change_refusal_of e)
 
--- a change is wanted, where it fits
+-- a change is wanted, if it fits
 abbrev pub wanting : PlainDurable → PlainChange → Outcome → Result Step Refusal
 wanting d e o = unless_unfit (fits d e) (Ok (Wants e o))
 
 abbrev pub commit_step : PlainTickets → PlainDurable → List RulesetTicket → Result Step Refusal
 commit_step t d entries = unless_refused (commit_check t entries) (λ _. wanting d (commits (items (content t) entries)) outcome.Committed)
 
--- a rollback is refused for its list alone
+-- a rollback is refused only for its list
 abbrev pub rollback_step : List RulesetTicket → Result Step Refusal
 rollback_step entries = unless_refused (list_check entries) (λ _. Ok (Done answer.Done))
 
@@ -66,7 +66,7 @@ same_addition addition.Same addition.Same = true
 same_addition addition.Conflict addition.Conflict = true
 same_addition wanted answer = false
 
--- how many of these are new, how many stand there already, and how many with the other sign
+-- how many of these are new, how many are there already, and how many are there with the other sign
 abbrev pub added_of : List Addition → Outcome
 added_of answers = outcome.Added (length (filter (same_addition addition.Added) answers))
     (length (filter (same_addition addition.Same) answers)) (length (filter (same_addition addition.Conflict) answers))
@@ -90,7 +90,7 @@ if_there false next = Err Absent
 abbrev pub is_table : List PlainEntry → Bool
 is_table es = not (length es == 0)
 
--- Each change that is accepted is wanted, also where it leaves all as it is. To kill a table is to set it to no entries.
+-- Each change that is accepted is wanted, even if it leaves all as it is. To kill a table is to set it to no entries.
 abbrev pub edit_step : PlainDurable → TableEdit → Result Step Refusal
 edit_step d (AddTo p name xs) = wanting d (adds p name xs) (added_of (additions (entries_at d p name) xs))
 edit_step d (Delete p name xs) = unless_unfit (no_conflict xs)
@@ -100,19 +100,19 @@ edit_step d (Kill p name) = if_there (is_table (entries_at d p name)) (Ok (Wants
 
 -- ---- changes of states
 
--- which rule a state is bound to that a rule at this path, of this number, makes here: of an anchor's rules none is told
+-- the rule that a state is bound to if the rule of this path and number makes it here: an anchor's rule isn't recorded
 abbrev pub bound_here : PlainDurable → List ℕ → ℕ → Bound
 bound_here d [] number = bound.Rule number (main_sum d)
 bound_here d (b ∷ path) number = bound.Default
 
--- a rule that passes a packet and keeps state makes one, bound so
+-- a rule that passes a packet and keeps state makes one, with this binding
 abbrev pub makes_state : PlainDurable → RuleVerdict → Option Bound
 makes_state d (Deciding path number (Pass true)) = Some (bound_here d path number)
 makes_state d (Deciding path number (Pass false)) = None
 makes_state d (Deciding path number Block) = None
 makes_state d NoRule = None
 
--- it is made under a name that isn't taken
+-- a state is made only under a name that isn't taken
 abbrev pub make_step : PlainDurable → RuleVerdict → PlainState → Result Step Refusal
 make_step d by s = if is_some (held_at s.0 d.states) then Ok (Done (answer.Stale by))
     else wanting d (acts (step.Insert s ∷ [])) (outcome.Tracked by)
@@ -129,7 +129,7 @@ track_step d name packet (ByRules by) = tracked d name packet by (makes_state d 
 abbrev pub steps_here : PlainDurable → Message → List StateStep
 steps_here d m = steps_of m (main_sum d) (length (rules_at [] d.config.rulesets))
 
--- A message that is accepted is a change, also where it leaves all as it is.
+-- A message that is accepted is a change, even if it leaves all as it is.
 abbrev pub states_step : PlainDurable → StateCommand → Result Step Refusal
 states_step d (Track name packet) = track_step d name packet (verdict d packet)
 states_step d (Peer m) = wanting d (acts (steps_here d m)) (outcome.Peered (counts d.states (steps_here d m)))
@@ -137,7 +137,7 @@ states_step d (KillState name) = if_there (is_some (held_at name d.states)) (Ok 
 
 -- ---- questions
 
--- What a question is answered, of what is kept. A test asks the table at the path that it names, and no other.
+-- The answer to a question, by what is kept. A test asks the table at the path that it names, and no other.
 abbrev pub answer_of : PlainDurable → Question → Answer
 answer_of d (Judge packet) = answer.Judged (verdict d packet)
 answer_of d (Test p name a) = answer.Tested (deciding (entries_at d p name) a)
@@ -147,8 +147,8 @@ answer_of d ShowStates = answer.States d.states
 answer_of d Sum = answer.Sum (main_sum d)
 answer_of d Export = answer.Exported (map message_bytes (exported_messages (main_sum d) d.states))
 
--- By the open transactions, and what is kept. A question is never refused, and changes nothing; and what the history is asked is left to
--- whoever keeps it.
+-- The step by the open transactions and what is kept. A question is never refused, and changes nothing; what the history is asked is left
+-- to whoever keeps it.
 abbrev pub step_by : PlainTickets → PlainDurable → Command → Result Step Refusal
 step_by t d (Transact transaction) = transact_step t d transaction
 step_by t d (Edit edit) = edit_step d edit
@@ -166,8 +166,8 @@ may_change (History c) = false
 
 -- ---- groups
 
--- A command that a group may have: a commit, a change of a table, or one of the states. Each of them makes a change where it is accepted, or
--- tracks a packet.
+-- A command that a group may have: a commit, a change of a table, or one of the states. If it is accepted, it makes a change, or tracks a
+-- packet.
 abbrev pub may_be_grouped : Command → Bool
 may_be_grouped (Transact (Begin names)) = false
 may_be_grouped (Transact (Add p t rule)) = false
@@ -179,18 +179,18 @@ may_be_grouped (OfStates c) = true
 may_be_grouped (Ask q) = false
 may_be_grouped (History c) = false
 
--- a group has one command at least, and no more than the limit
+-- whether a group is empty, or has more commands than the limit
 abbrev pub bad_number : ℕ → Bool
 bad_number n = (n == 0) || nat_lt GROUP_LIMIT n
 
--- what refuses a group for its own words: its number, or the first of its commands that it may not have
+-- what refuses a group whatever is kept: its number, or the first of its commands that it may not have
 abbrev pub group_words : List Command → Result (Unit {0}) Refusal
 group_words commands = and_then (unless (bad_number (length commands)) BadCount)
     (refused_at (λ i. NotGrouped i) (position (λ c. not (may_be_grouped c)) commands))
 
 -- ---- mentions
 
--- of a step that is accepted
+-- the mentions of a step that is accepted
 abbrev pub transacted : Transaction → List Mention
 transacted (Begin names) = gives names
 transacted (Add p t rule) = added (filter_at p) t rule ∷ []
@@ -198,7 +198,7 @@ transacted (Define p t name xs) = defined (table_ruleset_at p) t name xs ∷ []
 transacted (Commit entries) = switches (names_of entries)
 transacted (Rollback entries) = drops entries
 
--- of all commands the steps of a transaction alone mention rulesets
+-- of all commands only the steps of a transaction mention rulesets
 abbrev pub mentioned : Command → List Mention
 mentioned (Transact t) = transacted t
 mentioned (Edit edit) = []
@@ -206,7 +206,7 @@ mentioned (OfStates c) = []
 mentioned (Ask q) = []
 mentioned (History c) = []
 
--- the rulesets that a command names, by its own words
+-- the rulesets that a command names
 abbrev pub named_by : Command → List RulesetName
 named_by (Transact (Begin names)) = names
 named_by (Transact (Add p t rule)) = filter_at p ∷ []
@@ -236,7 +236,7 @@ transacts_in_memory (Rollback entries) = false
 abbrev pub asks_for_memory : Question → Bool
 asks_for_memory (Judge packet) = false
 asks_for_memory (Test p name a) = false
--- rules and tables are shared: that they can have no owner more is told as memory that was refused
+-- rules and tables are shared: if they can't have another owner, the answer is that memory ran out
 asks_for_memory (ShowRules p) = true
 asks_for_memory (ShowTables p) = true
 asks_for_memory ShowStates = true
@@ -256,13 +256,13 @@ is_done (Ok (Wants e o)) = false
 is_done (Ok (OfHistory c)) = false
 is_done (Err e) = false
 
--- a packet that is tracked takes none where it is answered without a change
+-- a packet that is tracked takes none if it is answered without a change
 abbrev pub changes_states_in_memory : PlainDurable → StateCommand → Bool
 changes_states_in_memory d (Track name packet) = not (is_done (track_step d name packet (verdict d packet)))
 changes_states_in_memory d (Peer m) = true
 changes_states_in_memory d (KillState name) = is_some (held_at name d.states)
 
--- whether a command may be refused because memory was, by what is kept
+-- whether a command may be refused for want of memory, by what is kept
 abbrev pub takes_memory : PlainDurable → Command → Bool
 takes_memory d (Transact t) = transacts_in_memory t
 takes_memory d (Edit edit) = edits_in_memory d edit

@@ -16,11 +16,11 @@ core_with d t = record { durable = d; tickets = t }
 abbrev pub left_by : PlainDurable → PlainChange → PlainNext
 left_by d e = next_with (applied d e) (voided_by e)
 
--- what is prepared for a change, where it fits
+-- what is prepared for a change, if it fits
 abbrev pub prepared : PlainDurable → PlainChange → Result PlainNext Refusal
 prepared d e = unless_unfit (fits d e) (Ok (left_by d e))
 
--- the same in the course of a group, behind what earlier changes left
+-- the same within a group, after what earlier changes left
 abbrev pub left_behind : PlainNext → PlainChange → PlainNext
 left_behind before e = next_with (applied before.durable e) (before.voided ++ voided_by e)
 
@@ -40,20 +40,20 @@ stepped w c r = core_with w.durable (answered w.tickets c r)
 
 -- ---- steps with what their change leaves
 
--- the step without it
+-- the step without what its change leaves
 abbrev pub plain : Result ReadyStep Refusal → Result Step Refusal
 plain (Ok (made.Done a)) = Ok (Done a)
 plain (Ok (made.Wants e n o)) = Ok (Wants e o)
 plain (Ok (made.OfHistory c)) = Ok (OfHistory c)
 plain (Err e) = Err e
 
--- what was made is what the change leaves, behind what earlier ones of a group left
+-- what was made is what the change leaves, after what earlier ones of a group left
 abbrev pub IsMadeFrom : PlainNext → Result ReadyStep Refusal → Type 0
 IsMadeFrom before (Ok (made.Done a)) = ⊤
 IsMadeFrom before (Ok (made.Wants e n o)) = n ≡ left_behind before e
 IsMadeFrom before (Ok (made.OfHistory c)) = ⊤
 IsMadeFrom before (Err e) = ⊤
 
--- or of what is kept, as it is
+-- the same after no earlier ones
 abbrev pub IsMade : PlainDurable → Result ReadyStep Refusal → Type 0
 IsMade d step = IsMadeFrom (next_with d []) step

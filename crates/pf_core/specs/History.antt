@@ -4,7 +4,7 @@ use Rattle.pf_ticket.specs.{declared.ticket.Ticket.Ticket, Names.tickets_of}
 use Rattle.pf_core.specs.{declared.{reply.Reply.Reply, reply.Reply.TheVariants.Answer as Answered}, Calls.replies_in, Durable.Changes.{PlainDurable, PlainChange}, Worlds.{State, up, down, Event, called, called_group, crashed, group_in, group_all, group_of, kept_groups, acked_by, pending_by, acked_by_group, pending_by_group, next, state_after}}
 use Rattle.pf_core.specs.declared.reply.Answer.TheVariants as answer
 
--- what the opening that lasts gave, or what is held between two
+-- what the current opening gave, or what is held between two
 abbrev pub base_of : State → PlainDurable
 base_of (up h) = h.base
 base_of (down d) = d
@@ -29,18 +29,18 @@ abbrev pub earlier : State → List Event → List (List PlainChange)
 earlier st [] = []
 earlier st (e ∷ es) = kept_by st e ++ earlier (next st e) es
 
--- with those that the opening that lasts acknowledged
+-- then those that the current opening acknowledged
 abbrev pub acknowledged : State → List Event → List (List PlainChange)
 acknowledged st world = earlier st world ++ acked_of (state_after st world)
 
--- and with the one that it did not
+-- then the one that it did not
 abbrev pub history : State → List Event → List (List PlainChange)
 history st world = acknowledged st world ++ pending_of (state_after st world)
 
 -- ---- what was offered
 
--- the group that an event offered to be kept: with the reply to a call, or to a group of commands, whether it was acknowledged or not, and
--- with a crash whether it was kept or not
+-- the group that an event offered to be kept: with the reply to a call or to a group of commands, whether it was acknowledged or not; with
+-- a crash, whether it was kept or not
 abbrev pub offered_by : State → Event → List (List PlainChange)
 offered_by (up h) (called c t) = acked_by c.reply (group_in h c.command) ++ pending_by c.reply (group_in h c.command)
 offered_by (up h) (called_group commands result t) =
@@ -52,7 +52,7 @@ abbrev pub offered : State → List Event → List (List PlainChange)
 offered st [] = []
 offered st (e ∷ es) = offered_by st e ++ offered (next st e) es
 
--- some of these, in order and each once
+-- some of these, in order and each at most once
 abbrev pub AreAmong : List (List PlainChange) → List (List PlainChange) → Type 0
 AreAmong gs [] = gs ≡ []
 AreAmong gs (o ∷ os) = AreAmong gs os ⊎ ((rest : List (List PlainChange)) × (gs ≡ o ∷ rest) × AreAmong rest os)

@@ -1,4 +1,4 @@
--- What is told where the tickets or a change refuse, and where memory was refused.
+-- What is answered if the tickets or a change refuse, and if memory ran out.
 use Rattle.std.specs.Prelude.{◌≡◌, Bool, true, Result, Err}
 use Rattle.pf_addr.specs.Refusing.{OrMemory as DueOrMemory}
 use Rattle.pf_core.specs.declared.{reply.Refusal.Refusal, durable.refusal.ChangeRefusal.ChangeRefusal}
@@ -27,6 +27,6 @@ change_refusal_of by_change.TooManyTables = told.TooManyTables
 change_refusal_of by_change.StatesFull = told.StatesFull
 change_refusal_of by_change.Memory = told.Memory
 
--- this; or memory was refused, where it is taken
+-- the result is the one that is due; or out of memory, if memory is taken
 abbrev pub OrMemory : {A : Type 0} → Bool → Result A Refusal → Result A Refusal → Type 0
 OrMemory takes r due = DueOrMemory told.Memory r due × (r ≡ Err told.Memory → takes ≡ true)

@@ -6,7 +6,7 @@ use Rattle.pf_ticket.specs.{Tickets.{PlainTickets, fresh}, Mentions.{switches, a
 
 -- ---- states
 
--- what an opening is given to keep within: how many changes it may keep, and whether its device has no room for a group more, by what the
+-- what an opening is given to keep within: how many changes it may keep, and whether its device has no room for one more group, by what the
 -- opening gave and the groups that were kept since
 pub record Setting : Type 0 where
   pub limit : ℕ
@@ -16,7 +16,7 @@ pub record Setting : Type 0 where
 abbrev pub in_memory : ℕ → Setting
 in_memory limit = record { limit = limit; is_full = λ base groups group. false }
 
--- a worker saw so many changes of an opening, or learnt that they are shown
+-- a worker saw this many changes of an opening, or learnt that they are shown
 pub record Sight : Type 0 where
   pub worker : ℕ
   pub front : ℕ
@@ -26,23 +26,23 @@ pub record CurrentOpening : Type 0 where
   pub setting : Setting
   -- what the opening gave
   pub base : PlainDurable
-  -- the transactions, as the calls since have left them
+  -- the transactions, as the calls since the start have left them
   pub tickets : PlainTickets
   -- the groups of changes that were acknowledged
   pub acked : List (List PlainChange)
-  -- the group that was not acknowledged, if there is one: the device failed while it was kept
+  -- the group that was not acknowledged, if there is one: the device failed while it was being kept
   pub pending : List (List PlainChange)
   -- how many changes are shown
   pub shown : ℕ
   -- what workers saw or learnt
   pub sights : List Sight
 
--- an opening that lasts, or what is held between two of them
+-- the current opening, or what is held between two of them
 pub data State : Type 0 where
   up : CurrentOpening → State
   down : PlainDurable → State
 
--- an opening has begun: no tickets, no changes, and nobody has seen any
+-- an opening that has just begun: no tickets, no changes, and nobody has seen any
 abbrev pub begun : Setting → PlainDurable → CurrentOpening
 begun setting base = record { setting = setting; base = base; tickets = fresh base.epoch; acked = []; pending = []; shown = 0; sights = [] }
 
@@ -65,7 +65,7 @@ durable_of h = after h.base (flat h.acked)
 
 -- ---- what a command is due
 
--- with a group that was not acknowledged nothing more is changed
+-- after a group that was not acknowledged nothing more is changed
 abbrev pub is_halted : List (List PlainChange) → Bool
 is_halted [] = false
 is_halted (g ∷ gs) = true
@@ -74,26 +74,26 @@ is_halted (g ∷ gs) = true
 abbrev pub step_in : CurrentOpening → Command → Result Step Refusal
 step_in h c = if may_change c && is_halted h.pending then Err Halted else step_by h.tickets (durable_of h) c
 
--- what the history is asked: how many changes there are, are acknowledged, are shown; a publish shows all that were acknowledged
+-- what the history answers: how many changes there are, are acknowledged, are shown; a publish shows all that were acknowledged
 abbrev pub told_of_history : CurrentOpening → HistoryCommand → Told
 told_of_history h Log = Logged (length (log_of h)) (length (flat h.acked)) h.shown
 told_of_history h Publish = Shown (length (flat h.acked))
 
--- the reply to a step, where there is room
+-- the reply to a step, if there is room
 abbrev pub reply_to : CurrentOpening → Result Step Refusal → Reply
 reply_to h (Ok (Done a)) = Answer a
 reply_to h (Ok (Wants e o)) = Applied (length (log_of h) + 1) o
 reply_to h (Ok (OfHistory c)) = Answer (told_of_history h c)
 reply_to h (Err e) = Refused e
 
--- the change that it wants
+-- the change that it wants, if any
 abbrev pub changes_of : Result Step Refusal → List PlainChange
 changes_of (Ok (Done a)) = []
 changes_of (Ok (Wants e o)) = e ∷ []
 changes_of (Ok (OfHistory c)) = []
 changes_of (Err e) = []
 
--- whether changes that are kept together find room, and else why not
+-- whether changes that are kept together find room, and if not, why
 abbrev pub room_for : CurrentOpening → List PlainChange → Result (Unit {0}) Refusal
 room_for h [] = Ok tt
 room_for h (e ∷ es) = if nat_lt h.setting.limit (length (log_of h) + length (e ∷ es)) then Err HistoryFull else
@@ -110,7 +110,7 @@ or_refused (Err e) r = Refused e
 abbrev pub due_at : CurrentOpening → Result Step Refusal → Reply
 due_at h step = or_refused (room_for h (changes_of step)) (reply_to h step)
 
--- changes that are kept together are one group, and no changes are none
+-- changes that are kept together are one group; if there are none, there is no group
 abbrev pub grouped : List PlainChange → List (List PlainChange)
 grouped [] = []
 grouped (e ∷ es) = (e ∷ es) ∷ []
@@ -127,11 +127,11 @@ group_in h c = group_at h (step_in h c)
 
 -- ---- what a group of commands is due
 
--- the opening in the course of a group that wants these changes so far: they would be kept, and have voided their tickets
+-- the opening in the middle of a group that wants these changes so far: as if they were kept, and their tickets void
 abbrev pub amid : CurrentOpening → List PlainChange → CurrentOpening
 amid h changes = record h { tickets = moved_by h.tickets (switches (flat_map voided_by changes)); acked = h.acked ++ grouped changes }
 
--- the changes with the one that a command wants behind them
+-- these changes, then the one that a command wants
 abbrev pub changes_with : CurrentOpening → List PlainChange → Command → List PlainChange
 changes_with h changes c = changes ++ changes_of (step_in (amid h changes) c)
 
@@ -139,7 +139,7 @@ changes_with h changes c = changes ++ changes_of (step_in (amid h changes) c)
 abbrev pub changes_due : CurrentOpening → List PlainChange → List Command → List PlainChange
 changes_due h changes commands = fold (changes_with h) changes commands
 
--- and the reply to each of them
+-- the reply to each of them
 abbrev pub replies_due : CurrentOpening → List PlainChange → List Command → List Reply
 replies_due h changes [] = []
 replies_due h changes (c ∷ commands) =
@@ -149,7 +149,7 @@ replies_due h changes (c ∷ commands) =
 abbrev pub group_start : CurrentOpening → List Command → Result (Unit {0}) Refusal
 group_start h commands = and_then (unless (is_halted h.pending) Halted) (group_words commands)
 
--- what refuses it whole: that, or that all its changes together find no room. What refuses one of its commands is that command's reply
+-- what refuses a group whole: that, or no room for all its changes together. What refuses one of its commands is that command's reply
 abbrev pub group_check : CurrentOpening → List Command → Result (Unit {0}) Refusal
 group_check h commands = and_then (group_start h commands) (room_for h (changes_due h [] commands))
 
@@ -157,7 +157,7 @@ abbrev pub replies_unless : Result (Unit {0}) Refusal → List Reply → Result 
 replies_unless (Ok u) replies = Ok replies
 replies_unless (Err e) replies = Err e
 
--- the replies that are due, or the refusal of the whole, and the one group of all its changes that is kept with them
+-- the replies that are due, or the refusal of the whole; and the one group of all its changes that is kept
 abbrev pub due_group : CurrentOpening → List Command → Result (List Reply) Refusal
 due_group h commands = replies_unless (group_check h commands) (replies_due h [] commands)
 
@@ -166,7 +166,7 @@ group_all h commands = if_ok (group_check h commands) (grouped (changes_due h []
 
 -- ---- events
 
--- what came of a call, or of a group's, besides what it was told: how many changes are then shown, and whether a device failed in it
+-- what a call, or a group's, leaves besides its reply: how many changes are then shown, and whether a device failed in it
 pub record Upshot : Type 0 where
   pub shown : ℕ
   pub failed : Bool
@@ -184,14 +184,14 @@ pub data Event : Type 0 where
   called : Call → Upshot → Event
   -- commands whose changes are kept together, with the reply to each, or the refusal of the whole
   called_group : List Command → Result (List Reply) Refusal → Upshot → Event
-  -- a worker judges by so many changes
+  -- a worker judges by this many changes
   entered : (worker n : ℕ) → Event
-  -- a worker learns that so many are shown
+  -- a worker learns that this many are shown
   learned : (worker n : ℕ) → Event
-  -- within this, and so many groups are kept of those that were not acknowledged
+  -- within this; this many of the groups that were not acknowledged are kept
   crashed : Doing → ℕ → Event
   opened : Setting → Event
-  -- an opening was refused, or cut short by a crash: whether the device has the greater epoch all the same
+  -- an opening was refused, or cut short by a crash; whether the device has the greater epoch all the same
   refused_opening : Bool → Event
 
 -- the group that a crash may leave besides those of the log
@@ -217,7 +217,7 @@ abbrev pub is_fault : Refusal → Bool
 is_fault Fault = true
 is_fault e = false
 
--- and what it leaves of it without an acknowledgement
+-- what it leaves of the group unacknowledged
 abbrev pub pending_by : Reply → List (List PlainChange) → List (List PlainChange)
 pending_by (Answer a) g = []
 pending_by (Applied n o) g = []
@@ -232,7 +232,7 @@ heard h c t = record h {
   shown = t.shown;
 }
 
--- the same of a group
+-- the same for a group
 abbrev pub acked_by_group : Result (List Reply) Refusal → List (List PlainChange) → List (List PlainChange)
 acked_by_group (Ok replies) g = g
 acked_by_group (Err e) g = []
@@ -264,8 +264,8 @@ next st e = st
 
 -- ---- which events are legal
 
--- what may stand in place of the reply that is due: memory was refused, where the command takes any; or, of a change, the device failed,
--- or it is kept and not shown
+-- what may replace the reply that is due: out of memory, if the command takes any; or, for a change, a device's fault, or that the change
+-- is kept and not shown
 abbrev pub StandsIn : CurrentOpening → Command → Bool → Reply → Reply → Type 0
 StandsIn h c failed due (Refused Memory) = takes_memory (durable_of h) c ≡ true
 StandsIn h c failed (Applied n o) (Refused Fault) = failed ≡ true
@@ -279,7 +279,7 @@ abbrev pub shown_by_answer : Told → ℕ → ℕ
 shown_by_answer (Shown n) shown = n
 shown_by_answer a shown = shown
 
--- a change that is answered `Applied` is shown with all before it, and a publish shows what it says; nothing else is shown
+-- a change that is answered `Applied` is shown with all before it, and a publish shows as many as it says; nothing else is shown
 abbrev pub shown_by : Reply → ℕ → ℕ
 shown_by (Answer a) shown = shown_by_answer a shown
 shown_by (Applied n o) shown = n
@@ -290,13 +290,13 @@ pub record LegalCall (h : CurrentOpening) (c : Call) (t : Upshot) : Type 0 where
   pub reply : LegalReply h c.command c.reply t.failed
   pub shown : t.shown ≡ shown_by c.reply h.shown
 
--- a change that is kept and not shown
+-- the reply to a change that is kept and not shown
 abbrev pub as_stored : Reply → Reply
 as_stored (Applied n o) = Stored n o
 as_stored r = r
 
--- The same of a group: memory was refused, where it isn't refused before it takes any; or the device failed, where there are changes to be
--- kept; or these are kept, and none of them is shown.
+-- The same for a group: out of memory, unless it is refused before it takes any; or a device's fault, if there are changes to be kept; or
+-- they are kept, and none of them is shown.
 abbrev pub GroupStandsIn : CurrentOpening → List Command → Bool → Result (List Reply) Refusal → Result (List Reply) Refusal → Type 0
 GroupStandsIn h commands failed due (Err Memory) = group_start h commands ≡ Ok tt
 GroupStandsIn h commands failed (Ok replies) (Err Fault) = (failed ≡ true) × (group_all h commands ≢ [])
@@ -310,7 +310,7 @@ pub record LegalGroup (h : CurrentOpening) (commands : List Command) (result : R
   pub reply : LegalReplies h commands result t.failed
   pub shown : t.shown ≡ fold (λ n r. shown_by r n) h.shown (replies_in result)
 
--- a worker never sees fewer changes than it saw or learnt of
+-- a worker never sees fewer changes than it saw or learnt of before
 abbrev pub SawNoMore : List Sight → ℕ → ℕ → Type 0
 SawNoMore [] worker n = ⊤
 SawNoMore (s ∷ ss) worker n = (s.worker ≡ worker → s.front ≤ n) × SawNoMore ss worker n
@@ -338,6 +338,6 @@ abbrev pub IsLegalFrom : State → List Event → Type 0
 IsLegalFrom st [] = ⊤
 IsLegalFrom st (e ∷ es) = IsLegal st e × IsLegalFrom (next st e) es
 
--- events that are legal in turn, where this was held first
+-- events that are legal in turn, from what was held first
 abbrev pub IsWorld : PlainDurable → List Event → Type 0
 IsWorld first world = IsLegalFrom (down first) world

@@ -1,4 +1,4 @@
-//! What a client asks.
+//! Commands of clients.
 ghost use Rattle.std.specs.Prelude.{◌≡◌};
 ghost use Rattle.pf_core.specs.Commands.{may_be_grouped};
 
@@ -14,7 +14,7 @@ use pf_ticket::{Entries, RulesetNames, Ticket};
 /// One step of a transaction (pf(4), DIOCXBEGIN, DIOCADDRULE, DIOCRINADEFINE, DIOCXCOMMIT, DIOCXROLLBACK).
 #[derive(Drop)]
 pub enum Transaction {
-    /// Clears the inactive ruleset of each name and gives a ticket for it.
+    /// Clears the inactive ruleset of each name, and gives a ticket for it.
     Begin(RulesetNames),
     /// Appends a rule to the inactive filter ruleset at a path.
     Add {
@@ -22,18 +22,17 @@ pub enum Transaction {
         ticket: Ticket,
         rule: Rule,
     },
-    /// Offers entries for one table at a path, in place of those that were offered for it. Without entries the commit will
-    /// take the table out.
+    /// Offers entries for one table at a path, in place of those that were offered for it. If there are none, the commit takes the table
+    /// out.
     Define {
         path: Path,
         ticket: Ticket,
         name: TableName,
         entries: EntryList,
     },
-    /// Makes the inactive rulesets active, all or none. Of the tables at a path these are the ones that were defined; others
-    /// stay.
+    /// Makes the inactive rulesets active, all or none. Of the tables at a path those are replaced that were defined; others stay.
     Commit(Entries),
-    /// Drops the inactive rulesets whose tickets are valid, and lets the others be.
+    /// Drops the inactive rulesets whose tickets are valid, and leaves the others alone.
     Rollback(Entries),
 }
 
@@ -46,13 +45,13 @@ pub enum TableEdit {
         name: TableName,
         entries: EntryList,
     },
-    /// Takes out the entries that are there with the same sign, and with the last one the table. It has to be there.
+    /// Takes out the entries that are there with the same sign, and with the last one the table. The table has to be there.
     Delete {
         path: Path,
         name: TableName,
         entries: EntryList,
     },
-    /// Puts the entries in place of all that are there. A table that isn't there is made; without entries it is taken out.
+    /// Replaces all entries by these. A table that isn't there is made; without entries it is taken out.
     Set {
         path: Path,
         name: TableName,
@@ -68,17 +67,16 @@ pub enum TableEdit {
 /// A change of the states, at once and without a ticket.
 #[derive(Drop)]
 pub enum StateCommand {
-    /// Says what happens to a packet. Where no state passes it and a rule that keeps state does, a state of its flow is made under
-    /// this name, with generation 0, unless the name is taken. It is bound to that rule where it is one of the main ruleset, else to
-    /// the default rule.
+    /// Judges a packet. If no state passes it and a rule that keeps state does, a state of its flow is made under this name, with
+    /// generation 0, unless the name is taken. It is bound to that rule if it is one of the main ruleset, else to the default rule.
     Track { name: StateName, packet: Packet },
-    /// Acts on the records of a peer's message, in their order.
+    /// Acts on the records of a peer's message, in order.
     Peer(Message),
     /// Takes out the state of a name. It has to be there (pfctl(8), `-k`).
     Kill(StateName),
 }
 
-/// What is asked of what is kept. It changes nothing.
+/// A question about what is kept. It changes nothing.
 #[derive(Drop)]
 pub enum Question {
     /// Says what happens to a packet.
@@ -95,18 +93,18 @@ pub enum Question {
     ShowTables(Path),
     /// Shows the states.
     ShowStates,
-    /// Tells the checksum of the main rules.
+    /// Says what the checksum of the main rules is.
     Sum,
-    /// Tells a peer of all states, as messages.
+    /// Exports all states, as messages to a peer.
     Export,
 }
 
-/// What is asked of whoever keeps the history of changes (pf_book, or pfd in memory).
+/// What is asked of whoever keeps the history of changes (pf_book).
 #[derive(Clone, Copy)]
 pub enum HistoryCommand {
-    /// Tells how many changes there are since the opening, how many of them are acknowledged, and how many are shown.
+    /// Says how many changes there are since the opening, how many of them are acknowledged, and how many are shown.
     Log,
-    /// Shows all changes that are acknowledged.
+    /// Shows all acknowledged changes.
     Publish,
 }
 
@@ -121,7 +119,7 @@ pub enum Command {
     States(StateCommand),
     /// A question.
     Ask(Question),
-    /// What is asked of whoever keeps the history.
+    /// A command for whoever keeps the history.
     History(HistoryCommand),
 }
 

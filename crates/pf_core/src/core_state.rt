@@ -1,4 +1,4 @@
-//! One command after the other.
+//! Steps of commands.
 ghost use Rattle.std.specs.{Prelude.{◌≡◌, List, IfOk, OnErr, true}, Arc.arc_value};
 ghost use Rattle.pf_rule.specs.Packets.{PlainPacket};
 ghost use Rattle.pf_ticket.specs.declared.entry.RulesetTicket.{RulesetTicket};
@@ -49,7 +49,7 @@ fn item_of(alloc: Global, name: &RulesetName, offered: Offered) -> Result<Item, 
     }
 }
 
-// What a commit of these entries replaces, behind changes that void these tickets.
+// What a commit of these entries replaces, after changes that void these tickets.
 fn take_items(
     alloc: Global,
     tickets: &Tickets,
@@ -66,7 +66,7 @@ fn take_items(
     Ok(taken)
 }
 
-// The change that a commit wants, or why it is refused, behind changes that void these tickets.
+// The step of a commit, after changes that void these tickets.
 fn commit(
     alloc: Global,
     durable: &Durable,
@@ -85,7 +85,7 @@ fn commit(
     Ok(wants(alloc, before, change, left, Outcome::Committed)?)
 }
 
-// The step of a commit in a group, behind changes that void these tickets.
+// The step of a commit in a group, after changes that void these tickets.
 fn commit_of(
     alloc: Global,
     durable: &Durable,
@@ -106,7 +106,7 @@ fn commit_of(
     }
 }
 
-// A step of a transaction. Where it wants a change, or is refused, the tickets are as before.
+// A step of a transaction. If it wants a change, or is refused, the tickets are as before.
 fn transact(
     alloc: Global,
     durable: &Durable,
@@ -144,7 +144,7 @@ fn transact(
     }
 }
 
-// What a question is answered. A judge and a test take no memory.
+// The answer to a question. A judge, a test and a sum take no memory.
 fn answer(alloc: Global, durable: &Durable, question: &Question) -> Result<Answer, AllocError>
     ensures value { IfOk result (λ a. a ≡ answer_of durable.now question.now) }
     ensures memory { OnErr result (asks_for_memory question.now ≡ true) }
@@ -184,7 +184,7 @@ fn alone(step: Result<ReadyStep, Refusal>) -> Result<Step, Refusal>
 }
 
 impl Core {
-    /// What is kept, with no ticket given. It takes no memory.
+    /// The core of what is kept, with no ticket given. It takes no memory.
     pub fn new(alloc: Global, durable: Arc<Durable>) -> Core
         ensures { result ≡ core_with (arc_value durable) (fresh (arc_value durable).epoch) }
     {
@@ -210,18 +210,19 @@ impl Core {
         Arc::try_clone(&self.durable)
     }
 
-    /// One command. Where it wants a change, is left to whoever keeps the history, or is refused, the core is as before. A judge, a test,
-    /// a sum and a rollback take no memory, and neither does a `track` that makes no state or a kill of what isn't there.
+    /// The step of one command. If it wants a change, is left to whoever keeps the history, or is refused, the core is as before. A judge,
+    /// a test, a sum and a rollback take no memory, and neither does a `track` that makes no state or a kill of what isn't there.
     ///
-    /// It is refused for the first of these that holds. A begin: `BadCount`, `TooManyRulesets`, `TicketsExhausted`. An
-    /// add of a rule: `Busy`, `RulesetFull`. A define: `Conflict`, `Busy`, `TableFull`, `TooManyTables`. A commit: `BadCount`,
-    /// `Twice`, `Busy`, `TooManyRulesets`, `TooManyTables`. A rollback: `BadCount`, `Twice`. Entries that are added to a table or
-    /// take the place of its own: `Conflict`, `TableFull`, `TooManyTables`. Entries that are deleted: `Conflict`, `Absent`. A
-    /// table or a state that is killed: `Absent`. A packet that is tracked, where a state is to be made of it, and a peer's message:
-    /// `StatesFull`. A question, or what the history is asked: none. Where a growth of memory is refused, `Memory` may come before any of them.
-    /// The history's limit and its device aren't the core's: whoever keeps the history answers `HistoryFull`, `Full` or `Fault` to a
-    /// change that is wanted, and doesn't accept it; and after a `Fault` he answers `Halted`, without asking the core. What is shown isn't
-    /// the core's either: he answers `Stored` to a change that he accepts and can't show.
+    /// The refusal is the first of these that holds. A begin: `BadCount`, `TooManyRulesets`, `TicketsExhausted`. An add of a rule: `Busy`,
+    /// `RulesetFull`. A define: `Conflict`, `Busy`, `TableFull`, `TooManyTables`. A commit: `BadCount`, `Twice`, `Busy`, `TooManyRulesets`,
+    /// `TooManyTables`. A rollback: `BadCount`, `Twice`. Entries that are added to a table or replace its own: `Conflict`, `TableFull`,
+    /// `TooManyTables`. Entries that are deleted: `Conflict`, `Absent`. A table or a state that is killed: `Absent`. A packet that is
+    /// tracked, if a state is to be made of it, and a peer's message: `StatesFull`. A question, or what the history is asked: none. Out of
+    /// memory, `Memory` may come before any of them.
+    ///
+    /// The core knows neither the history's limit nor its device nor what is shown. Whoever keeps the history answers `HistoryFull`, `Full`
+    /// or `Fault` to a change that is wanted and isn't accepted, `Stored` to one that is accepted and can't be shown, and after a `Fault`
+    /// `Halted`, without asking the core.
     pub fn step(&mut self, command: &Command) -> Result<Step, Refusal>
         ensures reply { OrMemory (takes_memory self.old.durable command.now) result
             (step_by self.old.tickets self.old.durable command.now) }
@@ -234,7 +235,7 @@ impl Core {
         alone(self.step_ready(command))
     }
 
-    /// One command, as `step` answers or refuses it, with all made that its change leaves: as `prepare` makes it of the core as it is.
+    /// The step of one command, as `step` gives it, with what its change leaves, as `prepare` would make it of the core as it is.
     pub fn step_ready(&mut self, command: &Command) -> Result<ReadyStep, Refusal>
         ensures reply { OrMemory (takes_memory self.old.durable command.now) (plain result)
             (step_by self.old.tickets self.old.durable command.now) }
@@ -261,8 +262,8 @@ impl Core {
         }
     }
 
-    /// Makes what a change leaves. It is refused as `Durable::apply` says, and never so for a change that a step of this core
-    /// wants; where memory is refused nothing is made.
+    /// Makes what a change leaves. It is refused as `Durable::apply` says, but never so for a change that a step of this core wants; out of
+    /// memory, nothing is made.
     pub fn prepare(&self, change: &Change) -> Result<Next, Refusal>
         ensures { OrMemory true result (prepared self.now.durable change.now) }
     {
@@ -270,8 +271,8 @@ impl Core {
         Ok(Next::new(self.alloc, &[], change, applied)?)
     }
 
-    /// A later command of a group, as `step` would answer or refuse it once what earlier ones left were accepted. The core stays as it is, and
-    /// has to be the one that these were prepared of. A group has to be allowed the command.
+    /// The step of a later command of a group, as `step` would give it after what the earlier ones left was accepted. The core stays as it
+    /// is, and has to be the one that `before` was prepared of. The command has to be one that a group may have.
     pub fn step_from(&self, before: &Next, later: &Command) -> Result<Step, Refusal>
         requires { may_be_grouped later.now ≡ true }
         ensures { OrMemory (takes_memory before.now.durable later.now) result
@@ -280,7 +281,7 @@ impl Core {
         alone(self.step_ready_from(before, later))
     }
 
-    /// The same, with all made that its change leaves behind those of the earlier ones: as `prepare_from` makes it.
+    /// The same, with what its change leaves after those of the earlier commands, as `prepare_from` would make it.
     pub fn step_ready_from(&self, before: &Next, later: &Command) -> Result<ReadyStep, Refusal>
         requires { may_be_grouped later.now ≡ true }
         ensures reply { OrMemory (takes_memory before.now.durable later.now) (plain result)
@@ -304,8 +305,8 @@ impl Core {
         }
     }
 
-    /// Makes what a change leaves, once what earlier ones of a group left were accepted: to accept it is to accept them all. The core stays
-    /// as it is. It is refused as `prepare` says.
+    /// Makes what a change leaves after the earlier ones of a group: to accept it is to accept them all. The core stays as it is. It is
+    /// refused as `prepare` says.
     pub fn prepare_from(&self, before: &Next, change: &Change) -> Result<Next, Refusal>
         ensures { OrMemory true result (prepared_from before.now change.now) }
     {
@@ -313,7 +314,7 @@ impl Core {
         Ok(Next::new(self.alloc, before.voided.as_slice(), change, applied)?)
     }
 
-    /// Puts in place what was prepared, which has to be of this core as it is. It takes no memory.
+    /// Puts in place what was prepared of this core as it is. It takes no memory.
     pub fn accept(&mut self, next: Next)
         ensures { self.new ≡ core_with next.durable (after self.old.tickets (switches next.voided)) }
     {

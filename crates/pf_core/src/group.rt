@@ -14,7 +14,7 @@ fn is_bad_number(number: usize) -> bool
     number == 0 || number > GROUP_LIMIT
 }
 
-// The first command that a group may not have.
+// The place of the first command that a group may not have.
 fn first_unfit(commands: &[Command]) -> Option<usize>
     ensures { result ≡ position (λ c. not (may_be_grouped c)) commands.now }
 {
@@ -23,8 +23,8 @@ fn first_unfit(commands: &[Command]) -> Option<usize>
         .position(|command| !command.may_be_grouped())
 }
 
-/// Whether these commands may be a group, by their own words. The refusal is the first in this order: `BadCount`; `NotGrouped`. It takes
-/// no memory.
+/// Whether these commands may be a group, whatever is kept. The refusal is the first in this order: `BadCount`; `NotGrouped`. It takes no
+/// memory.
 pub fn check_group(commands: &[Command]) -> Result<(), Refusal>
     ensures { result ≡ group_words commands.now }
 {

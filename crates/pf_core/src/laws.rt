@@ -13,7 +13,7 @@ pub fn the_limit_of_groups()
     ensures { GROUP_LIMIT ≡ 64 }
 {}
 
-/// A commit of filter rulesets leaves all tables, and a commit of table rulesets leaves all rulesets.
+/// A commit of filter rulesets alone leaves all tables, and one of table rulesets alone leaves all rulesets.
 pub fn commits_leave_the_other_kind()
     ensures { LeaveTheOtherKind }
 {}
@@ -23,25 +23,25 @@ pub fn wants_what_fits()
     ensures { WantsWhatFits }
 {}
 
-/// A packet that is tracked with a change makes one state, which is new: it clashes with none, and takes the place of none.
+/// A packet that is tracked with a change makes one state, which is new: it clashes with none, and replaces none.
 #[tactic(auto, using(crate::proofs::Tracking::track_makes_one))]
 pub fn track_makes_one_state()
     ensures { TrackMakesOne }
 {}
 
-/// A commit that isn't refused switches all rulesets that it names, each to what was offered for it, and no other. Of
-/// the tables at a path those that were defined are switched, and the others stay.
+/// A commit that isn't refused switches all rulesets that it names, each to what was offered for it, and no others. Of the tables at a path
+/// those that were defined are switched, and the others stay.
 pub fn switches_all()
     ensures { SwitchesAll }
 {}
 
-/// A command that wants a change voids, once it is applied, exactly the tickets that its change voids.
+/// If a command wants a change, its mentions, once it is applied, void exactly the tickets that the change voids.
 #[tactic(auto, using(crate::specs::Laws::Wanted::wants_mentions))]
 pub fn voids_the_named()
     ensures { VoidsTheNamed }
 {}
 
-/// What is refused mentions no ruleset, and so changes neither the valid tickets nor what is offered.
+/// A refused command mentions no ruleset, and so changes neither the valid tickets nor what is offered.
 #[tactic(auto, using(crate::proofs::Switching::refused_mention_nothing))]
 pub fn refused_mention_nothing()
     ensures { RefusedMentionNothing }
@@ -52,53 +52,53 @@ pub fn keeps_none_valid()
     ensures { KeepsNoneValid }
 {}
 
-/// A call leaves the valid tickets of the rulesets that it doesn't name, and what is offered with them; and what its
-/// command mentions is exactly what it names, in its order.
+/// A call leaves the valid tickets of the rulesets that it doesn't name, and what is offered with them. Its command mentions exactly the
+/// rulesets that it names, in order.
 #[tactic(auto, using(crate::proofs::Switching::leaves_the_others, crate::proofs::Switching::mentions_the_named))]
 pub fn leaves_the_others()
     ensures others { LeavesTheOthers }
     ensures named { MentionsTheNamed }
 {}
 
-/// In the opening that a world comes to the open transactions are what the mentions of the calls since leave.
+/// In the opening that a world ends in, the open transactions are what the mentions of the calls since its start leave.
 #[tactic(auto, using(crate::proofs::LongerWorlds::tickets_are_of_the_calls))]
 pub fn tickets_are_of_the_calls()
     ensures { TicketsAreOfTheCalls }
 {}
 
-/// In the opening that a world comes to the tickets given are numbered from 1 on, and none is given twice.
+/// In the opening that a world ends in, the tickets given are numbered from 1 on, and none is given twice.
 pub fn gives_each_ticket_once()
     ensures { GivesEachOnce }
 {}
 
-/// In the opening that a world comes to, where what was held first is so: what is kept are maps of rulesets and of tables, in which
-/// none is empty and no path, no name at a path and no network of a table stands twice, and states of which no name and no flow does;
-/// and all limits hold, of rules, rulesets, entries, tables, states, tickets and history.
+/// In the opening that a world ends in, if it was so of what was held first: what is kept are maps of rulesets and of tables, in which
+/// none is empty and no path, no name at a path and no network of a table is there twice, and states, of which no two have the same name or
+/// flow; and all limits hold, of rules, rulesets, entries, tables, states, tickets and history.
 pub fn keeps_the_limits()
     ensures { KeepsTheLimits }
 {}
 
-/// In the opening that a world comes to a commit whose tickets are valid names nothing twice, so that it is refused for limits alone.
+/// In the opening that a world ends in, a commit whose tickets are valid names nothing twice, so it is refused only for limits.
 pub fn commits_name_nothing_twice()
     ensures { CommitsNameOnce }
 {}
 
-/// In the opening that a world comes to no change is shown that wasn't acknowledged, and every one is that was, but where some were stored
-/// and not shown since; one group at most isn't acknowledged, and none where the device didn't fail in a call of that opening.
+/// In the opening that a world ends in, no change is shown that wasn't acknowledged, and all that were are shown, unless some were stored
+/// and not shown since. At most one group isn't acknowledged, and none if the device didn't fail in a call of that opening.
 pub fn shows_all()
     ensures { ShowsAll }
 {}
 
-/// So a test is told of the table that it names the one entry that contains the address with the most specific network, or none where
-/// none contains it; and a packet is judged by the one state of its flow, and where there is none by the rules: where the main ruleset
-/// has no anchor rule by the last rule that matches or the first quick one, and an anchor rule leads to the rulesets that there are.
+/// So the answer to a test is the one entry of its table that contains the address with the most specific network, or none if none contains
+/// it. A packet is judged by the one state of its flow, and without one by the rules: if the main ruleset has no anchor rule, by the last
+/// rule that matches or the first quick one. An anchor rule leads to the rulesets that are there.
 pub fn answers_rest_on_what_is_kept()
     ensures tests { TestsTellTheEntry }
     ensures judges { JudgesTellTheVerdict }
 {}
 
 /// Of every world, over crashes and openings: no ticket that was given before an opening is valid after it; every group of changes, so
-/// every commit, stands whole or not at all; what each later opening gives is, but for its epoch, the fold of all changes that were kept
+/// every commit, is kept whole or not at all; what each later opening gives is, but for its epoch, the fold of all changes that were kept
 /// since the first base, in order and each once, with every change that was acknowledged before; what a worker saw or learnt was
 /// acknowledged, and what is kept begins with it.
 pub fn worlds()
@@ -112,8 +112,8 @@ pub fn worlds()
     ensures epochs { RaisesTheEpoch }
 {}
 
-/// A group's commands are due the replies that they would be due one by one, where each of these finds room: what they want is then what
-/// these calls would keep, and the tickets are those that these would leave.
+/// A group's commands are due the replies that they would be due one by one, if each of these finds room. What they want is then what these
+/// calls would keep, and the tickets are those that these calls would leave.
 #[tactic(auto, using(crate::proofs::InTurn::groups_are_in_turn))]
 pub fn groups_are_in_turn()
     ensures { GroupsAreInTurn }

@@ -1,21 +1,27 @@
 //! Commands and replies: the decisions of the control plane, apart from texts and disks.
 //!
 //! It knows tickets, rulesets, tables and states by the crates below, and what a peer's message is. It doesn't know how a command is
-//! spelled or a reply written (pf_line), nor who keeps the changes and publishes them (pfd).
+//! spelled or a reply written (pf_line), nor who keeps the changes and publishes them (pf_book).
 //!
 //! A `Core` is what is kept, a `Durable`, and the open transactions. `Core::step` answers a command, refuses it, leaves it to whoever keeps
 //! the history, or says which `Change` it wants kept; `Core::prepare` makes what the change leaves, and `Core::accept` puts it in place.
-//! `Core::step_ready` is a step with what its change leaves, made once. `Core::step_from` and `Core::prepare_from` are the same for a later
-//! command of a group, whose changes are kept together. Read first specs/Durable/Changes.antt (what is kept, what a change does to it, which
-//! change fits) and specs/Commands.antt (the one step that a command is due), then specs/Worlds.antt: lists of calls, of groups of
-//! commands, of what workers see, of crashes and openings, and which of these are legal. What holds in every such world, as that no limit
-//! is passed, nothing stands twice and no ticket is given twice, says specs/Laws/Worlds.antt; specs/Laws/Openings.antt says what each
-//! opening gives of all that was kept before it (specs/History.antt), and that what a worker saw or learnt stays;
-//! specs/Laws/Commands.antt says what one step does, and specs/Laws/Groups.antt what a group comes to beside its commands one by one.
+//! `Core::step_ready` does the first two in one, so that what its change leaves is made once. `Core::step_ready_from` and
+//! `Core::prepare_from` do the same for a later command of a group, whose changes are kept together.
+//!
+//! Read specs/Durable/Changes.antt first (what is kept, what a change does to it, which change fits), then specs/Commands.antt (the one
+//! step that a command is due), then specs/Worlds.antt: lists of calls, of groups of commands, of what workers see, of crashes and
+//! openings, and which of these are legal. specs/History.antt is what is kept over all openings of such a world.
 //!
 //! `durable` is what is kept and its changes. It uses no other module, and knows of tickets only the names of rulesets and the lists of
-//! defined tables. `command` and `reply` are values over it; `group` says which commands may be kept together; `table_edit` and
-//! `state_command` are the steps of their commands, and `core_state` uses all. specs/WorldBooks.antt is for the crate above.
+//! defined tables. `command` and `reply` are values over it; `group` says which commands may be kept together; `step` and `next` are what a
+//! command comes to and what its change leaves; `table_edit` and `state_command` are the steps of their commands, and `core_state` uses
+//! all. specs/WorldBooks.antt is for the crate above.
+//!
+//! Proved: each step, refusal and change is the one that the definitions give (the contracts of `Core` and `Durable`). Of every legal
+//! world: no limit is passed, nothing is there twice, no ticket is given twice or outlives an opening, each opening gives all that was kept
+//! before it, and what a worker saw or learnt stays (specs/Laws/Worlds.antt, specs/Laws/Openings.antt). specs/Laws/Commands.antt says what
+//! one step does, and specs/Laws/Groups.antt compares a group with its commands one by one. That what runs is such a world is proved in
+//! pf_book. Nothing is only tested here.
 #![tactic(auto)]
 
 mod command;

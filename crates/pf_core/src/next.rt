@@ -8,7 +8,7 @@ use std::alloc::{AllocError, Global};
 use std::marker::Model;
 use std::sync::Arc;
 
-/// What a change leaves, or several of a group in turn, with all its memory made. Contracts see it as a `PlainNext`.
+/// What a change leaves, or several of a group in turn, with all its memory allocated. Contracts see it as a `PlainNext`.
 #[derive(Drop)]
 pub struct Next {
     pub(crate) durable: Arc<Durable>,
@@ -24,7 +24,7 @@ impl Model for Next {
     ghost view = { λ n. next_with (arc_value n.durable) n.voided.items };
 }
 
-// These rulesets behind those.
+// The names `before`, then these.
 fn behind(
     alloc: Global,
     before: &[RulesetName],
@@ -41,7 +41,7 @@ fn behind(
 }
 
 impl Next {
-    // That the change leaves this, behind others that void these tickets.
+    // That the change leaves this, after others that void these tickets.
     pub(crate) fn new(
         alloc: Global,
         before: &[RulesetName],

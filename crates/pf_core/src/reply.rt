@@ -1,4 +1,4 @@
-//! What a client is told.
+//! Replies to commands.
 ghost use Rattle.std.specs.Prelude.{◌≡◌};
 ghost use Rattle.pf_core.specs.declared.reply.Refusal.TheVariants.{Memory};
 ghost use Rattle.pf_core.specs.Refusals.{refusal_of, change_refusal_of};
@@ -13,7 +13,7 @@ use pf_ticket::{TicketRange, TicketRefusal};
 use std::alloc::AllocError;
 use std::marker::Model;
 
-/// Tables at their paths under their names. Contracts see the list.
+/// Tables with their paths and names. Contracts see the list.
 #[derive(Drop)]
 pub struct NamedTables {
     tables: Vec<PlacedTable>,
@@ -75,7 +75,7 @@ impl StateList {
     }
 }
 
-/// What is told where nothing is to be kept.
+/// The answer to a command that wants nothing kept.
 #[derive(Drop)]
 pub enum Answer {
     /// The tickets of a begin.
@@ -84,9 +84,9 @@ pub enum Answer {
     Done,
     /// What happens to a packet.
     Judged(Verdict),
-    /// A rule passes a packet and keeps state, and the name that its state was to have is taken.
+    /// A rule passes a packet and keeps state, but the name for its state is taken.
     Stale(RuleVerdict),
-    /// The entry of a table that decides on an address, where one contains it.
+    /// The entry of a table that decides on an address, if one contains it.
     Tested(Option<Entry>),
     /// The rules of a ruleset, in order.
     Rules(RuleList),
@@ -96,21 +96,21 @@ pub enum Answer {
     States(StateList),
     /// The checksum of the main rules: MD5, 16 bytes.
     Sum([u8; 16]),
-    /// Messages that tell a peer of all states.
+    /// Messages by which a peer learns all states.
     Exported(Exported),
     /// How many changes there are since the opening, how many of them are acknowledged, and how many are shown.
     Logged { len: u64, acked: u64, shown: u64 },
-    /// All changes that are acknowledged are shown, and these are so many.
+    /// All acknowledged changes are shown, and this is their number.
     Shown(u64),
 }
 
-/// What is told, beside its number, of a change that was kept.
+/// What the reply to a kept change says beside its number.
 #[derive(Drop)]
 pub enum Outcome {
-    /// The rulesets of a commit are active, each with what was offered for it, and none of its tickets is valid now.
+    /// The rulesets of a commit are active, each with what was offered for it, and none of its tickets is valid any more.
     Committed,
-    /// How many of the entries handed in are new in the table, how many it had already, and how many it has with the other
-    /// sign, which stays.
+    /// How many of the entries handed in are new in the table, how many it had already, and how many it has with the other sign, which
+    /// stays.
     Added {
         added: usize,
         same: usize,
@@ -131,19 +131,18 @@ pub enum Outcome {
     Peered(Counts),
 }
 
-/// Why nothing was done. After each of these but `Fault` all is as before: what is kept, the valid tickets, what is offered
-/// with them, and the count of the next ticket.
+/// Why nothing was done. After each of these but `Fault` all is as before: what is kept, the valid tickets, what is offered with them, and
+/// the count of the next ticket.
 #[derive(Clone, Copy, Debug, PartialEq, Eq)]
 pub enum Refusal {
     /// The line is longer than 4,096 bytes, or has a byte that no line may have. No command was read: all is as before.
     BadLine,
-    /// The first word at which the text can't go on, from 0; the number of words where one is missing. No command was
-    /// read: all is as before.
+    /// The first word at which the text can't go on, from 0; the number of words if one is missing. No command was read: all is as before.
     BadWord { at: usize },
     /// The same, for a name past its limit: 15 bytes for an interface, 31 for a table, 63 for a path's component and for a
     /// reference, 255 for a path, and 16 components in a path. No command was read: all is as before.
     NameTooLong { at: usize },
-    /// The same, for a word that is no protocol. No command was read: all is as before.
+    /// The same, for a word that isn't a protocol. No command was read: all is as before.
     BadProto { at: usize },
     /// The families of a rule's hosts and its own, or of a packet's addresses, differ. No command was read: all is as
     /// before.
@@ -154,49 +153,47 @@ pub enum Refusal {
     BadPeer(PeerFault),
     /// The bytes of a peer's message are several messages, or none. No command was read: all is as before.
     PeerCount,
-    /// The device that changes are kept on failed in this opening, so nothing more is changed in it: this comes before all that a
-    /// command may be refused for that could change something. All is as before.
+    /// The device that changes are kept on failed in this opening, so nothing more is changed in it. For a command that could change
+    /// something this comes before any other refusal. All is as before.
     Halted,
-    /// The list of a begin, a commit or a rollback without entries, or with more than 64; or a group without commands, or with more than
-    /// 64. All is as before.
+    /// The list of a begin, a commit or a rollback, or a group of commands, is empty or longer than 64. All is as before.
     BadCount,
-    /// The first command of a group, from 0, that isn't of the kinds that a group may have. All is as before, for the other commands too.
+    /// This command of a group, from 0, is the first that isn't of the kinds that a group may have. All is as before, for the other
+    /// commands too.
     NotGrouped { index: usize },
-    /// The first entry of a commit or a rollback, from 0, that names a ruleset named before it. All is as before, for the
-    /// other entries too.
+    /// This entry of a commit or a rollback, from 0, is the first that names a ruleset named before it. All is as before, for the other
+    /// entries too.
     Twice { at: usize },
-    /// The first entry of a commit, from 0, whose ticket isn't valid; 0 for an add or a define. All is as before, and the tickets of
-    /// the other entries that were valid are so still.
+    /// This entry of a commit, from 0, is the first whose ticket isn't valid; 0 for an add or a define. All is as before, and the other
+    /// entries' valid tickets stay valid.
     Busy { at: usize },
-    /// The first entry of a list, from 0, whose network stands before it with the other sign. All is as before.
+    /// This entry of a list, from 0, is the first whose network came before it with the other sign. All is as before.
     Conflict { at: usize },
-    /// Entries are to be deleted from a table, or it is to be killed, and there is no such table; or a state is to be killed that
-    /// isn't there. All is as before.
+    /// Entries are to be deleted from a table that isn't there, or such a table is to be killed, or a state that isn't there. All is as
+    /// before.
     Absent,
-    /// The inactive ruleset has 1,024 rules, and no ruleset may have more. All is as before, and its ticket is valid.
+    /// The inactive ruleset has 1,024 rules already. All is as before, and its ticket is valid.
     RulesetFull,
     /// A commit would leave more than 1,024 rulesets, or a begin more than 1,024 with a valid ticket. All is as before.
     TooManyRulesets,
     /// A table would have more than 65,536 entries. All is as before.
     TableFull,
-    /// There would be more than 1,024 tables, or more than 1,024 offered under one ticket. All is as before.
+    /// There would be more than 1,024 tables, or more than 1,024 offered with one ticket. All is as before.
     TooManyTables,
-    /// There would be more than 65,536 states after one of the records of a peer's message, also where those behind it would leave
-    /// fewer, or with a state that is to be made. All is as before.
+    /// There would be more than 65,536 states: with a state that is to be made, or after one of the records of a peer's message, even if
+    /// later records would leave fewer. All is as before.
     StatesFull,
-    /// A begin needs more counts than are left up to 4,294,967,295, the last of an opening. All is as before: none of them
-    /// is given.
+    /// A begin needs more counts than are left up to 4,294,967,295, the last of an opening. All is as before: none of them is given.
     TicketsExhausted,
-    /// The history has as many changes as it may have, which whoever keeps it says. All is as before.
+    /// The history has as many changes as it may have, as whoever keeps it says. All is as before.
     HistoryFull,
-    /// The device that changes are kept on has no room for this one, or for all of a group, which whoever keeps them says. All is as
-    /// before.
+    /// The device that changes are kept on has no room for this one, or for all of a group, as whoever keeps them says. All is as before.
     Full,
-    /// The device failed while the change, or a group's changes, were put there. They aren't acknowledged: the next opening may give them
-    /// or not, of a group all or none. What is kept, the tickets and what is shown are as before, and until that opening all that may
+    /// The device failed while the change, or a group's changes, were being written. They aren't acknowledged: the next opening may give
+    /// them or not, of a group all or none. What is kept, the tickets and what is shown are as before, and until that opening all that may
     /// change something is `Halted`.
     Fault,
-    /// A growth of memory was refused. All is as before, and the command may be asked again.
+    /// Out of memory. All is as before, and the command may be tried again.
     Memory,
 }
 
@@ -250,8 +247,8 @@ pub enum Reply {
     Answer(Answer),
     /// A change was kept, with this number since the opening, from 1, and is shown with all before it.
     Applied { seq: u64, outcome: Outcome },
-    /// A change was kept, with this number since the opening, from 1. Memory was refused for showing it: it is shown with the next
-    /// change that is, or by a publish.
+    /// A change was kept, with this number since the opening, from 1, but there was no memory to show it: it is shown with the next change
+    /// that is, or by a publish.
     Stored { seq: u64, outcome: Outcome },
     /// Nothing was done, or, after `Fault`, nothing was acknowledged.
     Refused(Refusal),

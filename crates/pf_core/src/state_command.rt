@@ -1,4 +1,4 @@
-//! Changes of states: which change each one wants, and what it is told.
+//! Changes of states: which change each one wants, and its outcome.
 ghost use Rattle.std.specs.Prelude.{◌≡◌, ◌∷◌, [], length, not, IfOk};
 ghost use Rattle.pf_anchor.specs.Rulesets.{rules_at};
 ghost use Rattle.pf_state.specs.declared.step.Step.TheVariants as step_kind;
@@ -16,7 +16,7 @@ use pf_state::{Bound, Flow, Held, State, StateName, Step as StateStep, StepList}
 use pf_ticket::RulesetName;
 use std::alloc::{AllocError, Global};
 
-// Which rule a state is bound to that a rule at this path, of this number, makes.
+// The rule that a state is bound to if the rule of this path and number makes it.
 fn bound_here(durable: &Durable, path: &Path, number: u32) -> Bound
     ensures { result ≡ bound_here durable.now path.now number }
 {
@@ -30,7 +30,7 @@ fn bound_here(durable: &Durable, path: &Path, number: u32) -> Bound
     }
 }
 
-// Which rule the state is bound to that is made where the rules say this, if one is made.
+// The rule that the new state is bound to if the rules say this of its packet; `None` if no state is made.
 fn makes_state(durable: &Durable, by: &RuleVerdict) -> Option<Bound>
     ensures { result ≡ makes_state durable.now by.now }
 {
@@ -75,7 +75,7 @@ fn make(
     Ok(wants(alloc, before, change, left, Outcome::Tracked(by))?)
 }
 
-// Judges a packet, and makes its state where a rule says so.
+// Judges a packet, and makes its state if a rule says so.
 fn track(
     alloc: Global,
     durable: &Durable,
@@ -109,7 +109,7 @@ fn steps_here(alloc: Global, durable: &Durable, message: &Message) -> Result<Ste
     steps_of(alloc, message, &durable.sum(), main_rules.as_slice().len())
 }
 
-// One change of states, behind changes that void these tickets.
+// The step of a change of states, after changes that void these tickets.
 pub(crate) fn change_states(
     alloc: Global,
     durable: &Durable,

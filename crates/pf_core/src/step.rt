@@ -10,29 +10,29 @@ use crate::reply::{Answer, Outcome};
 use pf_ticket::RulesetName;
 use std::alloc::{AllocError, Global};
 
-/// What a command comes to, where it isn't refused.
+/// What a command comes to, if it isn't refused.
 #[derive(Drop)]
 pub enum Step {
     /// It is answered.
     Done(Answer),
-    /// It wants this change kept, and is then told this outcome with the change's number.
+    /// It wants this change kept; the reply is then this outcome with the change's number.
     Wants(Change, Outcome),
     /// Whoever keeps the history answers it.
     OfHistory(HistoryCommand),
 }
 
-/// What a command comes to, where it isn't refused, with what its change leaves: that was found out for the outcome.
+/// The same, with what the change leaves, which was made to find the outcome.
 #[derive(Drop)]
 pub enum ReadyStep {
     /// It is answered.
     Done(Answer),
-    /// It wants this change kept, which leaves this, and is then told this outcome with the change's number.
+    /// It wants this change kept, which leaves this; the reply is then this outcome with the change's number.
     Wants(Change, Next, Outcome),
     /// Whoever keeps the history answers it.
     OfHistory(HistoryCommand),
 }
 
-// A change that is wanted, and leaves this, behind others that void these tickets.
+// The step that wants a change, which leaves this, after others that void these tickets.
 pub(crate) fn wants(
     alloc: Global,
     before: &[RulesetName],

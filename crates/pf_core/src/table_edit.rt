@@ -1,4 +1,4 @@
-//! Edits of tables: which change each one wants, and what it is told.
+//! Edits of tables: which change each one wants, and its outcome.
 ghost use Rattle.std.specs.Prelude.{◌≡◌, length, filter};
 ghost use Rattle.pf_core.specs.{Commands.{same_addition, added_of, same_deletion, deleted_of, edit_step, edits_in_memory}, Nexts.next_with, Refusals.OrMemory, Cores.{plain, IsMadeFrom}};
 
@@ -43,7 +43,7 @@ fn deleted_of(answers: &[Deletion]) -> Outcome
     }
 }
 
-// One edit of a table, behind changes that void these tickets.
+// The step of an edit of a table, after changes that void these tickets.
 pub(crate) fn edit(
     alloc: Global,
     durable: &Durable,

@@ -113,7 +113,7 @@ size-after s reading fits = refl
 size-after s (writing at bytes) fits = (overwritten_elsewhere at s.seen bytes (leb-true _ _ fits)).same_length
 size-after s syncing fits = refl
 
--- a call that is kept: what holds behind it
+-- a call that is kept: what holds after it
 pub record GoesOn (first old_bytes new_bytes : List ℕ) (size : ℕ) (old new : List Event) (event : Event) : Type 0 where
   pub keeps : Keeps first new_bytes size new
   pub unsynced : (i : ℕ) → (after (at_rest first) new).unsynced i ≡ (after_event (after (at_rest first) old) event).unsynced i

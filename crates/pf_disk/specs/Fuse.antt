@@ -12,3 +12,7 @@ module _ {D : Type 0} {G : Ghosts D} where
   -- how many calls it refused
   abbrev pub refused_of : FuseDisk D G → ℕ
   refused_of f = f.refused
+
+  -- how many calls it passed on
+  abbrev pub passed_of : FuseDisk D G → ℕ
+  passed_of f = f.passed

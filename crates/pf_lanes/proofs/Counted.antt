@@ -27,7 +27,7 @@ taken_above (x ∷ xs) (suc n) (suc k) le = taken_above xs n k (omega arith)
 pub none_below : (f : ℕ → PlainRule → Bool) (rules : List PlainRule) → AreSetBelow f rules 0 0
 none_below f rules = record { each = λ k lt. none_set k ∙ sym (ap (bit_by (f k)) (taken_above rules 0 k (omega arith))) }
 
--- what is below n, what is at n, and what isn't yet there
+-- what is below n, at n, and not yet there
 step : (f : ℕ → PlainRule → Bool) (rules : List PlainRule) (n mask new : ℕ) (x : PlainRule) → AreSetBelow f rules n mask → n < length rules → x ≡ get_or rules n x →
     ((k : ℕ) → k < 8 → k ≢ n → is_set new k ≡ is_set mask k) → is_set new n ≡ f n x → AreSetBelow f rules (n + 1) new
 step f rules n mask new x is lt here others at = record {

@@ -1,4 +1,4 @@
--- Answers that are handed in, and what tables say.
+-- Given answers, and what tables say.
 use Rattle.std.proofs.Common.{◌≡◌, Bool, ◌&&◌, refl, ap}
 use Rattle.std.specs.{Prelude.{◌==◌}, Str.bytes_eq}
 use Rattle.pf_addr.specs.declared.addr.Addr.{Addr}

@@ -15,7 +15,7 @@ nothing a n le e = omega arith
 pub unset : (a i : ℕ) → a ≡ 0 → is_set a i ≡ false
 unset a i e = ap (λ n. is_set n i) e ∙ none_set i
 
--- where no host is special, hosts are as their words say
+-- if no host is special, hosts are as their words say
 pub plain_hosts : (c : Columns) (p : PacketWords) (k : ℕ) (m : Marks) (source destination : Bool) (i : ℕ) → special_of m ≡ 0 →
     hosts_hold c p k m source destination i
     ≡ words_hold c p k
@@ -48,7 +48,7 @@ first_alone h s t = grind arith
 with_rest : (h s t rs rt : Bool) → ((h && (s && t)) && (rs && rt)) ≡ (h && ((s && rs) && (t && rt)))
 with_rest h s t rs rt = grind arith
 
--- the first words alone say it where none is near, and for an IPv4 packet
+-- the first words suffice if none is near, and for an IPv4 packet
 pub near_gone : (v6 : Bool) (near i : ℕ) (h s t rs rt : Bool) → is_set near i ≡ (h && (s && t)) → near ≡ 0 →
     is_set near i ≡ (h && ((s && (if v6 then rs else true)) && (t && (if v6 then rt else true))))
 near_gone v6 near i h s t rs rt is none = is ∙ gone h s t _ _ (sym is ∙ unset near i none)
@@ -113,7 +113,7 @@ neither false s t sp d e = refl
 neither true s t false d e = d
 neither true s t true d e = absurd (cc e)
 
--- masks that have no bit in common with the heads
+-- masks that share no bit with the heads
 pub none_near : (near heads special i : ℕ) (h s t : Bool) → is_set heads i ≡ h → is_set near i ≡ (h && (s && t)) → near ≡ 0 → bit_and heads special ≡ 0 →
     (h && (is_set special i || (s && t))) ≡ false
 none_near near heads special i h s t is all none apart =

@@ -1,4 +1,4 @@
--- What columns say at a place, by the rule whose words stand there.
+-- What columns say at a place, by the rule whose words are there.
 use Rattle.std.proofs.Common.{◌≡◌, ◌<◌, ◌≤◌, ℕ, zero, suc, ◌+◌, ◌*◌, Bool, true, false, ◌&&◌, List, [], ◌∷◌, map, length, take, drop, get_or, Option, Some, None, refl, sym, ap, ◌∙◌, subst, arith, ⊎_elim}
 use Rattle.std.specs.Prelude.{slice_get}
 use Rattle.std.proofs.lemmas.{List.{get_or-map, get_or-take, get_or-drop, length-take-le, length-drop}, Option.{slice_get_cases, slice_get-get_or}}
@@ -116,6 +116,6 @@ eight_dropped (x ∷ xs) (suc at) i = eight_dropped xs at i ∙ ap (slice_get (x
 pub eight_get : (rules : List PlainRule) (at i : ℕ) → i < 8 → slice_get (eight_from at rules) i ≡ slice_get rules (at + i)
 eight_get rules at i lt = eight_taken (drop at rules) 8 i lt ∙ eight_dropped rules at i
 
--- no rule matches where no host does
+-- no rule matches if no host does
 pub hosts_gone : (hosts i : ℕ) (a b : Bool) → is_set hosts i ≡ a → hosts ≡ 0 → is_set 0 i ≡ (a && b)
 hosts_gone hosts i a b is none = none_set i ∙ ap (λ (x : Bool). x && b) (sym (sym is ∙ ap (λ n. is_set n i) none ∙ none_set i))

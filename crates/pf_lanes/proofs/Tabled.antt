@@ -1,4 +1,4 @@
--- Rules as if each of their tables took the address: those that don't match then match by no tables.
+-- Rules as if each of their tables matched the address: those that don't match then don't match with any tables.
 use Rattle.std.proofs.Common.{◌≡◌, ◌<◌, ◌≤◌, ℕ, zero, suc, ◌+◌, ◌*◌, Bool, true, false, not, ◌&&◌, ◌||◌, List, length, get_or, Option, Some, refl, sym, ap, ◌∙◌, subst, arith, ⊎_elim}
 use Rattle.std.specs.Prelude.{bit_and, bit_or, bit_xor, slice_get}
 use Rattle.std.proofs.lemmas.Option.{slice_get_cases}
@@ -9,7 +9,7 @@ use Rattle.pf_lanes.specs.declared.{columns.Marks.Marks, columns.Columns.Columns
 use Rattle.pf_lanes.specs.{Masks.is_set, Answered.{answered, matches_answered, answered_bit, bit_by, block_bit, block_match, eight_from}, Words.{is_tabled, is_inverted}, Columns.{AreMarks, AreColumns, is_marked, special_of}, Asked.{near_or_special, ports_hold}, KeptProbes.packet_words}
 use Rattle.pf_lanes.proofs.{Bits.{is_set-and, is_set-or, is_set-xor, none_set}, Kernels.{unset, far_hosts}, Handed.matches_front, Places.{mark_at, lanes_match}}
 
--- without a table what is near matches, and what isn't near never does
+-- without a table what is near matches; what isn't near never does
 pub record Settles (near tabled match : Bool) : Type 0 where
   pub gone : near ≡ false → match ≡ false
   pub same : tabled ≡ false → near ≡ match
@@ -96,7 +96,7 @@ lane_settles says rules c p b i near m are block lt marked is =
     (λ none. absurd (omega (arith, none.0, room, lt)))
     (slice_get_cases rules (8 * b + i)).1
 
--- ---- what is near, and what tables say of those with one
+-- ---- what is near, and what tables say about rules with a table
 
 none_open : (a t m : Bool) → Settles a t m → (a && t) ≡ false → a ≡ m
 none_open true t m s e = s.same e

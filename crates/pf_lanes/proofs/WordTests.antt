@@ -35,7 +35,7 @@ pair_same w a b c d p q =
     let parts = same_from_place a b c d w p q in
     grind (arith, nat_tests, parts)
 
--- a number shifted so that part of its last word goes: what stands before the word, and what is left of it
+-- a number shifted into its last word: what comes before the word, and what is left of it
 low_shift : (x e d : ℕ) → e + d ≡ 32 → x / 2 ^ e ≡ x / 2 ^ 32 * 2 ^ d + x % 2 ^ 32 / 2 ^ e
 low_shift x e d sum =
     let power : 2 ^ 32 ≡ 2 ^ d * 2 ^ e = ap (λ n. 2 ^ n) (let s : 32 ≡ d + e = omega arith in s) ∙ pow-add 2 d e in
@@ -71,7 +71,7 @@ split_low x y e d sum =
 by_one : (x : ℕ) → x / 2 ^ 32 / 2 ^ 0 ≡ x / 2 ^ 32
 by_one x = omega arith
 
--- whether two numbers agree in their first bits, by their last word and by what stands before it
+-- whether two numbers agree in their first bits, by their last word and by what comes before it
 pub front_split : (m len x y a b : ℕ) → len ≤ m + 32 → a ≡ min len m → b ≡ min (len - m) 32 →
     eqb (x / 2 ^ (m + 32 - len)) (y / 2 ^ (m + 32 - len))
     ≡ (eqb (x / 2 ^ 32 / 2 ^ (m - a)) (y / 2 ^ 32 / 2 ^ (m - a)) && eqb (x % 2 ^ 32 / 2 ^ (32 - b)) (y % 2 ^ 32 / 2 ^ (32 - b)))

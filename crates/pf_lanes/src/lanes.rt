@@ -1,4 +1,4 @@
-//! What is compared eight at a time, by vectors.
+//! Comparing eight places at a time, by vectors.
 ghost use Rattle.std.specs.Prelude.{◌≡◌, ◌+◌, ◌<◌, ℕ};
 ghost use Rattle.pf_lanes.specs.{Masks.is_set, Columns.{MaskedReach, PortsReach, masked_holds, port_within}};
 
@@ -11,7 +11,7 @@ pub const LANES: usize = 8;
 /// The mask of a whole block.
 pub(crate) const ALL_LANES: u8 = 0xff;
 
-/// Which of eight words of a column, from a place on, a word equals under their masks.
+/// Which of the eight words of a column from `at` on equal `word` under their masks.
 #[inline(always)]
 pub(crate) fn equal_under_masks(word: u32, column: &Masked, at: usize) -> u8
     requires { MaskedReach (at + 8) column.now }
@@ -22,7 +22,7 @@ pub(crate) fn equal_under_masks(word: u32, column: &Masked, at: usize) -> u8
     (u32x8::splat(word) & masks).simd_eq(words).to_bitmask() as u8
 }
 
-/// Which of eight pairs of bounds, from a place on, have a port between them.
+/// Which of the eight pairs of bounds from `at` on have the port between them.
 #[inline(always)]
 pub(crate) fn between_bounds(port: u32, bounds: &PortColumns, at: usize) -> u8
     requires { PortsReach (at + 8) bounds.now }

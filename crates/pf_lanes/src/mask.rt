@@ -2,7 +2,7 @@
 ghost use Rattle.std.specs.Prelude.{◌≡◌, ◌<◌, ℕ, MatchOption};
 ghost use Rattle.pf_lanes.specs.Masks.{is_set, AreEnds};
 
-/// The lowest and the highest bit that is set, if one is.
+/// The lowest and the highest bit that is set, if any is.
 pub fn first_and_last(mask: u8) -> Option<(u32, u32)>
     ensures { MatchOption result (mask ≡ 0) (λ ends. AreEnds mask ends.0 ends.1) }
 {

@@ -1,4 +1,4 @@
-//! One rule by itself: where what tables say is handed in, and where tables are asked.
+//! Rules one by one, with the tables' answers given or by asking the tables.
 ghost use Rattle.std.specs.Prelude.{◌≡◌, ◌<◌, ◌≤◌, ◌*◌, ◌&&◌, ℕ, length, slice_get};
 ghost use Rattle.pf_rule.specs.{Value.Tests.holds, Value.Ports.port_holds, Host.Hosts.host_holds, Rules.matches};
 ghost use Rattle.pf_lanes.specs.{Masks.is_set, Answered.{answered, answered_bit, bit_by, block_bit, block_match, matches_answered, eight_from}};
@@ -8,7 +8,7 @@ use crate::mask::is_set;
 use pf_addr::Addr;
 use pf_rule::{Host, Packet, PortTest, Rule, TableAnswers};
 
-// A test that is absent holds.
+// A missing test holds.
 fn is_wanted<T: PartialEq>(wanted: &Option<T>, value: &T) -> bool
     ensures { result ≡ holds wanted.now (λ x. T.eq x value.now) }
 {
@@ -49,7 +49,7 @@ fn ends_hold(rule: &Rule, packet: &Packet, source: bool, destination: bool) -> b
         && port_holds(rule.destination_port(), packet.destination_port())
 }
 
-// Whether a rule matches a packet, by what is answered of its source and its destination where they are tables.
+// Whether a rule matches a packet, given the answers for its source and its destination if they are tables.
 fn matches(rule: &Rule, packet: &Packet, source: bool, destination: bool) -> bool
     ensures { result ≡ matches_answered source destination rule.now packet.now }
 {
@@ -60,7 +60,7 @@ fn matches(rule: &Rule, packet: &Packet, source: bool, destination: bool) -> boo
         && ends_hold(rule, packet, source, destination)
 }
 
-/// The rules of a block: eight of them, or fewer where there are no more.
+/// The rules of a block: eight, or fewer at the end.
 pub fn eight_of(rules: &[Rule], block: usize) -> &[Rule]
     ensures few { length result.now ≤ 8 }
     ensures value { result.now ≡ eight_from (8 * block) rules.now }
@@ -72,7 +72,7 @@ pub fn eight_of(rules: &[Rule], block: usize) -> &[Rule]
     &rest[..rest.len().min(LANES)]
 }
 
-// Which of up to eight rules match, each by itself: bit i is that of rule i, by bits i of the answers.
+// Which of up to eight rules match, one by one: bit i is for rule i, given bit i of each mask of answers.
 fn matching(rules: &[Rule], packet: &Packet, sources: u8, destinations: u8) -> u8
     requires { length rules.now ≤ 8 }
     ensures { (i : ℕ) → i < 8 → is_set result i ≡ answered_bit (slice_get rules.now i) packet.now sources destinations i }
@@ -86,7 +86,7 @@ fn matching(rules: &[Rule], packet: &Packet, sources: u8, destinations: u8) -> u
     mask
 }
 
-/// Which rules of a block match, each by itself.
+/// Which rules of a block match, one by one.
 #[cold]
 #[inline(never)]
 pub(crate) fn matching_in(
@@ -101,7 +101,7 @@ pub(crate) fn matching_in(
     matching(eight_of(rules, block), packet, sources, destinations)
 }
 
-// Which of up to eight rules match of those that are asked for, each by itself, by what tables say.
+// Which of the wanted rules, of up to eight, match, one by one, by what tables say.
 fn asked<T: TableAnswers>(rules: &[Rule], tables: &T, packet: &Packet, wanted: u8) -> u8
     requires { length rules.now ≤ 8 }
     ensures { (i : ℕ) → i < 8 → is_set result i ≡ bit_by (λ r. is_set wanted i && matches (T.says tables.now) r packet.now) (slice_get rules.now i) }
@@ -115,7 +115,7 @@ fn asked<T: TableAnswers>(rules: &[Rule], tables: &T, packet: &Packet, wanted: u
     mask
 }
 
-/// Which rules of a block match of those that are asked for, each by itself, by what tables say.
+/// Which of the wanted rules of a block match, one by one, by what tables say.
 #[cold]
 #[inline(never)]
 pub(crate) fn asked_in<T: TableAnswers>(
@@ -130,8 +130,8 @@ pub(crate) fn asked_in<T: TableAnswers>(
     asked(eight_of(rules, block), tables, packet, wanted)
 }
 
-/// Which rules of a block match, by what tables say, where there are no columns: bit i is set where rule `8 * block + i` is there and
-/// matches. It takes no memory.
+/// Which rules of a block match, by what tables say, without columns: bit i is set if rule `8 * block + i` exists and matches. Doesn't
+/// allocate, unless the tables do.
 pub fn match_one_by_one<T: TableAnswers>(
     rules: &[Rule],
     tables: &T,

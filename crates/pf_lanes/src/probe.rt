@@ -1,4 +1,4 @@
-//! A packet among rules in columns.
+//! A packet to be matched by rules in columns.
 ghost use Rattle.std.specs.Prelude.{◌≡◌, ◌<◌, ◌≤◌, ℕ, false};
 ghost use Rattle.pf_rule.specs.Host.Hosts.{TableTest};
 ghost use Rattle.pf_lanes.specs.{Masks.is_set, Answered.{block_bit, block_match}, Columns.AreColumns, Probes.asked};
@@ -11,7 +11,7 @@ use crate::words::{address_words, is_v6, packet_head};
 use pf_rule::{Packet, Rule, TableAnswers};
 use std::marker::Model;
 
-/// A packet that is asked of rules in columns, eight at a time. What the kernels compare is made once, as is the number of the
+/// A packet to be matched by rules in columns, eight at a time. The words that the kernels compare are made once, with the number of the
 /// packet's interface. Contracts see the rules and the packet.
 #[derive(Drop)]
 pub struct Probe<'a> {
@@ -34,7 +34,7 @@ impl<'a> Model for Probe<'a> {
 }
 
 impl<'a> Probe<'a> {
-    /// A packet that is asked of these rules, whose columns these are.
+    /// Prepares a packet for these rules and their columns.
     pub(crate) fn new(rules: &'a [Rule], columns: &'a Columns, packet: &'a Packet) -> Probe<'a>
         requires { AreColumns rules.now columns.now }
         ensures { result ≡ asked rules.now packet.now }
@@ -47,7 +47,7 @@ impl<'a> Probe<'a> {
             source_port: u32::from(packet.source_port()),
             destination_port: u32::from(packet.destination_port()),
         };
-        // what each packet keeps is what its direction tells
+        // `direction` promises what every packet maintains
         let _direction = packet.direction();
         Probe {
             rules,
@@ -57,9 +57,9 @@ impl<'a> Probe<'a> {
         }
     }
 
-    /// Which rules of a block match: bit i is set where rule `8 * block + i` is there and matches. Bit i of the answers says what the
-    /// table says that is that rule's source, or destination, before it is inverted; for other hosts it isn't looked at. It takes no
-    /// memory.
+    /// Which rules of a block match: bit i is set if rule `8 * block + i` exists and matches. Bit i of `sources` or `destinations` is the
+    /// answer of the table that is that rule's source or destination, before `!` inverts it; for other hosts it is ignored. Doesn't
+    /// allocate.
     pub fn block(&self, block: usize, sources: u8, destinations: u8) -> u8
         ensures { (i : ℕ) → i < 8 → is_set result i ≡ block_bit self.now.rules self.now.packet block sources destinations i }
     {
@@ -76,8 +76,8 @@ impl<'a> Probe<'a> {
         hosts & ports(columns, &self.words, at, &marks)
     }
 
-    /// The first block from this one on in which a rule may match, or that has no columns: no rule of the blocks passed over matches,
-    /// whatever tables say. It takes no memory.
+    /// The first block from `from` on in which a rule may match, or that has no columns: no rule in the blocks passed over matches,
+    /// whatever tables say. Doesn't allocate.
     pub fn next_near(&self, from: usize) -> usize
         ensures later { from ≤ result }
         ensures none { (says : TableTest) (block i : ℕ) → from ≤ block → block < result → i < 8 →
@@ -94,8 +94,8 @@ impl<'a> Probe<'a> {
         from.max(end)
     }
 
-    /// Which rules of a block match by what tables say: bit i is set where rule `8 * block + i` is there and matches. A table is asked
-    /// only where all else of a rule holds, and a block without tables costs nothing for them. It takes no memory.
+    /// Which rules of a block match by what tables say: bit i is set if rule `8 * block + i` exists and matches. A table is asked only if
+    /// all other tests of a rule hold, and a block without tables costs nothing for them. Doesn't allocate, unless the tables do.
     pub fn matching<T: TableAnswers>(&self, tables: &T, block: usize) -> u8
         ensures { (i : ℕ) → i < 8 → is_set result i ≡ block_match (T.says tables.now) self.now.rules self.now.packet block i }
     {
@@ -104,7 +104,7 @@ impl<'a> Probe<'a> {
             return asked_in(self.rules, tables, self.packet, block, ALL_LANES);
         }
         let marks = columns.marks[block];
-        // as if each host that is a table held
+        // as if every host that is a table held
         let near = self.block(
             block,
             marks.sources.inverted ^ ALL_LANES,

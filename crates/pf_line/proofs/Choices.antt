@@ -1,4 +1,4 @@
--- What words are read as where a choice stands first, by whether its word was taken.
+-- What words are read as if a choice comes first, by whether its word was taken.
 use Rattle.std.proofs.Common.{◌≡◌, Bool, true, false, List, [], ◌∷◌, Ok, Err, sym, ap}
 use Rattle.std.specs.{Prelude.if◌then◌else◌, Str.bytes_eq}
 use Rattle.pf_form.specs.{Form.Words.Word, Form.Forms.{Form, or, Read, reads, ended, ◌>>=◌, read_all}, Form.Readers.if_there}
@@ -25,7 +25,7 @@ here k f g (w ∷ ws) rest t e is = by (bytes_eq w k) e where
   by true e = ap (λ (vs : List Word). reads f vs >>= ended) (ap rest_of e)
   by false e = absurd (never t (sym (ap flag_of e)) is)
 
--- it stands not there
+-- the word isn't there
 pub elsewhere : {A : Type 0} (k : Word) (f g : Form A) (ws rest : List Word) (t : Bool) → reads (if_there k) ws ≡ Ok (t, rest) → t ≡ false → read_all (or k f g) ws ≡ read_all g rest
 elsewhere k f g [] rest t e is = ap (λ (vs : List Word). reads g vs >>= ended) (ap rest_of e)
 elsewhere k f g (w ∷ ws) rest t e is = by (bytes_eq w k) e where

@@ -1,4 +1,4 @@
--- The words of a line, cut one after another where they stand.
+-- The words of a line, cut one after another in place.
 use Rattle.std.proofs.{Common.{◌≡◌, ℕ, ◌+◌, ◌-◌, ◌<◌, ◌≤◌, Bool, true, false, List, [], ◌∷◌, ◌++◌, length, take, drop, get_or, refl, sym, ap, ◌∙◌, subst, append_assoc, append-nil, arith}, lemmas.Bool.Decides.nat_tests, lemmas.List.{drop_more, take_more, get_or-drop, length-drop, take_all}, lemmas.List.Elements.All-push, lemmas.List.Splits.{slice_split_none, slice_split_at}, lemmas.List.Folds.{drop_split, list_all_more}, lemmas.List.Sums.AllPass-from_list_all}
 use Rattle.std.specs.{Prelude.{nat_lt, filter, All}, List.{slice_split, slice_range, list_all}}
 use Rattle.pf_form.specs.Form.Words.{Word, is_blank, words_of}
@@ -17,14 +17,14 @@ some_first : (w : Word) (ws : List Word) → filter some (w ∷ ws) ≡ if_some 
 some_first [] ws = refl
 some_first (b ∷ bs) ws = rw (some_is b bs) refl
 
--- a word and the blank behind it
+-- a word and the blank after it
 past_word : (w : Word) (b : ℕ) (rest : List ℕ) → Inked w → is_blank b ≡ true → words_of (w ++ b ∷ rest) ≡ if_some w ++ words_of rest
 past_word w b rest is blank = ap (filter some) (slice_split_at is_blank w b rest is blank) ∙ some_first w (slice_split is_blank rest)
 
 last_word : (w : Word) → Inked w → words_of w ≡ if_some w
 last_word w is = ap (filter some) (slice_split_none is_blank w is) ∙ some_first w [] ∙ append-nil (if_some w)
 
--- ---- the byte at a place, behind those from where its word began
+-- ---- the byte at a place, after those from the start of its word
 
 range_more : (line : List ℕ) (start at : ℕ) → start ≤ at → at < length line → slice_range line start (at + 1) ≡ slice_range line start at ++ get_or line at 0 ∷ []
 range_more line start at low high =
@@ -45,7 +45,7 @@ bytes_more line at high all is = list_all_more is_line_byte line at 0 high ∙ r
 pub bytes_all : (line : List ℕ) (at : ℕ) → at ≡ length line → list_all is_line_byte (take at line) ≡ true → list_all is_line_byte line ≡ true
 bytes_all line at end all = ap (list_all is_line_byte) (sym (take_all at line (omega (arith, end)))) ∙ all
 
--- and the first byte that no line may have
+-- and the first byte that isn't allowed
 pub bad_byte : (line : List ℕ) (at : ℕ) → at < length line → is_line_byte (get_or line at 0) ≡ false → list_all is_line_byte line ≡ false
 bad_byte line at high other = by (list_all is_line_byte line) refl where
   by : (t : Bool) → list_all is_line_byte line ≡ t → t ≡ false

@@ -9,7 +9,7 @@ use Rattle.pf_line.specs.Grammar as grammar
 use Rattle.pf_line.specs.{Grammar.Says, Lines.{is_line_byte, no_command, line_at, asked, said, Parses, Answers, Refused}}
 use Rattle.pf_line.proofs.{Choices.{as_read, flag_of, rest_of, never}, Lines.{is_exact, is_refused, said_cut}}
 
--- the word that was taken stood there
+-- the word that was taken was at the front
 pub taken : (k : Word) (ws rest : List Word) (t : Bool) → reads (if_there k) ws ≡ Ok (t, rest) → t ≡ true → ws ≡ k ∷ rest
 taken k [] rest t e is = absurd (never t (sym (ap flag_of e)) is)
 taken k (w ∷ ws) rest t e is = by (bytes_eq w k) refl e where
@@ -17,7 +17,7 @@ taken k (w ∷ ws) rest t e is = by (bytes_eq w k) refl e where
   by true same e = cc (word_is w k same, ap rest_of e)
   by false same e = absurd (never t (sym (ap flag_of e)) is)
 
--- behind its word a judge says what its packet says
+-- after its word a judge says what its packet says
 pub judge_said : (ws rest : List Word) → ws ≡ codes "judge" ∷ rest → read_all grammar.line ws ≡ read_all (making Says grammar.judged) rest
 unfolding grammar.question grammar.history_or_question grammar.state_or_question grammar.edit_or_question grammar.command
 judge_said ws rest is = rw is refl

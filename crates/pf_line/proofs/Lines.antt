@@ -1,4 +1,4 @@
--- What a line is answered, and why.
+-- How a line is answered, and why.
 use Rattle.std.proofs.{Common.{◌≡◌, ℕ, ◌-◌, ◌<◌, ◌≤◌, ◌==◌, Bool, true, false, cond, List, [], ◌∷◌, length, Option, Some, None, Result, Ok, Err, inl, inr, refl, sym, ap, ◌∙◌, subst, arith}, lemmas.List.length-map, lemmas.Bool.{lt-ltb, Decides.nat_tests}}
 use Rattle.std.specs.{Prelude.{◌||◌, IfOk, IfErr, IfSome, not, filter, nat_lt}, List.{slice_split, onto_first, find, list_all}}
 use denote.Ref.{Bor}
@@ -141,7 +141,7 @@ is_refused line r (inl h) = by (is_bad_line line) (is_silent line) refl refl h w
   by false false good loud h = said_refused line (record { good = good; loud = loud }) (read_all grammar.line (words_of line)) r refl h
 is_refused line r (inr h) = rw h.1 h.0
 
--- ---- what words are read as, said
+-- ---- what words are read as, and so say
 
 pub made_ok : {A : Type 0} (make : A → Spoken) (f : Form A) (ws : List Word) (x : A) → read_all f ws ≡ Ok x → read_all (making make f) ws ≡ Ok (make x)
 made_ok make f ws x e = by (reads f ws) e where
@@ -157,7 +157,7 @@ made_stopped make f ws s count h = by (reads f ws) h where
   by (Ok (y, w ∷ ws)) h = rw (h.0, h.1) refl
   by (Err d) h = rw (h.0, h.1) refl
 
--- the words of a line, in a slice of as many
+-- the words of a line, in a slice of that length
 pub said_words : (items seen : List (Bor Word)) (ws : List Word) (n : ℕ) (r : Answer) → texts items ≡ ws → seen ≡ items → n ≡ length seen → Parses r (said n (read_all grammar.line (texts seen))) → Parses r (said_by ws)
 said_words items seen ws n r e same l h =
     let count : n ≡ length ws = l ∙ ap length same ∙ sym (length-map items (λ w. w.now)) ∙ ap length e in
@@ -181,7 +181,7 @@ bad_bytes line bytes = bad_answered line (rw bytes (either (nat_lt 4096 (length 
 pub too_long : (line : List ℕ) → 4096 < length line → Answers line (Err refusals.BadLine)
 too_long line long = let t : nat_lt 4096 (length line) ≡ true = lt-ltb 4096 (length line) long in bad_answered line (rw t refl)
 
--- by its words, in a slice of as many
+-- by its words, in a slice of that length
 pub said_cut : (line : List ℕ) (items seen : List (Bor Word)) (n : ℕ) (r : Answer) → is_silent line ≡ false → length line ≤ 4096 → texts items ≡ words_of line → list_all is_line_byte line ≡ true → seen ≡ items → n ≡ length seen →
     Parses r (said n (read_all grammar.line (texts seen))) → Answers line r
 said_cut line items seen n r loud short e bytes same l h = answered line r (not_bad line short bytes) loud (said_words items seen (words_of line) n r e same l h)

@@ -12,7 +12,7 @@ newlines-append (x ∷ a) b = by (x == 10) (newlines-append a b) where
   by true e = omega (arith, e)
   by false e = e
 
--- bytes that a newline isn't among
+-- bytes none of which is a newline
 no_newline : (P : ℕ → Type 0) → (P 10 → ⊥) → (text : List ℕ) → All P text → newlines text ≡ 0
 no_newline P never [] all = refl
 no_newline P never (b ∷ bs) all =
@@ -49,7 +49,7 @@ components_plain : (parts : List (List ℕ)) → AllByRecursion IsComponent part
 components_plain [] all = refl
 components_plain (c ∷ cs) all = omega (arith, name_plain c all.0.bytes, components_plain cs all.1)
 
--- a path's text has none, as the laws of paths say
+-- a path's text has no newline, as the laws of paths say
 pub path_plain : ReadsWhatIsSpelled → ReadsWhatIsWritten → (p : List ℕ) → is_path p ≡ true → newlines p ≡ 0
 path_plain spelled again [] e = refl
 path_plain spelled again (b ∷ bs) e = elim (spelled (b ∷ bs) (b ∷ bs) (again (b ∷ bs) e)) [

@@ -1,4 +1,4 @@
--- A word is read as an entry exactly where it spells it, and so what an entry is written as is read again.
+-- A word is read as an entry exactly if it spells it, and so a written entry is read back.
 use Rattle.std.proofs.{Common.{◌≡◌, ℕ, ◌==◌, Bool, true, false, [], ◌∷◌, Result, Ok, Err, refl, sym, ap, subst, ◌∙◌, arith}, lemmas.Bool.Decides.nat_tests, lemmas.List.Elements.All-head}
 use Rattle.std.specs.Prelude.{if◌then◌else◌}
 use Rattle.pf_addr.specs.{Address.PlainNet, Grammar.SpellsNet, Reading.{address_at, net_at}, Laws.{Reading.{net_found, net_only, net_without}, Spelling.{IsNetwork, net_text_spells}}, Spelling.net_text}

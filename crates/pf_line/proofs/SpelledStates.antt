@@ -1,4 +1,4 @@
--- What bytes are written as is read again.
+-- Written bytes are read back.
 use Rattle.std.proofs.Common.{◌≡◌, ℕ, List, [], ◌∷◌, Ok, inl, refl, ap}
 use Rattle.std.specs.Prelude.{codes, Some}
 use Rattle.hex.specs.Hex.{IsBytes, encode_lower, encode_upper}

@@ -1,4 +1,4 @@
--- A word is read as a ticket exactly where it spells it, and so what a ticket is written as is read again.
+-- A word is read as a ticket exactly if it spells it, and so a written ticket is read back.
 use Rattle.std.proofs.{Common.{◌≡◌, ℕ, ◌+◌, ◌^◌, ◌<◌, List, [], ◌∷◌, ◌++◌, length, take, drop, decimal, Some, None, Option, refl, sym, ap, ◌∙◌, arith, append_assoc}, lemmas.Fmt.{decimal_is_IsNumeral, length-decimal-le}, lemmas.List.{take_at, drop_at, length-append}}
 use Rattle.std.specs.List.{position}
 use Rattle.pf_addr.specs.Laws.Places.{digits_without, place_after, cut_there}

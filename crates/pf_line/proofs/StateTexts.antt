@@ -8,7 +8,7 @@ use Rattle.pf_addr.specs.{Address.network_of, Spelling.{addr_text, net_text}, Wr
 use Rattle.pf_line.specs.Reply.TextLines.{newlines, GoesOn, WroteLines}
 use Rattle.pf_line.proofs.Writers.{goes_on, one_more_line}
 
--- ---- an address, as the network that has no other
+-- ---- an address, as the network that has no other address
 
 over-one : (n : ℕ) → n / 1 * 1 ≡ n
 over-one n = omega arith
@@ -24,7 +24,7 @@ no-newline-at [] h i = refl
 no-newline-at (c ∷ t) h zero = grind (arith, and_parts, h)
 no-newline-at (c ∷ t) h (suc i) = no-newline-at t (grind (arith, and_parts, h)) i
 
--- what succeeds has done what it promises
+-- a success keeps its promise
 pub done : {A E : Type 0} (r : Result A E) (P : Type 0) → IsOk r → OnOk r P → P
 done (Ok x) P is gives = gives
 done (Err e) P is gives = absurd (cc (is))
@@ -53,7 +53,7 @@ pub one_more : {X : Type 0} (f : X → List ℕ) (q s t : Result (Unit {0}) Erro
 one_more f q s t old mid more new xs i x lt is p w e =
     subst (WroteLines t old new) (sym (last-line f xs i x lt is)) (one_more_line q s t old mid more new (map f (take i xs)) (f x) p w e)
 
--- of what is seen of each
+-- the same for a view of each item
 pub one_more_of : {X Y : Type 0} (view : X → Y) (f : Y → List ℕ) (q s t : Result (Unit {0}) Error) (old mid more new : Option (List ℕ)) (xs : List X) (i : ℕ) (x : X) → i < length xs → x ≡ get_or xs i x → WroteLines q old mid (map f (map view (take i xs))) → GoesOn q mid s more (f (view x)) → Continues s more t new (10 ∷ []) → WroteLines t old new (map f (map view (take (i + 1) xs)))
 one_more_of view f q s t old mid more new xs i x lt is p w e =
     subst (WroteLines t old new) (sym (map-map f view (take (i + 1) xs)))

@@ -12,7 +12,7 @@ use Rattle.pf_line.proofs.Newlines.{newlines-append}
 pub goes_on : {A B C : Type 0} {q : Result A Error} {r : Result B Error} {s : Result C Error} {old mid new : Option (List ℕ)} {a b : List ℕ} → GoesOn q old r mid a → GoesOn r mid s new b → GoesOn q old s new (a ++ b)
 goes_on {a = a} {b = b} first second = record { written = Continues-then first.written second.written; one_line = omega (arith, newlines-append a b, first.one_line, second.one_line) }
 
--- behind nothing nothing is written
+-- with nothing to write, what was written stays
 pub still : (q : Result (Unit {0}) Error) (old : Option (List ℕ)) → GoesOn q old q old []
 still q old = record { written = record { behind = λ at front w. subst (λ (t : List ℕ). Wrote q at old t) (sym (append-nil front)) w }; one_line = refl }
 
@@ -77,7 +77,7 @@ last_entry : (rows : List PlainEntry) (row : PlainEntry) → entries_text (rows 
 last_entry [] row = append-nil (32 ∷ entry_text row)
 last_entry (first ∷ rows) row = ap (λ (t : List ℕ). 32 ∷ entry_text first ++ t) (last_entry rows row) ∙ sym (append_assoc (32 ∷ entry_text first) (entries_text rows) (32 ∷ entry_text row))
 
--- what was written so far: some of the entries, of which the others are left
+-- what was written so far: some of the entries; the others are left
 pub record WroteSome (p : Result (Unit {0}) Error) (old : Option (List ℕ)) (q : Result (Unit {0}) Error) (mid : Option (List ℕ))
     (rows left : List PlainEntry) : Type 0 where
   pub some : List PlainEntry

@@ -1,4 +1,4 @@
--- Words that stand for a table's entries (pf.conf(5), TABLES).
+-- Words for a table's entries (pf.conf(5), TABLES).
 use Rattle.std.specs.Prelude.{◌≡◌, ◌==◌, Bool, true, false, [], ◌∷◌, codes, Result, Ok, Err, if◌then◌else◌}
 use Rattle.std.proofs.Common.{refl}
 use Rattle.pf_addr.specs.declared.fault.AddrFault.{AddrFault}
@@ -8,12 +8,12 @@ use Rattle.pf_form.specs.Form.Words.{Word}
 use Rattle.pf_addr.specs.declared.addr.Addr.TheVariants as addr
 use Rattle.pf_table.specs.Entries.{PlainEntry}
 
--- A network, with an exclamation mark (33) joined to it where it is negated.
+-- A network, with an exclamation mark (33) joined to it if it is negated.
 abbrev pub SpellsEntry : Word → PlainEntry → Type 0
 SpellsEntry w (net, true) = (text : Word) × (w ≡ 33 ∷ text) × SpellsNet text net
 SpellsEntry w (net, false) = SpellsNet w net
 
--- what is read of its network; any fault of it makes a bad word
+-- what is read as its network; any fault of it makes a bad word
 abbrev pub signed : Bool → Result PlainNet AddrFault → Result PlainEntry Kind
 signed negated (Ok net) = Ok (net, negated)
 signed negated (Err e) = Err BadWord

@@ -15,7 +15,7 @@ use Rattle.pf_ticket.specs.Names.{ticket}
 use Rattle.pf_state.specs.declared.state.StateName.{StateName}
 use Rattle.pf_line.specs.{Tickets.{part_of, ticket_of}, States.{id_of, bytes_of, a_byte}, Entries.{entry_of, entry_taken}}
 
--- ---- words that stand for values
+-- ---- words for values
 
 -- KIND, "filter" | "table"
 abbrev pub kind : Form RulesetKind
@@ -82,7 +82,7 @@ offered_table = making (λ x. (x.0, x.1.0, x.1.1)) (pair path (pair ticket_text 
 abbrev pub state : Form StateName
 state = making (λ x. record { id = x.0; creator = x.1 }) (pair id creator)
 
--- ---- what follows each command's word: a command, or the mistake that its rule or its packet makes
+-- ---- what follows each command's word: a command, or the mistake in its rule or its packet
 
 abbrev as_command : {A : Type 0} → (A → Command) → Result A Mistake → Result Command Mistake
 as_command make (Ok x) = Ok (make x)
@@ -186,7 +186,7 @@ overview = or (codes "sum") (nothing (Ok (Ask Sum))) (or (codes "export") (nothi
 unfoldable pub question : Form (Result Command Mistake)
 question = or (codes "judge") judged (or (codes "test") tested overview)
 
--- nothing behind its word
+-- nothing after its word
 abbrev pub alone : HistoryCommand → Form (Result Command Mistake)
 alone c = nothing (Ok (History c))
 
@@ -194,34 +194,34 @@ alone c = nothing (Ok (History c))
 unfoldable pub history_or_question : Form (Result Command Mistake)
 history_or_question = or (codes "log") (alone Log) (or (codes "publish") (alone Publish) question)
 
--- "track" ID CREATOR PACKET | "kill" ID CREATOR | of the history, or a question
+-- "track" ID CREATOR PACKET | "kill" ID CREATOR | a command of the history, or a question
 unfoldable pub state_or_question : Form (Result Command Mistake)
 state_or_question = or (codes "track") tracked (or (codes "kill") state_killed history_or_question)
 
--- "tadd" PATH NAME ENTRY .. | "tdel" PATH NAME ENTRY .. | "tset" PATH NAME [ENTRY ..] | "tkill" PATH NAME | of states, of the history, or
--- a question
+-- "tadd" PATH NAME ENTRY .. | "tdel" PATH NAME ENTRY .. | "tset" PATH NAME [ENTRY ..] | "tkill" PATH NAME | a command of states or of the
+-- history, or a question
 unfoldable pub edit_or_question : Form (Result Command Mistake)
 edit_or_question = or (codes "tadd") entries_added (or (codes "tdel") entries_deleted
     (or (codes "tset") entries_set (or (codes "tkill") killed state_or_question)))
 
--- "begin" KIND PATH .. | "add" PATH T RULE | "define" PATH T NAME [ENTRY ..] | "commit" KIND PATH T .. | "rollback" KIND PATH T ..
--- | an edit, of states, of the history, or a question
+-- "begin" KIND PATH .. | "add" PATH T RULE | "define" PATH T NAME [ENTRY ..] | "commit" KIND PATH T .. | "rollback" KIND PATH T .. | an
+-- edit, a command of states or of the history, or a question
 unfoldable pub command : Form (Result Command Mistake)
 command = or (codes "begin") begun (or (codes "add") added (or (codes "define") defined
     (or (codes "commit") committed (or (codes "rollback") rolled_back edit_or_question))))
 
 -- what the words of a line say
 pub data Spoken : Type 0 where
-  -- a command, or the mistake that its rule or its packet makes
+  -- a command, or the mistake in its rule or its packet
   Says : Result Command Mistake → Spoken
-  -- to act on a peer's message, whose bytes these are to be
+  -- to act on a peer's message, which these bytes have to be
   Tells : List ℕ → Spoken
 
--- "peer" HEX | a command that its words say whole
+-- "peer" HEX | a command that its words spell whole
 abbrev pub line : Form Spoken
 line = or (codes "peer") (making Tells hex) (making Says command)
 
--- One word of look-ahead decides it.
+-- One word of look-ahead decides what is read.
 pub decided : is_decided line ≡ true
 unfolding begun added defined committed rolled_back entries_added entries_deleted entries_set killed tracked state_killed judged tested
     shown overview question history_or_question state_or_question edit_or_question command

@@ -6,7 +6,7 @@ pub mod Grammar
 pub mod Lines
 pub mod Cutting
 pub mod Laws
--- what public clauses cite of the crates below
+-- what public contracts cite of the crates below
 pub use Rattle.pf_state.specs.Peer
 pub use Rattle.pf_state.specs.Failover
 pub use Rattle.pf_state.specs.States as StateTables

@@ -19,7 +19,7 @@ use Rattle.pf_line.specs.Grammar.{Spoken, Says, Tells}
 abbrev pub is_line_byte : ℕ → Bool
 is_line_byte b = (nat_le 32 b && nat_le b 126) || (b == 9) || (b == 13)
 
--- A bad line is too long, or has a byte that no line may have.
+-- A bad line is too long, or has a byte that isn't allowed.
 abbrev pub is_bad_line : List ℕ → Bool
 is_bad_line line = nat_lt LINE_LIMIT (length line) || not (list_all is_line_byte line)
 
@@ -46,7 +46,7 @@ refusal_at kinds.BadWord at = BadWord at
 refusal_at kinds.NameTooLong at = NameTooLong at
 refusal_at kinds.BadProto at = BadProto at
 
--- of so many words, by why they weren't read
+-- for this many words, by why they weren't read
 abbrev pub refusal_of : Unread → ℕ → Refusal
 refusal_of (unread.Stopped stop) count = refusal_at stop.kind (count - stop.left)
 refusal_of unread.Memory count = Memory
@@ -55,7 +55,7 @@ abbrev pub refusal_for : Mistake → Refusal
 refusal_for mistakes.MixedFamily = MixedFamily
 refusal_for mistakes.PortNeedsProto = PortNeedsProto
 
--- what so many words say, by what was read of them
+-- what this many words say, by what was read of them
 abbrev pub said : ℕ → Result Spoken (Kind × List Word) → Result (Option Spoken) Refusal
 said count (Ok x) = Ok (Some x)
 said count (Err e) = Err (refusal_at e.0 (count - length e.1))
@@ -67,13 +67,13 @@ said_by ws = said (length ws) (read_all grammar.line ws)
 unfoldable pub line_at : List ℕ → Result (Option Spoken) Refusal
 line_at line = if is_bad_line line then Err BadLine else (if is_silent line then Ok None else said_by (words_of line))
 
--- the command of a peer's message, or what its bytes are refused for
+-- the command of a peer's message, or why its bytes are refused
 abbrev pub peer_command : Result Message OneFault → Result (Option Command) Refusal
 peer_command (Ok m) = Ok (Some (States (Peer m)))
 peer_command (Err (Fault f)) = Err (BadPeer f)
 peer_command (Err Count) = Err PeerCount
 
--- What is said comes to this command, or is refused so. Only here are the bytes of a peer's message looked into.
+-- What is said comes to this command, or is refused like this. Only here are the bytes of a peer's message looked at.
 abbrev pub Means : Result (Option Spoken) Refusal → Result (Option Command) Refusal → Type 0
 Means (Ok None) r = r ≡ Ok None
 Means (Ok (Some (Says (Ok c)))) r = r ≡ Ok (Some c)
@@ -81,7 +81,7 @@ Means (Ok (Some (Says (Err mistake)))) r = r ≡ Err (refusal_for mistake)
 Means (Ok (Some (Tells bytes))) r = (one : Result Message OneFault) × IsOne bytes one × (r ≡ peer_command one)
 Means (Err e) r = r ≡ Err e
 
--- what a line is told that asks what happens to a packet, or why it is refused
+-- the answer to a line that asks what happens to a packet: the command, or why it is refused
 abbrev pub asked : Result PlainPacket Refusal → Result (Option Command) Refusal
 asked (Ok p) = Ok (Some (Ask (Judge p)))
 asked (Err e) = Err e
@@ -90,11 +90,11 @@ asked (Err e) = Err e
 abbrev pub SpellsLine : Command → List Word → Type 0
 SpellsLine c ws = (x : Spoken) × Spells grammar.line x ws × Means (Ok (Some x)) (Ok (Some c))
 
--- It is this command, or memory was refused.
+-- It is this command, or out of memory.
 abbrev pub IsCommand : Result (Option Command) Refusal → Command → Type 0
 IsCommand r c = (r ≡ Ok (Some c)) ⊎ (r ≡ Err Memory)
 
--- What is said means this, or memory was refused.
+-- What is said means this, or out of memory.
 abbrev pub Parses : Result (Option Command) Refusal → Result (Option Spoken) Refusal → Type 0
 Parses r at = Means at r ⊎ (r ≡ Err Memory)
 
@@ -103,22 +103,23 @@ pub record Speaks (line : List ℕ) : Type 0 where
   pub good : is_bad_line line ≡ false
   pub loud : is_silent line ≡ false
 
--- It is answered as it is to be, or memory was refused, which only a line that speaks wants.
+-- It is answered as defined, or out of memory, which comes only for a line that speaks.
 abbrev pub Answers : List ℕ → Result (Option Command) Refusal → Type 0
 Answers line r = Means (line_at line) r ⊎ (Speaks line × (r ≡ Err Memory))
 
 abbrev IsRefused : List ℕ → ℕ → Kind → Type 0
 IsRefused line at kind = Speaks line × RefusedAt Spoken grammar.line (words_of line) at kind
 
--- its words are right, and its rule or its packet makes this mistake
+-- its words are right, and its rule or its packet has this mistake
 abbrev IsMistaken : List ℕ → Mistake → Type 0
 IsMistaken line mistake = Speaks line × Spells grammar.line (Says (Err mistake)) (words_of line)
 
--- its words are right, and the bytes that it has for a peer's message aren't one
+-- its words are right, and the bytes for a peer's message aren't one
 abbrev IsNoMessage : List ℕ → OneFault → Type 0
 IsNoMessage line fault = Speaks line × ((bytes : List ℕ) × Spells grammar.line (Tells bytes) (words_of line) × IsOne bytes (Err fault))
 
--- A refusal of a line. Its place and its kind are by the grammar alone: the words before it begin a line, with the word at it none does.
+-- A refusal of a line. Its place and its kind depend on the grammar alone: the words before it begin some line, but
+-- with the word at it they begin none.
 abbrev pub Refused : List ℕ → Refusal → Type 0
 Refused line BadLine = is_bad_line line ≡ true
 Refused line (BadWord at) = IsRefused line at kinds.BadWord
@@ -144,7 +145,7 @@ no_silence count (Err (kinds.BadWord, rest)) = (λ e. cc, λ e. cc)
 no_silence count (Err (kinds.NameTooLong, rest)) = (λ e. cc, λ e. cc)
 no_silence count (Err (kinds.BadProto, rest)) = (λ e. cc, λ e. cc)
 
--- a line that speaks is not answered by silence, nor as a bad one
+-- a line that speaks is never answered as a silent one, nor as a bad one
 pub speaks : (line : List ℕ) → Speaks line → (line_at line ≡ Ok None → ⊥) × (line_at line ≡ Err BadLine → ⊥)
 unfolding line_at
 speaks line s = rw (s.good, s.loud) (no_silence (length (words_of line)) (read_all grammar.line (words_of line)))

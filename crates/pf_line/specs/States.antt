@@ -1,4 +1,4 @@
--- Words that stand for a state's number, and for bytes. Who made a state is spelled as a ticket's epoch.
+-- Words for a state's number, and for bytes. The creator of a state is spelled like a ticket's epoch.
 use Rattle.std.specs.Prelude.{◌≡◌, ℕ, List, [], ◌∷◌, codes, Option, Result, Ok, Err}
 use Rattle.std.proofs.Common.{refl}
 use Rattle.hex.specs.declared.error.FromHexError.{FromHexError}
@@ -11,7 +11,7 @@ use Rattle.pf_line.specs.declared.state.TheConstants.{ID_DIGIT_LIMIT}
 abbrev pub id_of : Word → Option ℕ
 id_of w = number_in 64 ID_DIGIT_LIMIT w
 
--- a number of 64 bits in 1 to 20 decimal digits, of which the first may be zeros
+-- a number of 64 bits in 1 to 20 decimal digits, with leading zeros allowed
 abbrev pub IsId : List ℕ → ℕ → Type 0
 IsId text n = IsNumberIn 64 ID_DIGIT_LIMIT text n
 

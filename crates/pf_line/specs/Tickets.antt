@@ -16,7 +16,7 @@ ticket_with _ _ = None
 abbrev pub is_dot : ℕ → Bool
 is_dot b = b == 46
 
--- with the place of its first dot
+-- given the place of its first dot
 abbrev pub cut_at : Word → Option ℕ → Option Ticket
 cut_at w None = None
 cut_at w (Some i) = ticket_with (part_of (take i w)) (part_of (drop (i + 1) w))
@@ -27,7 +27,7 @@ ticket_of w = cut_at w (position is_dot w)
 
 -- ---- which words spell a ticket, by cases
 
--- a number of 32 bits in 1 to 10 decimal digits, of which the first may be zeros
+-- a number of 32 bits in 1 to 10 decimal digits, with leading zeros allowed
 abbrev pub IsPart : List ℕ → ℕ → Type 0
 IsPart text n = IsNumberIn 32 DIGIT_LIMIT text n
 

@@ -235,7 +235,7 @@ fn ask<'a>(words: Words<'a>) -> Result<Result<Command, Mistake>, Stop>
     ask_overview(rest)
 }
 
-/// What the history is asked, behind whose word nothing stands.
+/// A command of the history, with nothing after its word.
 fn ask_history(words: &[&[u8]], command: HistoryCommand) -> Result<Result<Command, Mistake>, Stop>
     ensures { ReadsWhole (λ x. x) (alone command) result words.now }
 {
@@ -243,7 +243,7 @@ fn ask_history(words: &[&[u8]], command: HistoryCommand) -> Result<Result<Comman
     Ok(Ok(Command::History(command)))
 }
 
-/// What the history is asked, or a question.
+/// A command of the history, or a question.
 #[tactic(auto, unfolding(crate::specs::Grammar::history_or_question))]
 fn ask_history_or_ask<'a>(words: Words<'a>) -> Result<Result<Command, Mistake>, Stop>
     ensures { ReadsWhole (λ x. x) history_or_question result words.now }
@@ -258,7 +258,7 @@ fn ask_history_or_ask<'a>(words: Words<'a>) -> Result<Result<Command, Mistake>, 
     ask(rest)
 }
 
-/// A change of states whose words say it whole, what the history is asked, or a question.
+/// A change of states that its words spell whole, a command of the history, or a question.
 #[tactic(auto, unfolding(crate::specs::Grammar::state_or_question))]
 fn change_state_or_ask<'a>(words: Words<'a>) -> Result<Result<Command, Mistake>, Stop>
     ensures { ReadsWhole (λ x. x) state_or_question result words.now }
@@ -273,7 +273,7 @@ fn change_state_or_ask<'a>(words: Words<'a>) -> Result<Result<Command, Mistake>,
     ask_history_or_ask(rest)
 }
 
-/// A change of one table, a change of states, what the history is asked, or a question.
+/// A change of one table, a change of states, a command of the history, or a question.
 #[tactic(auto, unfolding(crate::specs::Grammar::edit_or_question))]
 fn edit_or_ask<'a>(alloc: Global, words: Words<'a>) -> Result<Result<Command, Mistake>, Unread>
     ensures { ReadsAll (λ x. x) edit_or_question result words.now }
@@ -294,7 +294,7 @@ fn edit_or_ask<'a>(alloc: Global, words: Words<'a>) -> Result<Result<Command, Mi
     Ok(change_state_or_ask(rest)?)
 }
 
-/// The command that the words of a line say whole, or the mistake that its rule or its packet makes.
+/// The command that the words of a line spell whole, or the mistake in its rule or its packet.
 #[tactic(auto, unfolding(crate::specs::Grammar::command))]
 pub(crate) fn command<'a>(
     alloc: Global,

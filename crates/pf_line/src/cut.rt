@@ -1,4 +1,4 @@
-//! Cutting a line into its words, with the test of its bytes at once.
+//! Cutting a line into its words, while testing its bytes.
 ghost use Rattle.std.specs.{Prelude.{◌≡◌, ◌≤◌, ◌++◌, length, take, IfOk, IfSome}};
 ghost use Rattle.pf_form.specs.Form.Words.{texts};
 ghost use Rattle.pf_line.specs.{Lines.is_line_byte, Cutting.{if_some, CutTo}};
@@ -11,7 +11,7 @@ use std::alloc::Global;
 pub(crate) enum CutFault {
     /// It has a byte that no line may have.
     BadByte,
-    /// It has more words than there are places for them, or memory was refused.
+    /// It has more words than there are places, or out of memory.
     NoPlace,
 }
 
@@ -22,7 +22,7 @@ pub(crate) fn line_byte(b: u8) -> bool
     (b' ' <= b && b <= b'~') || b == b'\t' || b == b'\r'
 }
 
-/// Cuts a line into words, which stand in the first places then, and gives how many there are. It takes no memory.
+/// Cuts a line into words, which are put into the first places, and returns how many there are. It takes no memory.
 pub(crate) fn cut<'a>(line: &'a [u8], places: &mut [&'a [u8]]) -> Result<usize, CutFault>
     ensures cut { CutTo line.now result (λ n. texts (take n places.new)) }
     ensures room { IfOk result (λ n. n ≤ length places.new) }
@@ -47,7 +47,7 @@ pub(crate) fn cut<'a>(line: &'a [u8], places: &mut [&'a [u8]]) -> Result<usize, 
     }
 }
 
-/// Puts a word behind so many others, unless it is empty. `None`: there is no place left for it.
+/// Puts a word after this many others, unless it is empty. `None`: there is no place left for it.
 fn place<'a>(word: &'a [u8], places: &mut [&'a [u8]], count: usize) -> Option<usize>
     requires { count ≤ length places.old }
     ensures words { IfSome result (λ n. texts (take n places.new) ≡ texts (take count places.old) ++ if_some word.now) }
@@ -67,7 +67,7 @@ fn place<'a>(word: &'a [u8], places: &mut [&'a [u8]], count: usize) -> Option<us
 pub(crate) fn cut_list<'a>(alloc: Global, line: &'a [u8]) -> Result<Vec<&'a [u8]>, CutFault>
     ensures { CutTo line.now result (λ v. texts v.items) }
 {
-    // a word has a byte at least, and a blank before the next
+    // a word has at least one byte, and a blank before the next
     let Ok(mut words) = Vec::with_capacity(alloc, line.len() / 2 + 1) else {
         return Err(CutFault::NoPlace);
     };
@@ -89,7 +89,7 @@ pub(crate) fn cut_list<'a>(alloc: Global, line: &'a [u8]) -> Result<Vec<&'a [u8]
     }
 }
 
-/// Puts a word behind the others, unless it is empty. `None`: memory was refused.
+/// Appends a word to the others, unless it is empty. `None`: out of memory.
 fn push_some<'a>(words: &mut Vec<&'a [u8]>, word: &'a [u8]) -> Option<()>
     ensures { IfSome result (λ u. texts words.new.items ≡ texts words.old.items ++ if_some word.now) }
 {

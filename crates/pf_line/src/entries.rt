@@ -7,8 +7,7 @@ use pf_addr::Net;
 use pf_form::form::Kind;
 use pf_table::Entry;
 
-/// The entry that a word spells: a network, with a `!` joined to it where it is negated. A lone `!`, or a second one, is a
-/// bad word.
+/// The entry that a word spells: a network, with a `!` joined to it if it is negated. A lone `!`, or a second one, is a bad word.
 #[tactic(auto, unfolding(crate::specs::Entries::entry_of))]
 pub(crate) fn entry_of(word: &[u8]) -> Result<Entry, Kind>
     ensures { result ≡ entry_of word.now }

@@ -14,7 +14,7 @@ const KEY: &[u8] = b"judge";
 /// How many words are looked at: the eight of such a line, and some more.
 const PLACES: usize = 12;
 
-/// Whether a line begins with a `j`, as those do that [`parse_judge`] is for. Others are read at less cost without it.
+/// Whether a line begins with a `j`, as lines for [`parse_judge`] do. Others are read faster without it.
 pub fn may_judge(line: &[u8]) -> bool
     ensures { result ≡ may_judge line.now }
 {
@@ -24,9 +24,9 @@ pub fn may_judge(line: &[u8]) -> bool
     }
 }
 
-/// What a line asks whose first word is `judge`, as [`parse_line`](crate::parse_line) reads it: the packet of which it is asked what
-/// happens to it, or why the line is refused. It takes no memory, and no command is made and moved for what is asked most. `None`: any
-/// other line, and one of too many words.
+/// Reads a line whose first word is `judge`, as [`parse_line`](crate::parse_line) does: the packet that is asked about, or why the line is
+/// refused. It takes no memory, and the most frequent question makes and moves no command. `None`: any other line, or one of too many
+/// words.
 pub fn parse_judge(line: &[u8]) -> Option<Result<Packet, Refusal>>
     ensures exact { IfSome result (λ r. Parses (asked r) (line_at line.now)) }
     ensures refused { IfSome result (λ r. IfErr r (λ e. Refused line.now e)) }
@@ -49,7 +49,7 @@ fn parse_judge_checked(line: &[u8]) -> Option<Result<Packet, Refusal>>
     }
 }
 
-/// What so many words say, where the first is `judge`.
+/// What this many words say, if the first is `judge`.
 fn parse_judge_words<'a>(words: Words<'a>, count: usize) -> Option<Result<Packet, Refusal>>
     ensures loud { IfSome result (λ r. no_command (texts words.now) ≡ false) }
     ensures said { IfSome result (λ r. Parses (asked r) (said count (read_all the_grammar (texts words.now)))) }
@@ -62,7 +62,7 @@ fn parse_judge_words<'a>(words: Words<'a>, count: usize) -> Option<Result<Packet
     }
 }
 
-/// What the words behind the first of so many say of a packet.
+/// What the words after the first one say of a packet; `count` is the number of all words.
 #[tactic(auto, using(crate::proofs::Lines::made_ok, crate::proofs::Lines::made_stopped))]
 fn parse_packet_words<'a>(words: Words<'a>, count: usize) -> Result<Packet, Refusal>
     ensures { Parses (asked result) (said count (read_all (making Says judged) (texts words.now))) }

@@ -12,27 +12,27 @@ ghost use Rattle.pf_line.specs.declared.{line.TheConstants.LINE_LIMIT, ticket.Th
 ghost use Rattle.pf_line.specs.{Grammar.{Spoken, line as the_grammar}, Lines.{line_at, Means, SpellsLine}, Reply.Texts.{ticket_text, entry_text}, Tickets.{part_of, ticket_of, IsPart, SpellsTicket}, States.{id_of, IsId, bytes_of}, Entries.{entry_of, SpellsEntry}, Laws.Exports.ExportsAreRead};
 ghost use Rattle.pf_table.specs.Entries.{PlainEntry};
 
-/// A ticket is read from a word exactly where the word spells it.
+/// A ticket is read from a word exactly if the word spells it.
 #[tactic(auto, using(crate::proofs::SpelledTickets::read_is_spelled))]
 pub fn tickets_are_read_as_spelled()
     ensures read { (t : Ticket) (w : Word) → ticket_of w ≡ Some t → SpellsTicket t w }
     ensures spelled { (t : Ticket) (w : Word) → SpellsTicket t w → ticket_of w ≡ Some t }
 {}
 
-/// The text that a ticket is written as is read back as that ticket.
+/// A written ticket is read back as that ticket.
 #[tactic(auto, using(crate::proofs::SpelledTickets::ticket_again))]
 pub fn written_ticket_is_read_again()
     ensures { (t : Ticket) → t.epoch < 2 ^ 32 → t.count < 2 ^ 32 → ticket_of (ticket_text t) ≡ Some t }
 {}
 
-/// An entry of a table is read from a word exactly where the word spells it.
+/// An entry of a table is read from a word exactly if the word spells it.
 #[tactic(auto, using(crate::proofs::SpelledEntries::read_is_spelled))]
 pub fn entries_are_read_as_spelled()
     ensures read { (w : Word) (row : PlainEntry) → entry_of w ≡ Ok row → SpellsEntry w row }
     ensures spelled { (w : Word) (row : PlainEntry) → SpellsEntry w row → entry_of w ≡ Ok row }
 {}
 
-/// The text that an entry is written as is read back as that entry.
+/// A written entry is read back as that entry.
 #[tactic(auto, using(crate::proofs::SpelledEntries::entry_again))]
 pub fn written_entry_is_read_again()
     ensures { (row : PlainEntry) → IsNetwork row.0 → entry_of (entry_text row) ≡ Ok row }
@@ -55,7 +55,7 @@ pub fn long_line_is_bad()
     ensures { (line : List ℕ) → LINE_LIMIT < length line → line_at line ≡ Err BadLine }
 {}
 
-/// A state's number is read from a word exactly where the word writes it, and so is who made it.
+/// A state's number is read from a word exactly if the word spells it, and so is its creator.
 pub fn names_of_states_are_read_as_written()
     ensures id { (w : Word) (n : ℕ) → id_of w ≡ Some n → IsId w n }
     ensures written_id { (w : Word) (n : ℕ) → IsId w n → id_of w ≡ Some n }
@@ -63,14 +63,14 @@ pub fn names_of_states_are_read_as_written()
     ensures written_creator { (w : Word) (n : ℕ) → IsPart w n → part_of w ≡ Some n }
 {}
 
-/// Bytes are read again from their hexadecimal, with letters of either case.
+/// Bytes are read back from their hexadecimal, with letters of either case.
 pub fn written_bytes_are_read_again()
     ensures lower { (bytes : List ℕ) → IsBytes bytes → bytes_of (encode_lower bytes) ≡ Ok bytes }
     ensures upper { (bytes : List ℕ) → IsBytes bytes → bytes_of (encode_upper bytes) ≡ Ok bytes }
 {}
 
-/// The words that a message is exported as say to act on that message. Of a table's states, under a checksum of 16 bytes, each line of the
-/// export is no longer than a line may be, and means to act on its message.
+/// The words of an exported message say to act on that message. For a table's states, under a checksum of 16 bytes, each line of the
+/// export is within the limit of a line, and means to act on its message.
 pub fn exported_message_is_read_again()
     ensures lines { ExportsAreRead }
     ensures words { (m : Message) → CanBeWritten m → IsBytes (message_bytes m) →

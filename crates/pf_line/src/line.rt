@@ -16,7 +16,7 @@ use std::alloc::Global;
 /// How many bytes a line may have, without its newline.
 pub const LINE_LIMIT: usize = 4096;
 
-/// Lines of so many bytes are cut in place, into so many words at most; longer ones mostly list more.
+/// Lines of at most this many bytes are cut in place, into at most `PLACES` words; longer ones mostly list more.
 const SHORT: usize = 128;
 
 const PLACES: usize = 32;
@@ -52,7 +52,7 @@ fn silent(line: &[u8]) -> bool
     }
 }
 
-/// The refusal of a line of so many words that weren't read for this.
+/// The refusal of a line of this many words that weren't read for this reason.
 pub(crate) fn refusal(unread: Unread, count: usize) -> Refusal
     ensures { result ≡ refusal_of unread count }
 {
@@ -85,12 +85,11 @@ pub(crate) fn refusal_for(mistake: Mistake) -> Refusal
 
 /// Reads one line, without its newline.
 ///
-/// A line of more than 4,096 bytes, or with a byte that is neither printable ASCII nor a blank, is `BadLine`. Of any
-/// other line one without words, or whose first word begins with `#`, says nothing. `BadWord`, `NameTooLong` and
-/// `BadProto` stand at the first word at which no line can go on; words are counted from 0, and a missing word is at
-/// the number of words. `MixedFamily` and then `PortNeedsProto` come after the last word, and so do `BadPeer` and `PeerCount`, of the
-/// bytes that a line has for a peer's message. In place of any of these answers there may be `Memory`, but not for a bad line or one
-/// that says nothing.
+/// A line of more than 4,096 bytes, or with a byte that is neither printable ASCII nor a blank, is `BadLine`. Of other lines, one without
+/// words, or whose first word begins with `#`, says nothing. `BadWord`, `NameTooLong` and `BadProto` give the first word at which no line
+/// can go on; words are counted from 0, and a missing word is at the number of words. `MixedFamily` and then `PortNeedsProto` come after
+/// the last word, and so do `BadPeer` and `PeerCount`, for the bytes of a peer's message. Instead of any of these answers `Memory` may
+/// come, but not for a bad line or one that says nothing.
 pub fn parse_line(alloc: Global, line: &[u8]) -> Result<Option<Command>, Refusal>
     ensures bad { is_bad_line line.now ≡ true → result ≡ Err BadLine }
     ensures silent { is_bad_line line.now ≡ false → is_silent line.now ≡ true → result ≡ Ok None }
@@ -119,7 +118,7 @@ fn parse_checked(alloc: Global, line: &[u8]) -> Result<Option<Command>, Refusal>
     parse_loud(alloc, line)
 }
 
-/// What a line is told that isn't silent and isn't too long.
+/// The answer to a line that is neither silent nor too long.
 fn parse_loud(alloc: Global, line: &[u8]) -> Result<Option<Command>, Refusal>
     requires loud { is_silent line.now ≡ false }
     requires short { length line.now ≤ LINE_LIMIT }
@@ -132,7 +131,7 @@ fn parse_loud(alloc: Global, line: &[u8]) -> Result<Option<Command>, Refusal>
     }
 }
 
-/// The same of a short line, whose words take no memory.
+/// The same for a short line, whose words take no memory.
 fn parse_short(alloc: Global, line: &[u8]) -> Result<Option<Command>, Refusal>
     requires loud { is_silent line.now ≡ false }
     requires short { length line.now ≤ LINE_LIMIT }
@@ -146,7 +145,7 @@ fn parse_short(alloc: Global, line: &[u8]) -> Result<Option<Command>, Refusal>
     }
 }
 
-/// The same of any line, whose words take memory.
+/// The same for any line, whose words take memory.
 fn parse_long(alloc: Global, line: &[u8]) -> Result<Option<Command>, Refusal>
     requires loud { is_silent line.now ≡ false }
     requires short { length line.now ≤ LINE_LIMIT }
@@ -159,7 +158,7 @@ fn parse_long(alloc: Global, line: &[u8]) -> Result<Option<Command>, Refusal>
     }
 }
 
-/// What it is told where memory was refused before all of its bytes were looked at.
+/// The answer when out of memory before all bytes of the line were looked at.
 #[tactic(auto, using(crate::proofs::Lines::bad_answered))]
 fn no_memory(line: &[u8]) -> Result<Option<Command>, Refusal>
     requires { is_silent line.now ≡ false }
@@ -172,7 +171,7 @@ fn no_memory(line: &[u8]) -> Result<Option<Command>, Refusal>
     }
 }
 
-/// What so many words say.
+/// What this many words say.
 fn parse_words<'a>(
     alloc: Global,
     words: Words<'a>,
@@ -187,7 +186,7 @@ fn parse_words<'a>(
     parse_command(alloc, rest, count)
 }
 
-/// What the words behind the first of so many say of a peer's message.
+/// What the words after the first one say of a peer's message; `count` is the number of all words.
 #[tactic(auto, using(crate::proofs::Lines::made_ok, crate::proofs::Lines::made_stopped))]
 fn parse_peer<'a>(alloc: Global, words: Words<'a>, count: usize) -> Result<Option<Command>, Refusal>
     ensures { Parses result (said count (read_all (making Tells hex) (texts words.now))) }
@@ -198,7 +197,7 @@ fn parse_peer<'a>(alloc: Global, words: Words<'a>, count: usize) -> Result<Optio
     }
 }
 
-/// What words of so many say whole.
+/// What these words, of `count` in all, say as a whole.
 #[tactic(auto, using(crate::proofs::Lines::made_ok, crate::proofs::Lines::made_stopped))]
 fn parse_command<'a>(
     alloc: Global,

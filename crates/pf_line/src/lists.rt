@@ -1,4 +1,4 @@
-//! Lists of a table's entries, which stand at a line's end.
+//! Lists of a table's entries, at the end of a line.
 ghost use Rattle.pf_form.specs.{Form.Forms.{one_or_more, any_number}, Form.Readers.ReadsAll};
 ghost use Rattle.pf_line.specs.Grammar.{row};
 

@@ -1,4 +1,4 @@
-//! Words of a state's number, of who made it, and of bytes.
+//! Words for a state's number, its creator, and bytes.
 ghost use Rattle.std.specs.Prelude.{◌≡◌};
 ghost use Rattle.pf_form.specs.Form.Readers.{ReadsAll};
 ghost use Rattle.pf_line.specs.{Grammar.{or_bad, hex}, States.id_of, Tickets.part_of};
@@ -18,14 +18,14 @@ pub(crate) fn read_id(word: &[u8]) -> Result<u64, Kind>
     read_number(word, ID_DIGIT_LIMIT).ok_or(Kind::BadWord)
 }
 
-/// Who made a state, as a word spells it: 1 to 10 decimal digits, below 2^32.
+/// The creator of a state, as a word spells it: 1 to 10 decimal digits, below 2^32.
 pub(crate) fn read_creator(word: &[u8]) -> Result<u32, Kind>
     ensures { result ≡ or_bad (part_of word.now) }
 {
     part(word).ok_or(Kind::BadWord)
 }
 
-/// The bytes that the one word left writes in hexadecimal.
+/// The bytes that the only word left spells in hexadecimal.
 pub(crate) fn read_bytes<'a>(alloc: Global, words: Words<'a>) -> Result<Vec<u8>, Unread>
     ensures { ReadsAll (λ v. v.items) hex result words.now }
 {

@@ -32,7 +32,7 @@ fn first_dot(word: &[u8]) -> Option<usize>
     word.iter().position(|b| *b == b'.')
 }
 
-/// An epoch or a count, or who made a state.
+/// An epoch or a count, or the creator of a state.
 pub(crate) fn part(text: &[u8]) -> Option<u32>
     ensures { result ≡ part_of text.now }
 {

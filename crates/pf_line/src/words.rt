@@ -1,4 +1,4 @@
-//! Reading the words that stand for values, each from the front of those that are left.
+//! Reading the words that stand for values, each from the front of the words left.
 ghost use Rattle.pf_form.specs.Form.Readers.{Moves};
 ghost use Rattle.pf_line.specs.Grammar.{kind, path, ticket_text, table_name, row, name, entry, table, offered_table, id, creator, state};
 
@@ -86,7 +86,7 @@ pub(crate) fn read_table<'a>(words: &mut Words<'a>) -> Result<(Path, TableName),
     Ok((path, name))
 }
 
-/// A table that is offered: its path, the ticket, and its name.
+/// An offered table: its path, the ticket, and its name.
 pub(crate) fn read_offered<'a>(words: &mut Words<'a>) -> Result<(Path, Ticket, TableName), Stop>
     ensures { Moves offered_table result words.old.now words.new.now }
 {

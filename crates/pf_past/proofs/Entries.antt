@@ -61,7 +61,7 @@ value_same (suc n) = let e : (suc n == 0) ≡ false = grind (arith, nat_tests) i
 value_suc : (n : ℕ) → either (suc n == 0) 1 (suc n) ≡ suc n
 value_suc n = let e : (suc n == 0) ≡ false = grind (arith, nat_tests) in rw e refl
 
--- a step that writes what it found leaves the words
+-- a step that writes what it found doesn't change the words
 pub same_set : (cs : List Cell) → (cell cs 0).1 ≡ true → slice_set cs 0 (either ((cell cs 0).0 == 0) 0 (cell cs 0).0, true) ≡ cs
 same_set [] h = refl
 same_set ((n, b) ∷ cs) h = λ i. (value_same n i, sym h i) ∷ cs
@@ -86,7 +86,7 @@ pub lead_of-push : (log : List HistoryEntry) (e : HistoryEntry) → lead_of (log
 lead_of-push [] e = refl
 lead_of-push (x ∷ xs) e = lead-push x.next xs e
 
--- who has the pen that may add has seen all
+-- whoever has the pen that may add has seen all
 spent_alone : (cs : List Cell) (k : ℕ) (v log : List HistoryEntry) → IsSpent cs k log → IsPrefix v log → (cell cs (lead k v)).1 ≡ false → v ≡ log
 spent_alone cs k [] [] s pre away = refl
 spent_alone cs k [] (y ∷ ys) s pre away = absurd (true≢false (sym s.0 ∙ away))
@@ -104,7 +104,7 @@ alone cs (x ∷ xs) (y ∷ ys) kept pre away =
     let gone : (cell cs (lead y.next xs)).1 ≡ false = subst (λ (e : HistoryEntry). (cell cs (lead e.next xs)).1 ≡ false) heads away in
     let rest = spent_alone cs y.next xs ys kept.1 (pre.0, cc (pre.1)) gone in cc (heads, rest)
 
--- a new pen may come at any time
+-- a new pen may be made at any time
 pub comes : (v : List HistoryEntry) (ask : HistoryEntry) → Moves IsKept shown moved 0 (v, (no_nib, None)) (λ n. either (n == 0) 0 n) (Comes (step 0 0 0 ask) (v, (no_nib, None)))
 comes v ask cs log kept pre away =
     let cs' = cs ++ (0, false) ∷ [] in

@@ -1,4 +1,4 @@
 pub mod Pasts
 pub mod Rules
--- what public clauses cite of the crates below
+-- what public contracts cite of the crates below
 pub use Rattle.pf_core.specs.Durable.Changes

@@ -24,7 +24,7 @@ Begins p q = IsPrefix p.front q.front × (p.acked ≤ q.acked)
 abbrev pub all_acked : List PlainChange → PlainFront
 all_acked front = record { front = front; acked = length front }
 
--- a front, and of which history it is one
+-- a front, and which history it is one of
 pub record PlainTrace : Type 0 where
   pub book : Book
   pub past : PlainFront

@@ -6,9 +6,9 @@ use Rattle.pf_core.specs.Durable.Changes.{PlainChange}
 use Rattle.pf_past.specs.declared.rule.HistoryEntry.{HistoryEntry}
 use Rattle.pf_past.specs.Pasts.{PlainFront}
 
--- ---- what holds of the words and the entries
+-- ---- the invariant of the words and the entries
 
--- the key of the pen that may add the next entry, where k was the first
+-- the key of the pen that may add the next entry, if k was the first
 abbrev pub lead : ℕ → List HistoryEntry → ℕ
 lead k [] = k
 lead k (e ∷ es) = lead e.next es
@@ -27,20 +27,20 @@ abbrev pub IsChain : List Cell → List HistoryEntry → Type 0
 IsChain cells [] = Unit {0}
 IsChain cells (e ∷ es) = IsSpent cells e.next es
 
--- the first word is at home, and 0 until the first entry stands
+-- the first word is at home, and 0 until there is a first entry
 abbrev pub IsKept : List Cell → List HistoryEntry → Type 0
 IsKept cells log = ((cell cells 0).1 ≡ true) × IsChain cells log × ((cell cells 0).0 ≡ 0 → log ≡ [])
 
 abbrev pub head_of : Book → Named
 head_of b = record { tracked = true; key = 0; book = b }
 
--- ---- what a step tells
+-- ---- what a step says
 
--- a new pen came
+-- a new pen was made
 abbrev pub Comes : Step HistoryEntry → View HistoryEntry ℕ → ℕ → View HistoryEntry ℕ → Type 0
 Comes s v found w = w.1.0.right ≡ may_make
 
--- where the word was 0, the first entry stands
+-- if the word was 0, the first entry is there
 abbrev pub Starts : Step HistoryEntry → View HistoryEntry ℕ → ℕ → View HistoryEntry ℕ → Type 0
 Starts s v found w = found ≡ 0 → w.0 ≡ s.ask ∷ []
 
@@ -48,7 +48,7 @@ Starts s v found w = found ≡ 0 → w.0 ≡ s.ask ∷ []
 abbrev pub Adds : Step HistoryEntry → View HistoryEntry ℕ → ℕ → View HistoryEntry ℕ → Type 0
 Adds s v found w = w.0 ≡ v.0 ++ s.ask ∷ []
 
--- the pen is as it was, and who has it has seen all that anyone saw
+-- the pen is as it was, and whoever has it has seen all that anyone saw
 abbrev pub Stays : Step HistoryEntry → View HistoryEntry ℕ → ℕ → View HistoryEntry ℕ → Type 0
 Stays s v found w = (w.1.0 ≡ v.1.0) × ((u : List HistoryEntry) → IsPrefix u v.0 → lead_of u ≡ v.1.0.key → u ≡ v.0)
 

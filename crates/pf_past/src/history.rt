@@ -1,4 +1,4 @@
-//! A history and fronts of it. All of it exists in proofs alone, and takes no memory: what is kept at run time is a word or two.
+//! A history and fronts of it. All of it exists in proofs alone, and takes no memory: at run time only a word or two are kept.
 ghost use Rattle.std.specs.Prelude.{◌≡◌, ◌≤◌, length, IfSome};
 ghost use Rattle.std.specs.Arc.{arc_value};
 ghost use mathlib.Core.List.{IsPrefix};
@@ -16,7 +16,7 @@ use std::sync::Arc;
 pub struct NewHistory {
     head: Head,
     seen: SeenEntries,
-    // what may add the first change; no run is known to be without
+    // the pen that may add the first change; no run is known to lack it
     pen: Option<Pen>,
 }
 
@@ -33,7 +33,7 @@ impl Model for NewHistory {
 }
 
 impl NewHistory {
-    /// One that nobody has seen yet.
+    /// A history that nobody has seen yet.
     pub fn open() -> NewHistory {
         let (mut seen, mut first, _second) = Seen::open(Start::alone(), 0, 0);
         let head = Head::tracked(0, &mut first);
@@ -58,7 +58,7 @@ impl NewHistory {
         }
     }
 
-    /// The history under its name. `None`: nobody may add to it; no run is known to meet this, and no contract says that none does.
+    /// The history under its name. `None`: nobody may add to it; no run is known to meet this, but no contract rules it out.
     pub fn named<J: Naming>(self) -> Option<Tip<J>>
         requires { self ≡ J.history }
         ensures { IfSome result (λ tip. tip ≡ no_changes) }
@@ -74,7 +74,8 @@ impl NewHistory {
     }
 }
 
-/// A front of some history: for a type that can't have the name of one. Contracts see of which history it is a front, and the front (`PlainTrace`).
+/// A front of some history, for a type that can't have the history's name. Contracts see which history it is a front of, and the front
+/// (`PlainTrace`).
 #[derive(Drop)]
 pub struct Trace {
     seen: SeenEntries,
@@ -89,7 +90,7 @@ impl Model for Trace {
 }
 
 impl Trace {
-    /// The same once more.
+    /// The same front once more.
     pub fn again(&self) -> Trace
         ensures { result ≡ self.now }
     {
@@ -130,7 +131,7 @@ impl<J: Naming> Model for Front<J> {
 }
 
 impl<J: Naming> Front<J> {
-    /// The same once more.
+    /// The same front once more.
     pub fn again(&self) -> Front<J>
         ensures { result ≡ self.now }
     {
@@ -140,7 +141,7 @@ impl<J: Naming> Front<J> {
         }
     }
 
-    /// The same without the name of its history in its type.
+    /// The same front without the name of its history in its type.
     pub fn trace(&self) -> Trace
         ensures { result ≡ trace_with J.history self.now }
     {
@@ -179,7 +180,7 @@ impl<J: Naming> Model for Tip<J> {
 }
 
 impl<J: Naming> Tip<J> {
-    /// A front that is all of it.
+    /// A front that is the whole history.
     pub fn front(&self) -> Front<J>
         ensures { result ≡ self.now }
     {
@@ -189,7 +190,7 @@ impl<J: Naming> Tip<J> {
         }
     }
 
-    /// Adds a change, which was acknowledged or not.
+    /// Adds a change, acknowledged or not.
     pub fn add(&mut self, change: Arc<Change>, acked: bool)
         ensures { self.new ≡ with_change self.old (arc_value change) acked }
     {
@@ -209,7 +210,7 @@ impl<J: Naming> Tip<J> {
         self.pen = pen;
     }
 
-    /// It begins with each front of this history.
+    /// The tip begins with each front of this history.
     pub fn contains(&mut self, front: &Front<J>)
         ensures begins { Begins front.now self.old }
         ensures same { self.new ≡ self.old }

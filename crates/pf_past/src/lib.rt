@@ -1,13 +1,17 @@
-//! The history of one opening: all changes under it, each in its place for good, and fronts of it.
+//! The history of one opening: all its changes, each in its place for good, and fronts of it.
 //!
-//! It exists in proofs alone: what is kept at run time is a word or two, by which a proof follows it. The crate knows changes (`pf_core`), and
-//! no copy, device, command or reply. Read first `specs/Pasts.antt`: what contracts see of a front. The modules, each of which uses none
-//! below it:
+//! It exists in proofs alone: at run time only a word or two are kept, by which a proof follows it. The crate knows changes (`pf_core`),
+//! but no copy, device, command or reply. Read first `specs/Pasts.antt`: what contracts see of a front. The modules, each of which uses
+//! none below it:
 //!
 //! - `naming`: [`Naming`], the name of one opening.
 //! - `rule`: who may add to a history, and the steps that do.
-//! - `history`: [`NewHistory`], [`Tip`], which alone adds to it, [`Front`], what it was at some moment, and [`Trace`], a front whose type has
-//!   no name.
+//! - `history`: [`NewHistory`], [`Tip`], which alone adds to it, [`Front`], what it was at some moment, and [`Trace`], a front whose type
+//!   has no name.
+//!
+//! Proved, in the public contracts: a history only grows, at its end and by its tip ([`Tip::add`]); of two fronts of one history the
+//! shorter begins the longer ([`Front::begins`]); and the tip begins with every front ([`Tip::contains`]). Not proved: that a new history
+//! always gets its pen ([`NewHistory::named`]).
 #![tactic(auto)]
 
 mod history;

@@ -1,7 +1,7 @@
 //! The name of one opening.
 use std::marker::Brand;
 
-/// Names one opening and its history, so that a type can say of which one its values are. A program picks it once, when it has what the
+/// Names one opening and its history, so that a type can say which one its values belong to. A program picks it once, when it has what the
 /// opening gave.
 pub trait Naming {
     ghost use Rattle.logbook.specs.Pages.{Book};
@@ -10,7 +10,7 @@ pub trait Naming {
     /// What the opening gave.
     ghost base: { PlainDurable };
 
-    /// Which history is its own.
+    /// Which history belongs to it.
     ghost history: { Book };
 }
 

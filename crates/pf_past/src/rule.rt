@@ -7,14 +7,14 @@ use logbook::{Gain, Offer, Pen, Plain, Play, Rule, Seen, Word};
 use pf_core::Change;
 use std::sync::Arc;
 
-/// A change, whether it was acknowledged, and the key of the pen that may add the next one. No value of it is made.
+/// A change, whether it was acknowledged, and the key of the pen that may add the next one. No value of it is ever made.
 pub struct HistoryEntry {
     pub change: Change,
     pub acked: bool,
     pub next: u64,
 }
 
-/// The rule: who has the pen that the last entry names has seen all entries, and alone may add one.
+/// The rule: whoever has the pen that the last entry names has seen all entries, and alone may add one.
 pub struct OnePen;
 
 impl Rule<HistoryEntry, u64> for OnePen {
@@ -35,7 +35,7 @@ impl Rule<HistoryEntry, u64> for OnePen {
     ghost moves = { λ ask before after answer. Unit {0} };
 }
 
-/// Who takes a step trades nothing for it.
+/// A step that trades nothing in.
 pub struct NoGain;
 
 impl Gain<HistoryEntry, u64> for NoGain {
@@ -50,14 +50,14 @@ pub(crate) type SeenEntries = Seen<HistoryEntry, u64, OnePen>;
 
 pub(crate) type Step = Offer<HistoryEntry, u64, OnePen, NoGain>;
 
-// What is added: a change, and the pen that may add the next one.
+// An entry to add: a change, and the pen that may add the next one.
 pub(crate) struct Asked {
     pub(crate) change: Arc<Change>,
     pub(crate) acked: bool,
     pub(crate) pen: Pen,
 }
 
-/// A new pen comes.
+/// A new pen is made.
 pub struct Coming;
 
 impl Play<HistoryEntry, u64> for Coming {
@@ -111,7 +111,7 @@ impl Plain<Asked, HistoryEntry, u64> for Adding {
     ghost state = { λ a. None };
 }
 
-/// Who has the pen looks whether anyone saw more.
+/// Whoever has the pen checks whether anyone saw more.
 pub struct Staying;
 
 impl Play<HistoryEntry, u64> for Staying {

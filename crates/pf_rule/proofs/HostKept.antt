@@ -1,4 +1,4 @@
--- What words spell is what a host and an end keep.
+-- What words spell has what every host and every end maintains.
 use Rattle.std.proofs.Common.{◌≡◌, Bool, true, false, List, Ok, arith}
 use Rattle.std.specs.Prelude.{drop, codes, if◌then◌else◌}
 use Rattle.pf_addr.specs.Laws.Spelling.{IsNetwork-spelled}

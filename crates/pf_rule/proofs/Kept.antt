@@ -1,4 +1,4 @@
--- What words spell is what a rule or a packet keeps.
+-- What words spell has what every rule or packet maintains.
 use Rattle.std.proofs.Common.{◌≡◌, ◌<◌, Bool, true, false, List, Option, Some, None, Result, Ok, refl, sym, subst, ap, ◌∙◌, arith}
 use Rattle.std.specs.Prelude.{IfSome, IfOk}
 use Rattle.pf_addr.specs.{Address.IsAddr, Path.{References.{PlainReference, reference_of}, ReferenceGrammar.IsReference}}

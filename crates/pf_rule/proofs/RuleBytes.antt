@@ -1,4 +1,4 @@
--- A rule's form is what its layout writes of its data, each rule fits it, and the data tell the rule.
+-- A rule's form is what its layout writes of its data; each rule fits it, and is read back from the data.
 use Rattle.std.proofs.{Common.{◌≡◌, ◌-◌, ◌<◌, ◌≤◌, ◌==◌, ℕ, zero, suc, Bool, true, false, List, [], ◌∷◌, ◌++◌, length, replicate, Option, Some, None, refl, sym, ap, subst, ◌∙◌, arith}, lemmas.Bool.and_parts, lemmas.Bool.Decides.nat_tests, lemmas.List.{length-append, length-replicate}, Math.Nat.mod-eq_of_lt}
 use Rattle.std.specs.{Prelude.{unwrap_or, IfSome, not, if◌then◌else◌}, List.{AllByRecursion, list_all}}
 use Rattle.byteorder.specs.Endian.{big_bytes}
@@ -228,7 +228,7 @@ interface_again : (i : Option (List ℕ)) → IfSome i IsInterfaceName → inter
 interface_again None is = refl
 interface_again (Some name) is = rw (name_again INTERFACE_LIMIT 16 name is) refl
 
--- only with a protocol that has ports are they tested
+-- ports are tested only with a protocol that has ports
 none_without : (protocol : Option ℕ) (s d : Option PortTest) → ports_fit protocol s d ≡ true → has_ports (unwrap_or protocol 0) ≡ false → (s ≡ None) × (d ≡ None)
 unfolding ports_fit
 none_without protocol None None fit none = (refl, refl)
@@ -424,6 +424,6 @@ form_long r is =
       filled_long 64 (names r.effect) (names_short r.effect is.effect),
     )
 
--- so has its layout
+-- and so is what its layout writes
 pub layout_long : (version : ℕ) (r : PlainRule) → IsRule r → length_of (rule_layout version) (plain_rule r) ≡ 204
 layout_long version r is = sym (length_is (rule_layout version) (plain_rule r)) ∙ ap length (layout_is version r is) ∙ form_long r is

@@ -1,4 +1,4 @@
--- What reading a whole text answers.
+-- What reading a whole text returns.
 use Rattle.std.proofs.Common.{◌≡◌, ◌⊎◌, true, List, length, Result, Ok, refl, arith, Err}
 use Rattle.std.specs.Prelude.{IfErr}
 use Rattle.pf_form.specs.declared.form.fault.Kind.{Kind}

@@ -1,4 +1,4 @@
--- Hosts that are no tables don't look at what tables say.
+-- Hosts that aren't tables don't look at what tables say.
 use Rattle.std.proofs.Common.{refl}
 use Rattle.pf_rule.specs.declared.host.host.Host.TheVariants.{Any, Net, Table}
 use Rattle.pf_rule.specs.{Laws.Matching.{HostAsksNoTable, RuleAsksNoTable}, Rules.ends_hold}

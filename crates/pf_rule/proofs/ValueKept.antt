@@ -1,4 +1,4 @@
--- What words spell is what a test of a value keeps.
+-- What words spell has what every test of a value maintains.
 use Rattle.std.proofs.{Common.{◌≡◌, ℕ, ◌<◌, Bool, true, false, List, Option, Some, None, Result, Ok, Err, refl, subst, arith}, lemmas.Bool.Decides.nat_tests}
 use Rattle.std.specs.{Prelude.{◌+◌, take, drop, IfSome, IfOk}, List.position}
 use Rattle.pf_addr.specs.declared.addr.Addr.{Addr}
@@ -23,7 +23,7 @@ protocol_kept w n e = grind (arith, nat_tests)
 pub address_kept : (w : Word) (a : Addr) → address_of w ≡ Ok a → IsAddr a
 address_kept w a e = grind (arith, addr_is)
 
--- a port is 0 where the protocol has none
+-- a port is 0 if the protocol has none
 pub port_kept : (ports : Bool) (w : Word) (n : ℕ) → port_of ports w ≡ Ok n → (n < 65536) × (ports ≡ false → n ≡ 0)
 port_kept ports w n e = grind (arith, nat_tests)
 

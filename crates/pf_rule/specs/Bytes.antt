@@ -1,5 +1,5 @@
--- How numbers, addresses, directions and families stand in bytes, in a rule's form as in a peer's message. A number has its highest byte
--- first (network order, RFC 1700); the rest is own.
+-- How numbers, addresses, directions and families are written in bytes, in a rule's form and in a peer's message. A number has its
+-- highest byte first (network order, RFC 1700); the rest is this project's own.
 use Rattle.std.specs.Prelude.{◌≡◌, ℕ, List, ◌++◌, drop, length, replicate, slice_index, refl}
 use Rattle.byteorder.specs.Endian.{big_number, big_bytes}
 use Rattle.pf_addr.specs.declared.addr.Addr.{Addr}
@@ -10,11 +10,11 @@ use Rattle.pf_rule.specs.declared.{value.direction.Direction.Direction, value.di
 abbrev pub byte_at : ℕ → List ℕ → ℕ
 byte_at place bytes = slice_index bytes place
 
--- the number of so many bytes at a place
+-- the number in `width` bytes at a place
 unfoldable pub number_at : ℕ → ℕ → List ℕ → ℕ
 number_at place width bytes = big_number width (drop place bytes)
 
--- an address in 16 bytes, one of IPv4 in the first four
+-- an address in 16 bytes; an IPv4 address is in the first four, followed by zeros
 abbrev pub addr_bytes : Addr → List ℕ
 addr_bytes (addr.V4 n) = big_bytes 4 n ++ replicate 12 0
 addr_bytes (addr.V6 n) = big_bytes 16 n

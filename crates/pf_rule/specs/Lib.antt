@@ -11,7 +11,7 @@ pub mod RuleText
 pub mod InOrder
 pub mod Refusals
 pub mod Laws
--- what public clauses cite of the crates below
+-- what public contracts cite of the crates below
 pub use Rattle.pf_form.specs.Form.Forms
 pub use Rattle.pf_form.specs.Form.Readers
 pub use Rattle.pf_form.specs.Form.Words

@@ -1,4 +1,4 @@
--- A match in the order that the code takes it: ports, then networks, and tables last, as they cost most.
+-- A match in the order in which the code tests it: ports, then networks, and last tables, which cost most.
 use Rattle.std.proofs.Common.{◌≡◌, true, false, refl, arith}
 use Rattle.std.specs.Prelude.{Bool, ◌&&◌}
 use Rattle.pf_addr.specs.declared.addr.Addr.{Addr}

@@ -21,15 +21,15 @@ packet_words =
     making packet_with (pair way (pair an_interface (pair_by a_protocol has_ports (λ ports.
     pair an_address (pair (a_port ports) (pair an_address (a_port ports)))))))
 
--- after the last word: a packet has addresses of one family
+-- after the last word: the addresses of a packet are of one family
 abbrev pub of_one_family : PlainPacket → Result PlainPacket Mistake
 of_one_family p = if same_family (family_of p.source) (family_of p.destination) then Ok p else Err MixedFamily
 
--- The words of a packet, or of addresses that differ in family.
+-- The words of a packet, or of addresses of different families.
 unfoldable pub packet : Form (Result PlainPacket Mistake)
 packet = making of_one_family packet_words
 
--- One word of look-ahead decides it.
+-- One word of look-ahead suffices.
 pub packet_decided : is_decided packet ≡ true
 unfolding packet way
 packet_decided = refl

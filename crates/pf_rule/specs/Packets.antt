@@ -8,7 +8,7 @@ use Rattle.pf_rule.specs.Value.Values.{IsInterfaceName, IsProtocol, has_ports}
 abbrev pub PlainPacket : Type 0
 PlainPacket = PacketParts
 
--- what a packet keeps: addresses of one family, and no ports but for a protocol that has them
+-- what every packet maintains: addresses of one family, and ports only for a protocol that has them
 pub record IsPacket (p : PlainPacket) : Type 0 where
   pub interface : IsInterfaceName p.interface
   pub protocol : IsProtocol p.protocol

@@ -1,4 +1,4 @@
--- What reading a text answers: a value, or the one refusal.
+-- What reading a text returns: a value, or the one refusal.
 use Rattle.std.specs.Prelude.{◌≡◌, ℕ, ◌-◌, List, length, Result, Ok, Err, IfOk, IfErr}
 use Rattle.pf_form.specs.declared.form.fault.Kind.{Kind}
 use Rattle.pf_form.specs.declared.form.fault.Kind.TheVariants as kinds
@@ -15,27 +15,27 @@ abbrev pub fault_for : Mistake → TextFault
 fault_for mistakes.MixedFamily = MixedFamily
 fault_for mistakes.PortNeedsProto = PortNeedsProto
 
--- what was read of so many words, which may all be good and still make a mistake
+-- the result of reading `count` words, which may all be good and still make a mistake
 abbrev pub told : {A : Type 0} → ℕ → Result (Result A Mistake) (Kind × List Word) → Result A TextFault
 told count (Ok (Ok x)) = Ok x
 told count (Ok (Err mistake)) = Err (fault_for mistake)
 told count (Err e) = Err (fault_at e.0 (count - length e.1))
 
--- what a reader gives, where no word may be left
+-- the result of a reader after which no word may be left
 abbrev pub told_by : {A : Type 0} → ℕ → Reader (Result A Mistake) → List Word → Result A TextFault
 told_by count read ws = told count (read ws >>= ended)
 
--- what the words of a text give
+-- the result for the words of a text
 unfoldable pub reading : {A : Type 0} → Form (Result A Mistake) → List Word → Result A TextFault
 reading text ws = told_by (length ws) (reads text) ws
 
--- What was answered is this, unless memory was refused.
+-- The result is the expected one, unless it ran out of memory.
 abbrev pub Answers : {A : Type 0} → Result A TextFault → Result A TextFault → Type 0
 Answers (Ok x) expected = expected ≡ Ok x
 Answers (Err Memory) expected = Unit {0}
 Answers (Err e) expected = expected ≡ Err e
 
--- A refusal of these words. Its place and its kind are by the grammar alone.
+-- A refusal of these words. The grammar alone decides its place and its kind.
 abbrev pub Refused : {A : Type 0} → Form (Result A Mistake) → List Word → TextFault → Type 0
 Refused {A = A} text ws (BadWord at) = RefusedAt (Result A Mistake) text ws at kinds.BadWord
 Refused {A = A} text ws (NameTooLong at) = RefusedAt (Result A Mistake) text ws at kinds.NameTooLong
@@ -44,7 +44,7 @@ Refused text ws MixedFamily = Spells text (Err mistakes.MixedFamily) ws
 Refused text ws PortNeedsProto = Spells text (Err mistakes.PortNeedsProto) ws
 Refused text ws Memory = Unit {0}
 
--- What reading the words answers, by the grammar alone, and by the grammar's reader.
+-- What reading the words returns, by the grammar alone, and by the grammar's reader.
 pub record IsAnswer (A : Type 0) (text : Form (Result A Mistake)) (ws : List Word) (result : Result A TextFault) : Type 0 where
   pub found : IfOk result (λ x. Spells text (Ok x) ws)
   pub only : (x : A) → Spells text (Ok x) ws → Answers result (Ok x)

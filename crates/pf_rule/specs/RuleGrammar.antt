@@ -24,7 +24,7 @@ passes openings.Pass = true
 passes openings.Block = false
 passes (openings.Anchor r) = false
 
--- ["keep" "state" | "no" "state"], where the rule passes; it keeps state where nothing is said
+-- ["keep" "state" | "no" "state"], if the rule passes; it keeps state if nothing is said
 unfoldable pub state : Bool → Form Bool
 state true = or (codes "keep") (key (codes "state") (nothing true)) (or (codes "no") (key (codes "state") (nothing false)) (nothing true))
 state false = nothing false
@@ -56,9 +56,9 @@ rule_words =
     making rule_with (pair_by opening passes (λ passes.
     pair direction (pair (if_there (codes "quick")) (pair interface (pair family (pair protocol (pair ends (state passes))))))))
 
--- ---- after the last word: the families that are written agree, and ports are tested of a protocol that has them
+-- ---- after the last word: the families that are written agree, and ports are tested only with a protocol that has them
 
--- The one family of two, either of which may be absent; none where they differ.
+-- The one family of two, either of which may be missing; none if they differ.
 abbrev pub agreed : Option Family → Option Family → Option (Option Family)
 agreed None g = Some g
 agreed (Some f) None = Some (Some f)
@@ -68,7 +68,7 @@ agreed (Some f) (Some g) = if same_family f g then Some (Some f) else None
 abbrev pub one_family : Option Family → Host → Host → Option (Option Family)
 one_family written source destination = option_and_then (λ f. agreed f (host_family destination)) (agreed written (host_family source))
 
--- with its one family, and by whether its ports may be tested; that families differ is told first
+-- given its one family, and whether its ports may be tested; different families are the first mistake
 abbrev pub agreeing_with : PlainRule → Option (Option Family) → Bool → Result PlainRule Mistake
 agreeing_with r None fit = Err MixedFamily
 agreeing_with r (Some f) false = Err PortNeedsProto
@@ -77,11 +77,11 @@ agreeing_with r (Some f) true = Ok (record r { family = f })
 abbrev pub agreeing : PlainRule → Result PlainRule Mistake
 agreeing r = agreeing_with r (one_family r.family r.source r.destination) (ports_fit r.protocol r.source_port r.destination_port)
 
--- The words of a rule, or of one whose words are good one by one and make a mistake.
+-- The words of a rule, or of one whose words are each good but make a mistake.
 unfoldable pub rule : Form (Result PlainRule Mistake)
 rule = making agreeing rule_words
 
--- One word of look-ahead decides it.
+-- One word of look-ahead suffices.
 pub rule_decided : is_decided rule ≡ true
 unfolding rule opening direction interface family protocol a_negated_host a_host host port port_test order_or_range compared ranged
     range_end end destination ends state part_at pieces_at v4_at address_at

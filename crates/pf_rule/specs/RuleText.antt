@@ -1,5 +1,5 @@
--- The one text that a rule is written as: its words, with one space between two. As pfctl(8) shows rules. Own are: a port that equals
--- a number as `port = n`, a reference in quotes, IPv6 in eight groups, no `flags`, and the `!` apart from what it negates.
+-- The one text of a rule: its words separated by one space, as pfctl(8) shows rules. This project's own are: a port that equals a number
+-- as `port = n`, a reference in quotes, IPv6 in eight groups, no `flags`, and the `!` separate from what it negates.
 use Rattle.std.specs.{Prelude.{ℕ, Bool, true, false, List, [], ◌∷◌, ◌++◌, codes}, List.join_with_byte}
 use Rattle.pf_addr.specs.Path.References.{reference_text, quoted}
 use Rattle.pf_form.specs.Form.Words.{Word}
@@ -31,6 +31,6 @@ canonical r =
     ++ (family_words r.family ++ (protocol_words r.protocol
     ++ (ends_words (r.source, r.source_port) (r.destination, r.destination_port) ++ state_words r.effect)))))))
 
--- words with a space (32) between two
+-- words separated by a space (32)
 unfoldable pub rule_text : PlainRule → List ℕ
 rule_text r = join_with_byte 32 (canonical r)

@@ -17,7 +17,7 @@ ends_hold says r p =
     && host_holds says r.destination p.destination
     && holds r.destination_port (λ t. port_holds t p.destination_port)
 
--- a rule matches a packet for which all its tests hold; what a table matches is as tables say
+-- a rule matches a packet for which all its tests hold; tables say what a table matches
 abbrev pub matches : TableTest → PlainRule → PlainPacket → Bool
 matches says r p =
     holds r.direction (λ d. same_direction d p.direction)
@@ -26,7 +26,7 @@ matches says r p =
     && holds r.protocol (λ n. n == p.protocol)
     && ends_hold says r p
 
--- a network as a host gives the rule its family, negated or not; a table gives it none
+-- a host's network gives the rule its family, negated or not; a table gives it none
 abbrev pub HostFits : Option Family → Host → Type 0
 HostFits family Any = Unit {0}
 HostFits family (Net n negated) = (family ≡ Some n.family) × IsNetwork n

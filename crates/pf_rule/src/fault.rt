@@ -9,39 +9,39 @@ use pf_form::form::{Kind, Stop, Words, end};
 use std::alloc::AllocError;
 use thiserror::Error;
 
-/// What is wrong with a text whose words can all stand where they stand.
+/// What is wrong with a text whose words are each good.
 #[derive(Clone, Copy)]
 pub enum Mistake {
-    /// Addresses, networks or a family that differ in family.
+    /// Addresses, networks or a family of different families.
     MixedFamily,
-    /// A port is tested, and the protocol isn't TCP or UDP.
+    /// A port is tested, but the protocol isn't TCP or UDP.
     PortNeedsProto,
 }
 
-/// Why a text is no rule or no packet. `at` is the number of a word, from 0, or the number of words where one is missing.
+/// Why a text isn't a rule or a packet. `at` is a word's number, from 0, or the number of words if one is missing.
 #[derive(Clone, Copy, Debug, PartialEq, Eq, Error)]
 pub enum TextFault {
-    /// The first word that can't stand where it stands.
+    /// The first word that can't be where it is.
     #[error("a word that can't stand there, or is missing, at word {at}")]
     BadWord { at: usize },
-    /// A name or a reference past its limits: of bytes, or of components.
+    /// A name or a reference past its limit of bytes or of components.
     #[error("a name past its limit at word {at}")]
     NameTooLong { at: usize },
-    /// A word that has to be a protocol and is none.
+    /// A word that isn't a protocol where one must be.
     #[error("no protocol at word {at}")]
     BadProto { at: usize },
-    /// All words can stand, and their addresses, networks and family aren't of one family.
+    /// All words are good, but their addresses, networks and family aren't all of one family.
     #[error("addresses, networks or a family that differ in family")]
     MixedFamily,
-    /// All words can stand, and a port is tested where the protocol isn't TCP or UDP. Only a rule's text has it.
+    /// All words are good, but a port is tested and the protocol isn't TCP or UDP. Only for a rule's text.
     #[error("ports are tested, and the protocol has none")]
     PortNeedsProto,
-    /// Memory was refused.
+    /// Out of memory.
     #[error("no memory")]
     Memory,
 }
 
-/// The fault of a text of so many words that stops there.
+/// The fault for a text of `count` words whose reading stopped there.
 fn fault_of(stop: Stop, count: usize) -> TextFault
     ensures { result ≡ fault_at stop.kind (count - stop.left) }
 {
@@ -62,7 +62,7 @@ fn fault_for(mistake: Mistake) -> TextFault
     }
 }
 
-/// What a text of so many words answers, of which this was read and these are left.
+/// The result for a text of `count` words, from what was read of it and the words that are left.
 pub(crate) fn tell<T: Copy>(
     read: Result<Result<T, Mistake>, Stop>,
     rest: Words<'_>,

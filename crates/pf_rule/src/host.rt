@@ -1,5 +1,4 @@
-//! Hosts: which addresses the ends of a packet's way may have, as networks and as tables say, and how their words are read and
-//! written.
+//! Hosts: which addresses the ends of a packet's way may have, as networks and tables say, and how their words are read and written.
 
 mod ends;
 mod ends_text;

@@ -1,19 +1,27 @@
 //! Filter rules and packets (pf.conf(5), PACKET FILTERING and PARAMETERS): which rule matches which packet, how both are read from text
-//! and written, and the form of a rule in bytes with the checksum of rules in order.
+//! and written, a rule's form in bytes, and the checksum of a list of rules.
 //!
-//! A rule's type keeps that it is exactly what some text spells, so its canonical text is read back as that rule, and so is its form.
-//! Which addresses the table of a name takes is asked through `TableAnswers`: a rule knows names alone.
+//! A rule is exactly what some text spells; its type guarantees it. So its canonical text is read back as that rule, and so is its form.
+//! Whether a table of some name matches an address is asked through `TableAnswers`: a rule knows only names of tables.
 //!
-//! The crate knows no list of rules at a path, no table, no ticket, no state and no line; which ruleset an anchor rule leads to is
-//! `pf_anchor`'s to say.
+//! The crate knows no rulesets at paths, no tables, tickets, states or lines; which ruleset an anchor rule leads to is `pf_anchor`'s
+//! business.
+//!
+//! `value` (protocols, ports, interfaces, directions) uses no other module; `host` (the addresses and tables of a rule's two ends) uses
+//! `value`; rules and packets, at the root, use both and know no checksum; `sum` (forms and checksums) uses all three. `fault` says why a
+//! text was refused. `laws` may use all.
 //!
 //! Read `specs/Rules.antt` first (what a rule is, and when it matches), `specs/Packets.antt`, and `specs/RuleGrammar.antt` with
 //! `specs/PacketGrammar.antt` (their texts); then `specs/RuleText.antt` (the canonical text), `specs/Refusals.antt` (what reading a text
-//! may answer), `specs/Sum/Forms.antt` (the form's table of places, and the checksum) and `specs/Sum/Layouts.antt` (which bytes are a
+//! returns), `specs/Sum/Forms.antt` (the table of a form's places, and the checksum) and `specs/Sum/Layouts.antt` (which bytes are a
 //! rule's form). `specs/Bytes.antt` has what forms of rules share with a peer's messages.
 //!
-//! `value` (protocols, ports, interfaces, directions) uses no other module; `host` uses `value`; rules and packets, at the root, use both
-//! and know no checksum; `sum` uses all three. `laws` may name all.
+//! Proved: [`Rule::matches`] returns what the definition of a match says. [`Rule::parse`] and [`Packet::parse`] read a text that the
+//! grammar spells, and refuse any other with the one refusal due (`rules_and_packets_are_read_as_spelled`, `a_refusal_is_one`). What is
+//! written is read again (`what_is_written_is_read_again`), and different rules have different texts and forms
+//! (`different_rules_have_different_texts`, `sum::different_rules_have_different_forms`). A rule is read from its form
+//! (`sum::rule_is_read_from_its_form`); example rules have given texts, forms and checksums, to compare with what other programs compute
+//! (`sum::four_rules_have_these_forms`, `sum::three_rulesets_have_these_sums`). Nothing is only tested here.
 #![tactic(auto)]
 
 mod fault;

@@ -12,19 +12,19 @@ use pf_form::form::{Stop, Words, expect, takes, words};
 use std::alloc::Global;
 use std::marker::Model;
 
-/// What the filter sees of a packet, which is what rules test (pf.conf(5), Packet Filtering). Contracts see a [`Packet`] as these
-/// fields (`PlainPacket`), each as they see its type. That a packet is a value, and carries no flags, is own.
+/// What the filter sees of a packet, which is what rules test (pf.conf(5), PACKET FILTERING). Contracts see a [`Packet`] as these fields
+/// (`PlainPacket`), each as they see its type. That a packet is a value and carries no flags is this project's own.
 #[derive(Clone, Copy)]
 struct PacketParts {
     /// Which way it goes through the interface.
     direction: Direction,
-    /// The interface that it goes through, as the 1 to 15 bytes of its name.
+    /// The interface that it goes through, by its name of 1 to 15 bytes.
     interface: Interface,
-    /// Its protocol, as the number, 1 to 255.
+    /// Its protocol, as a number from 1 to 255.
     protocol: Protocol,
     /// The address that it comes from.
     source: Addr,
-    /// The port that it comes from, 0 to 65535; 0 where the protocol has no ports.
+    /// The port that it comes from, 0 to 65535; 0 if the protocol has no ports.
     source_port: u16,
     /// The address that it goes to, of the source's family.
     destination: Addr,
@@ -49,11 +49,11 @@ impl Model for Packet {
 }
 
 impl Packet {
-    /// Reads a packet from the front of the words that are left. It takes no memory.
+    /// Reads a packet from the front of the remaining words. Doesn't allocate.
     ///
-    /// A refusal stands at the first word at which no packet's text can go on. Its kind is the one that [`Packet::parse`] names, and
-    /// it says how many words were left, with the one at fault. Which words are left after a refusal isn't said. The mistake is that
-    /// the addresses differ in family.
+    /// A refusal is at the first word at which no packet's text can continue. Its kind is the one that [`Packet::parse`] names, and it
+    /// says how many words were left, including the one at fault. Which words remain after a refusal is unspecified. The only mistake is
+    /// that the addresses are of different families.
     #[tactic(auto, unfolding(crate::specs::PacketGrammar::packet))]
     pub fn read<'a>(words: &mut Words<'a>) -> Result<Result<Packet, Mistake>, Stop>
         ensures { Moves packet result words.old.now words.new.now }
@@ -80,12 +80,12 @@ impl Packet {
         })))
     }
 
-    /// Reads the text of a packet: its words between blanks.
+    /// Reads a packet from its text: words separated by blanks.
     ///
-    /// `at` is the number of the first word at which no packet's text can go on, from 0, or the number of words where one is missing.
-    /// [`TextFault::NameTooLong`] is for an interface of more than 15 bytes, [`TextFault::BadProto`] for a word that has to be a
-    /// protocol, [`TextFault::BadWord`] for any other. [`TextFault::MixedFamily`] comes after the last word, and
-    /// [`TextFault::Memory`] where memory for the list of words is refused.
+    /// `at` is the number of the first word at which no packet's text can continue, from 0, or the number of words if one is missing.
+    /// [`TextFault::NameTooLong`] is for an interface of more than 15 bytes, [`TextFault::BadProto`] for a word that must be a protocol,
+    /// [`TextFault::BadWord`] for any other. [`TextFault::MixedFamily`] is found after the last word. [`TextFault::Memory`] means that
+    /// there was no memory for the list of words.
     #[tactic(auto, using(crate::proofs::TextAnswers::is_answer_packet))]
     pub fn parse(alloc: Global, text: &str) -> Result<Packet, TextFault>
         ensures { IsAnswer PlainPacket packet (words_of text.now) result }
@@ -106,7 +106,7 @@ impl Packet {
     /// Which way the packet goes through its interface.
     pub fn direction(&self) -> Direction
         ensures direction { result ≡ self.now.direction }
-        // what each packet keeps
+        // what every packet maintains
         ensures kept { IsPacket self.now }
     {
         self.0.direction
@@ -155,7 +155,7 @@ impl Packet {
     }
 }
 
-/// The direction, which each packet has.
+/// The direction, which every packet has.
 #[tactic(auto, unfolding(crate::specs::PacketGrammar::way))]
 fn read_way<'a>(words: &mut Words<'a>) -> Result<Direction, Stop>
     ensures { Moves way result words.old.now words.new.now }

@@ -20,18 +20,18 @@ use std::marker::Model;
 /// What a rule that decides does with a packet.
 #[derive(Clone, Copy, Debug, PartialEq, Eq)]
 pub enum Action {
-    /// Lets it pass, and keeps state where the rule's state option says nothing else.
+    /// Lets it pass, and keeps state unless the rule's state option says otherwise.
     Pass { keeps_state: bool },
     /// Drops it.
     Block,
 }
 
-/// What a rule that matches gives.
+/// What a matching rule does.
 #[derive(Clone, Copy)]
 pub enum Effect {
-    /// It decides on the packet.
+    /// It decides about the packet.
     Decide(Action),
-    /// The rulesets that this names are evaluated in its place (`anchor`; pf.conf(5), Anchors). The rule itself decides nothing.
+    /// The rulesets that this names are evaluated in its place (`anchor`; pf.conf(5), ANCHORS). The rule itself decides nothing.
     Evaluate(Reference),
 }
 
@@ -42,38 +42,38 @@ pub(crate) enum RuleStart {
     Pass,
     /// `block`.
     Block,
-    /// `anchor`, and what it names.
+    /// `anchor` and what it names.
     Anchor(Reference),
 }
 
-/// What a rule says (pf.conf(5), Packet Filtering and its Parameters). Contracts see a [`Rule`] as these fields (`PlainRule`), each
-/// as they see its type. A test that is absent holds for every packet, and a rule matches where all its tests hold. The widest
-/// fields stand first, so that no place is lost between them.
+/// What a rule says (pf.conf(5), PACKET FILTERING and PARAMETERS). Contracts see a [`Rule`] as these fields (`PlainRule`), each as they
+/// see its type. A missing test holds for every packet, and a rule matches if all its tests hold. The widest fields come first, so that
+/// no padding is lost between them.
 #[derive(Clone, Copy)]
 pub(crate) struct RuleParts {
-    /// The addresses that a packet has to come from (`from`).
+    /// The addresses that a packet must come from (`from`).
     pub(crate) source: Host,
-    /// The addresses that a packet has to go to (`to`).
+    /// The addresses that a packet must go to (`to`).
     pub(crate) destination: Host,
-    /// What a match gives (`pass`, `block`, `anchor`).
+    /// What a match does (`pass`, `block`, `anchor`).
     pub(crate) effect: Effect,
-    /// The interface that a packet has to go through (`on`), as the 1 to 15 bytes of its name.
+    /// The interface that a packet must go through (`on`), by its name of 1 to 15 bytes.
     pub(crate) interface: Option<Interface>,
-    /// The ports that a packet has to come from (`port`). Only a rule of TCP or UDP tests ports.
+    /// The ports that a packet must come from (`port`). Only a rule with TCP or UDP tests ports.
     pub(crate) source_port: Option<PortTest>,
-    /// The ports that a packet has to go to, as `source_port`.
+    /// The ports that a packet must go to, as `source_port`.
     pub(crate) destination_port: Option<PortTest>,
-    /// The way a packet has to go (`in`, `out`).
+    /// The direction that a packet must have (`in`, `out`).
     pub(crate) direction: Option<Direction>,
-    /// Whether a match that the rule gives ends the evaluation (`quick`).
+    /// Whether a match of the rule ends the evaluation (`quick`).
     pub(crate) quick: bool,
-    /// The family that a packet's addresses have to be of (`inet`, `inet6`): the one written, or that of a host's network.
+    /// The family that a packet's addresses must have (`inet`, `inet6`): the one written, or that of a host's network.
     pub(crate) family: Option<Family>,
-    /// The protocol that a packet has to be of (`proto`), as its number, 1 to 255.
+    /// The protocol that a packet must have (`proto`), as its number, 1 to 255.
     pub(crate) protocol: Option<Protocol>,
 }
 
-/// A filter rule (pf.conf(5), Packet Filtering). A rule is exactly what some text spells.
+/// A filter rule (pf.conf(5), PACKET FILTERING). A rule is exactly what some text spells.
 #[derive(Clone, Copy)]
 pub struct Rule(RuleParts);
 
@@ -90,14 +90,14 @@ impl Model for Rule {
 }
 
 impl RuleStart {
-    /// Whether a rule that begins so passes; no other has a state option.
+    /// Whether a rule that begins so is a pass rule; no other has a state option.
     fn passes(&self) -> bool
         ensures { result ≡ passes self.now }
     {
         matches!(self, RuleStart::Pass)
     }
 
-    /// What a match with the rule gives, by whether it keeps state.
+    /// What a match with the rule does, given whether it keeps state.
     fn effect(&self, keeps_state: bool) -> Effect
         ensures { result ≡ effect_of self.now keeps_state }
     {
@@ -110,7 +110,7 @@ impl RuleStart {
 }
 
 impl Rule {
-    /// The rule of these parts.
+    /// The rule with these parts.
     pub(crate) fn of(parts: RuleParts) -> Rule
         requires { IsRule parts }
         ensures { result ≡ parts }
@@ -118,11 +118,11 @@ impl Rule {
         Rule(parts)
     }
 
-    /// Reads a rule from the front of the words that are left. It takes no memory.
+    /// Reads a rule from the front of the remaining words. Doesn't allocate.
     ///
-    /// A refusal stands at the first word at which no rule's text can go on. Its kind is the one that [`Rule::parse`] names, and it
-    /// says how many words were left, with the one at fault. Which words are left after a refusal isn't said. Of two mistakes that
-    /// the families differ is told first.
+    /// A refusal is at the first word at which no rule's text can continue. Its kind is the one that [`Rule::parse`] names, and it says
+    /// how many words were left, including the one at fault. Which words remain after a refusal is unspecified. If there are two
+    /// mistakes, different families come first.
     #[tactic(auto, unfolding(crate::specs::RuleGrammar::rule))]
     pub fn read<'a>(words: &mut Words<'a>) -> Result<Result<Rule, Mistake>, Stop>
         ensures { Moves rule result words.old.now words.new.now }
@@ -153,13 +153,13 @@ impl Rule {
         }
     }
 
-    /// Reads the text of a rule: its words between blanks.
+    /// Reads a rule from its text: words separated by blanks.
     ///
-    /// `at` is the number of the first word at which no rule's text can go on, from 0, or the number of words where one is missing.
+    /// `at` is the number of the first word at which no rule's text can continue, from 0, or the number of words if one is missing.
     /// [`TextFault::NameTooLong`] is for an interface of more than 15 bytes, a table of more than 31 and a reference past its limits,
-    /// [`TextFault::BadProto`] for a word that has to be a protocol, [`TextFault::BadWord`] for any other.
-    /// [`TextFault::MixedFamily`] and then [`TextFault::PortNeedsProto`] come after the last word, and [`TextFault::Memory`] where
-    /// memory for the list of words is refused.
+    /// [`TextFault::BadProto`] for a word that must be a protocol, [`TextFault::BadWord`] for any other. [`TextFault::MixedFamily`] and
+    /// then [`TextFault::PortNeedsProto`] are found after the last word. [`TextFault::Memory`] means that there was no memory for the
+    /// list of words.
     #[tactic(auto, using(crate::proofs::TextAnswers::is_answer_rule))]
     pub fn parse(alloc: Global, text: &str) -> Result<Rule, TextFault>
         ensures { IsAnswer PlainRule rule (words_of text.now) result }
@@ -177,8 +177,8 @@ impl Rule {
         tell(read, rest, words.len())
     }
 
-    /// Whether all of the rule's tests hold for the packet, by what these tables say. It takes no memory, unless an answer of the
-    /// tables does. A table is asked only where all that is no table holds.
+    /// Whether all of the rule's tests hold for the packet, by what these tables say. Doesn't allocate, unless the tables do. A table is
+    /// asked only if all other tests hold.
     pub fn matches<T: TableAnswers>(&self, tables: &T, packet: &Packet) -> bool
         ensures { result ≡ matches (T.says tables.now) self.now packet.now }
     {
@@ -190,45 +190,45 @@ impl Rule {
             && ends_hold(rule, tables, packet)
     }
 
-    /// What a match with the rule gives.
+    /// What a match with the rule does.
     pub fn effect(&self) -> Effect
         ensures effect { result ≡ self.now.effect }
-        // what each rule keeps
+        // what every rule maintains
         ensures kept { IsRule self.now }
     {
         self.0.effect
     }
 
-    /// Whether the rule is quick (`quick`): a match that decides ends the evaluation. An anchor rule decides nothing itself; a quick
-    /// one ends the evaluation where some rule within matched.
+    /// Whether the rule is quick (`quick`): a match that decides ends the evaluation. An anchor rule decides nothing itself; a quick one
+    /// ends the evaluation if some rule within matched.
     pub fn is_quick(&self) -> bool
         ensures { result ≡ self.now.quick }
     {
         self.0.quick
     }
 
-    /// The direction of the packets that the rule matches, where it tests it.
+    /// The direction of the packets that the rule matches, if it tests it.
     pub fn direction(&self) -> Option<Direction>
         ensures { result ≡ self.now.direction }
     {
         self.0.direction
     }
 
-    /// The interface of the packets that the rule matches, where it tests it.
+    /// The interface of the packets that the rule matches, if it tests it.
     pub fn interface(&self) -> Option<Interface>
         ensures { result ≡ self.now.interface }
     {
         self.0.interface
     }
 
-    /// The family of the packets that the rule matches, where it tests it: the one written or that of a host's network.
+    /// The family of the packets that the rule matches, if it tests it: the one written or that of a host's network.
     pub fn family(&self) -> Option<Family>
         ensures { result ≡ self.now.family }
     {
         self.0.family
     }
 
-    /// The protocol of the packets that the rule matches, where it tests it.
+    /// The protocol of the packets that the rule matches, if it tests it.
     pub fn protocol(&self) -> Option<Protocol>
         ensures { result ≡ self.now.protocol }
     {
@@ -242,7 +242,7 @@ impl Rule {
         self.0.source
     }
 
-    /// The test of the port that packets come from, where there is one.
+    /// The test of the port that packets come from, if there is one.
     pub fn source_port(&self) -> Option<PortTest>
         ensures { result ≡ self.now.source_port }
     {
@@ -256,7 +256,7 @@ impl Rule {
         self.0.destination
     }
 
-    /// The test of the port that packets go to, where there is one.
+    /// The test of the port that packets go to, if there is one.
     pub fn destination_port(&self) -> Option<PortTest>
         ensures { result ≡ self.now.destination_port }
     {
@@ -264,7 +264,7 @@ impl Rule {
     }
 }
 
-/// The family of both, where they don't differ. Either may be absent.
+/// The family of both, unless they differ. Either may be missing.
 fn agreed(first: Option<Family>, second: Option<Family>) -> Option<Option<Family>>
     ensures { result ≡ agreed first second }
 {
@@ -283,7 +283,7 @@ fn one_family(written: Option<Family>, source: Host, destination: Host) -> Optio
     agreed(family, destination.family())
 }
 
-/// The parts with their one family, where they make no mistake.
+/// The parts with their one family, unless they make a mistake.
 fn agreeing(parts: RuleParts) -> Result<RuleParts, Mistake>
     ensures { result ≡ agreeing parts }
 {
@@ -298,7 +298,7 @@ fn agreeing(parts: RuleParts) -> Result<RuleParts, Mistake>
     Ok(parts)
 }
 
-/// Whether a packet's addresses and ports are among those of the rule's two ends. Ports come first and tables last, which cost most.
+/// Whether a packet's addresses and ports are among those of the rule's two ends. Ports are tested first; tables, the most costly, last.
 #[tactic(auto, using(crate::specs::Matching::ends_in_turn))]
 fn ends_hold<T: TableAnswers>(rule: &RuleParts, tables: &T, packet: &Packet) -> bool
     ensures { result ≡ ends_hold (T.says tables.now) rule.now packet.now }

@@ -10,11 +10,11 @@ use pf_addr::{write_more, write_text};
 use std::io::{self, ErrorKind, Write};
 
 impl Rule {
-    /// Writes the rule's text: its words with one space between two, in the grammar's order, as `pass in quick on em0 inet
-    /// proto tcp from 10.0.0.0/8 to any keep state`. It takes no memory.
+    /// Writes the rule's text: its words separated by one space, in the grammar's order, as `pass in quick on em0 inet proto tcp from
+    /// 10.0.0.0/8 to any keep state`. Doesn't allocate.
     ///
-    /// The error is the writer's first, save that a write that a signal interrupts is tried again; some front of the text is
-    /// then written.
+    /// Returns the writer's first error, except that a write that a signal interrupts is tried again; then some first bytes of the text
+    /// have been written.
     pub fn write<W: Write>(&self, out: &mut W) -> io::Result<()>
         ensures text { Writes result (W.contents out.old) (W.contents out.new) (rule_text self.now) }
         ensures retried { IfErr result (λ e. error_kind e ≢ ErrorKind.Interrupted) }
@@ -43,7 +43,7 @@ fn effect_text(effect: Effect) -> &'static [u8]
     }
 }
 
-// The texts of the parts behind the first word, with a space before each word.
+// The texts of the parts after the first word, with a space before each word.
 
 fn quick_text(quick: bool) -> &'static [u8]
     ensures { result.now ≡ spaced (quick_words quick) }

@@ -1,4 +1,4 @@
-//! Reading the parts of a rule, each from the front of the words that are left.
+//! Reading the parts of a rule, each from the front of the remaining words.
 ghost use Rattle.pf_form.specs.Form.Readers.{Moves};
 ghost use Rattle.pf_rule.specs.RuleGrammar.{a_reference, opening, state};
 
@@ -29,7 +29,7 @@ pub(crate) fn read_opening<'a>(words: &mut Words<'a>) -> Result<RuleStart, Stop>
     Ok(RuleStart::Anchor(reference_word(words)?))
 }
 
-/// Whether a rule keeps state. Only a rule that passes has the option, and it keeps state where nothing is said.
+/// Whether a rule keeps state. Only a pass rule has the option, and it keeps state if nothing is said.
 #[tactic(auto, unfolding(crate::specs::RuleGrammar::state))]
 pub(crate) fn read_state<'a>(passes: bool, words: &mut Words<'a>) -> Result<bool, Stop>
     ensures { Moves (state passes) result words.old.now words.new.now }

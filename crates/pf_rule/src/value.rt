@@ -1,5 +1,5 @@
-//! The values that rules and packets are made of: protocols, ports and tests of ports, interfaces and directions. How the words of
-//! each are read and written, and what a test of one says.
+//! The values that rules and packets are made of: protocols, ports and their tests, interfaces and directions. How their words are read
+//! and written, and what a test of one says.
 
 mod direction;
 mod interface;

@@ -1,4 +1,4 @@
--- What a bank holds, and what another image of the device then does.
+-- What a bank holds, and what another image of the device then holds.
 use Rattle.std.proofs.{Common.{◌≡◌, ◌⊎◌, inl, inr, ℕ, suc, ◌+◌, ◌-◌, ◌^◌, ◌<◌, ◌≤◌, Bool, false, List, [], ◌∷◌, ◌++◌, length, get_or, take, drop, refl, sym, ◌∙◌, ap, subst, arith, append_assoc, take-append-drop}, lemmas.List.{take_at, take-take, drop_at, drop_more, drop-drop, drop-take, get_or-take, get_or-drop}, lemmas.Nat.{from_be_bytes-to_be_bytes_4, from_be_bytes-to_be_bytes_8}}
 use Rattle.std.specs.Int.{w32, w64, to_be_bytes, from_be_bytes}
 use Rattle.pf_disk.specs.Disk.{IsImage}
@@ -11,7 +11,7 @@ use Rattle.pf_snap.specs.Banks.{IsSize, bank_size, AreBanks, Content, begun, IsV
 
 -- ---- generations
 
--- a header tells its generation
+-- the generation can be read from a header
 pub generation_of : (image : List ℕ) (at version g n : ℕ) → g < 2 ^ 64 → take 24 (drop at image) ≡ header version g n → generation_at image at ≡ g
 generation_of image at version g n small written =
     let there = drop at image in
@@ -23,7 +23,7 @@ same_eight : (m : List ℕ) (a b c d e f g h : ℕ) → a ≡ get_or m 0 0 → b
     → from_be_bytes w64 (a ∷ b ∷ c ∷ d ∷ e ∷ f ∷ g ∷ h ∷ []) ≡ from_be_bytes w64 m
 same_eight m a b c d e f g h e0 e1 e2 e3 e4 e5 e6 e7 = rw (e0, e1, e2, e3, e4, e5, e6, e7) refl
 
--- it is read in eight bytes of it
+-- it is read from eight bytes of it
 pub generation_read : (image b : List ℕ) (at : ℕ) → b ≡ take 24 (drop at image)
     → from_be_bytes w64 (get_or b 8 0 ∷ get_or b 9 0 ∷ get_or b 10 0 ∷ get_or b 11 0 ∷ get_or b 12 0 ∷ get_or b 13 0 ∷ get_or b 14 0 ∷ get_or b 15 0 ∷ []) ≡ generation_at image at
 generation_read image b at is =
@@ -86,7 +86,7 @@ same_bank old c set at content image out has =
 
 -- ---- a bank that is begun
 
--- an open gate, and these bytes behind it
+-- an open gate, and these bytes after it
 pub new_bank : (c : List ℕ) (at version g : ℕ) (s : List ℕ) → IsVersion version → g < 2 ^ 64 → at < length c → 24 + length s + 1 ≤ bank_size (length c) → get_or c at 0 ≡ 165
     → take (24 + length s) (drop (at + 1) c) ≡ behind_gate version g s → HasBank c at (begun version g s)
 new_bank c at version g s known small inside fits gate there =
@@ -127,7 +127,7 @@ pub one_length : (image : List ℕ) (at v w g h m n : ℕ) → IsSize (length im
 one_length image at v w g h m n size a b =
     sym (length_in-header v g m (omega (arith, size.most, a.fits))) ∙ ap length_in (sym a.written ∙ b.written) ∙ length_in-header w h n (omega (arith, size.most, b.fits))
 
--- the header and the snapshot at a place tell one version, generation and snapshot
+-- the header and the snapshot at a place have one version, generation and snapshot
 pub one_front : (image : List ℕ) (at v w g h : ℕ) (s t : List ℕ) → IsSize (length image) → HasSnapshot image at v g s → HasSnapshot image at w h t → (v ≡ w) × (g ≡ h) × (s ≡ t)
 one_front image at v w g h s t size a b =
     let same : header v g (length s) ≡ header w h (length t) = sym a.header.written ∙ b.header.written in
@@ -154,7 +154,7 @@ both_count image at other p q same turn one two =
     let open_there : IsOpen image other = ap (λ (k : ℕ). get_or image k 0) turn ∙ two.is_open in
     absurd (omega (arith, one.newer open_there, two.newer open_here, ap (generation_at image) same, ap (generation_at image) turn))
 
--- one bank counts
+-- only one bank counts
 pub one_place : (image : List ℕ) (size at other p q : ℕ) → AreBanks size at other → AreBanks size p q → Counts image at other → Counts image p q → at ≡ p
 one_place image size at other p q (inl a) (inl b) one two = a.0 ∙ sym b.0
 one_place image size at other p q (inr a) (inr b) one two = a.0 ∙ sym b.0
@@ -166,7 +166,7 @@ one_content image a b one two =
     let at = one_place image (length image) one.at one.other two.at two.other one.holds.banks two.holds.banks one.holds.counts two.holds.counts in
     one_bank image two.at a b two.holds.size (subst (λ (p : ℕ). HasBank image p a) at one.holds.bank) two.holds.bank
 
--- ---- what a look refuses
+-- ---- why a look fails
 
 not_equal : (image : List ℕ) (at other : ℕ) → AreBanks (length image) at other → Counts image at other → AreEqual image → ⊥
 not_equal image at other (inl places) counts equal =

@@ -30,8 +30,8 @@ pub struct Banks<D: Disk> {
 }
 
 impl<D: Disk> Banks<D> {
-    /// Syncs a device, whatever a crash or a fault made of it, and looks at what it holds, in five moments of it at most. Where what is
-    /// found isn't broken the banks are ready; else they only hand the device back. `Err` hands it back too.
+    /// Syncs a device, whatever a crash or a fault left on it, and looks at what it holds, in at most five of its moments. If what is
+    /// found isn't broken, the banks are ready; otherwise they only serve to give the device back. `Err` gives it back too.
     pub fn open(alloc: Global, disk: D) -> Result<(Banks<D>, Looked), (LookFault, D)>
         requires few { D.fault_count disk < 2 ^ 63 }
         ensures found { IfOk result (λ r. IsFound (D.seen disk) r.1) }
@@ -63,7 +63,7 @@ impl<D: Disk> Banks<D> {
         }
     }
 
-    /// The bank that a switch to this snapshot begins, with all the memory that it takes.
+    /// Makes the bank that a switch to this snapshot begins, with all the memory that it needs.
     pub fn prepare(&self, alloc: Global, snapshot: &[u8]) -> Result<NextBank, AllocError>
         requires fits { BANK_HEADER + length snapshot.now + 1 < 2 ^ 32 }
         requires early { self.now.generation + 1 < 2 ^ 64 }
@@ -72,11 +72,11 @@ impl<D: Disk> Banks<D> {
         NextBank::of(alloc, NEWEST, self.generation + 1, snapshot)
     }
 
-    /// Begins the other bank, with a snapshot and no records, in the newest version and with the next generation, so that it counts. It
-    /// takes six moments of the device at most, and four where the other bank's gate is closed; it makes no read and takes no memory.
+    /// Begins the other bank with a snapshot and no records, in the newest version and with the next generation, so that it counts. It
+    /// takes at most six moments of the device, and four if the other bank's gate is closed. It reads nothing and takes no memory.
     ///
-    /// The snapshot has to fit: a bank has a byte left behind it. At its start nothing is unsynced: the banks are ready, which `Ok` leaves
-    /// them. After an `Err` they have to be opened again.
+    /// The snapshot has to fit: the bank has a byte left after it. The banks have to be ready, so nothing is unsynced; `Ok` leaves them
+    /// ready. After an `Err` they have to be opened again.
     pub fn begin(&mut self, next: &NextBank) -> Result<(), DiskFault>
         requires ready { IsReady D.seen D.unsynced self.old }
         requires long { length next.now.behind.items ≡ BANK_HEADER + next.now.length }
@@ -90,7 +90,7 @@ impl<D: Disk> Banks<D> {
             → EachMoment D.moment D.left_since self.old.journal.disk self.new.journal.disk
             (HoldsEither content (switched content NEWEST snapshot)) }
 
-        // At each moment of the call an image is as the read before, but in the other bank; after it so is the read.
+        // At each moment of the call an image differs from the read before only in the other bank; so does the read after it.
         ensures elsewhere { EachMoment D.moment D.left_since self.old.journal.disk self.new.journal.disk
             (IsImage (D.seen self.old.journal.disk) (is_within self.old.other (BANK_HEADER + next.now.length + 1))) }
         ensures seen_elsewhere { IsImage (D.seen self.old.journal.disk) (is_within self.old.other (BANK_HEADER + next.now.length + 1))
@@ -134,7 +134,7 @@ impl<D: Disk> Banks<D> {
         Ok(())
     }
 
-    /// Prepares a bank with this snapshot and begins it. After `Memory` all is as before; after a `Fault` the banks have to be opened again.
+    /// Prepares a bank with this snapshot and begins it. After `Memory` all is as before; after a `Fault` the banks must be opened again.
     pub fn switch(&mut self, alloc: Global, snapshot: &[u8]) -> Result<(), SwitchFault>
         requires ready { IsReady D.seen D.unsynced self.old }
         requires fits { BANK_HEADER + length snapshot.now + 1 ≤ bank_size (length (D.seen self.old.journal.disk)) }
@@ -146,7 +146,7 @@ impl<D: Disk> Banks<D> {
             → EachMoment D.moment D.left_since self.old.journal.disk self.new.journal.disk
             (HoldsEither content (switched content NEWEST snapshot.now)) }
 
-        // At each moment of the call the bank that counts at its start is as it was; after it so is the read.
+        // At each moment of the call an image differs from the read before only in the other bank; so does the read after it.
         ensures elsewhere { EachMoment D.moment D.left_since self.old.journal.disk self.new.journal.disk
             (IsImage (D.seen self.old.journal.disk) (is_within self.old.other (BANK_HEADER + length snapshot.now + 1))) }
         ensures seen_elsewhere { IsImage (D.seen self.old.journal.disk) (is_within self.old.other (BANK_HEADER + length snapshot.now + 1))
@@ -179,10 +179,10 @@ impl<D: Disk> Banks<D> {
         }
     }
 
-    /// Adds a record, in four moments of the device at most, as `Journal::append` does: header and snapshot stay as they are, and so does
-    /// the other bank.
+    /// Adds a record, in at most four moments of the device, as `Journal::append` does: the header, the snapshot and the other bank stay
+    /// as they are.
     ///
-    /// At its start the banks are ready, which `Ok`, `NoRoom` and `Memory` leave them. After a `Fault` they have to be opened again.
+    /// The banks have to be ready; `Ok`, `NoRoom` and `Memory` leave them ready. After a `Fault` they have to be opened again.
     pub fn append(&mut self, alloc: Global, payload: &[u8]) -> Result<(), AppendFault>
         requires ready { IsReady D.seen D.unsynced self.old }
         requires few { D.fault_count self.old.journal.disk < 2 ^ 63 }
@@ -192,7 +192,7 @@ impl<D: Disk> Banks<D> {
             → EachMoment D.moment D.left_since self.old.journal.disk self.new.journal.disk
             (HoldsEither content (with_payload content payload.now)) }
 
-        // At each moment of the call an image is as the read before, but from the gate to the next one; after it so is the read.
+        // At each moment of the call an image differs from the read before only from the gate to the next one; so does the read after it.
         ensures elsewhere { EachMoment D.moment D.left_since self.old.journal.disk self.new.journal.disk
             (IsImage (D.seen self.old.journal.disk) (is_within self.old.journal.gate (6 + length payload.now))) }
         ensures seen_elsewhere { IsImage (D.seen self.old.journal.disk) (is_within self.old.journal.gate (6 + length payload.now))
@@ -222,11 +222,11 @@ impl<D: Disk> Banks<D> {
         self.journal.append(alloc, payload)
     }
 
-    /// Adds a record whose memory was taken before, in four moments of the device at most, as `Journal::append_record` does: header and
-    /// snapshot stay as they are, and so does the other bank.
+    /// Adds a record that is already in memory, in at most four moments of the device, as `Journal::append_record` does: the header, the
+    /// snapshot and the other bank stay as they are.
     ///
-    /// The record and the closed gate behind it have room. At its start the banks are ready, which `Ok` leaves them. After an `Err` they
-    /// have to be opened again.
+    /// The record and the closed gate after it have to fit. The banks have to be ready; `Ok` leaves them ready. After an `Err` they have
+    /// to be opened again.
     pub fn append_record(&mut self, next: &Record) -> Result<(), DiskFault>
         requires ready { IsReady D.seen D.unsynced self.old }
         requires room { self.old.journal.gate + 1 + length next.now.behind.items ≤ self.old.journal.end }
@@ -238,7 +238,7 @@ impl<D: Disk> Banks<D> {
             → EachMoment D.moment D.left_since self.old.journal.disk self.new.journal.disk
             (HoldsEither content (with_payload content payload)) }
 
-        // At each moment of the call an image is as the read before, but from the gate to the next one; after it so is the read.
+        // At each moment of the call an image differs from the read before only from the gate to the next one; so does the read after it.
         ensures elsewhere { EachMoment D.moment D.left_since self.old.journal.disk self.new.journal.disk
             (IsImage (D.seen self.old.journal.disk) (is_within self.old.journal.gate (1 + length next.now.behind.items))) }
         ensures seen_elsewhere { IsImage (D.seen self.old.journal.disk) (is_within self.old.journal.gate (1 + length next.now.behind.items))
@@ -264,7 +264,7 @@ impl<D: Disk> Banks<D> {
         self.journal.append_record(next)
     }
 
-    // The banks that a look found on this device. They are of use where it holds something.
+    // The banks that a look found on this device. They are usable only if it holds something.
     fn found_on(disk: D, looked: &Looked) -> Banks<D>
         requires found { IsFound (D.seen disk) looked.now }
         ensures keeps { HoldsAt looked.now.at looked.now.other (D.seen disk) (content_of looked.now)
@@ -290,7 +290,7 @@ impl<D: Disk> Banks<D> {
         }
     }
 
-    /// How many bytes the counting bank has from the closed gate on. A record takes six and its payload's.
+    /// How many bytes the counting bank has from the closed gate on. A record needs six plus its payload's, its next gate included.
     pub fn room(&self) -> usize
         requires { self.now.journal.gate ≤ self.now.journal.end }
         ensures { self.now.journal.gate + result ≡ self.now.journal.end }
@@ -298,7 +298,7 @@ impl<D: Disk> Banks<D> {
         self.journal.end - self.journal.gate
     }
 
-    /// Bytes of each bank.
+    /// The size of each bank, in bytes.
     pub fn size(&self) -> usize
         requires { self.now.at ≤ self.now.journal.end }
         ensures { self.now.at + result ≡ self.now.journal.end }
@@ -313,7 +313,7 @@ impl<D: Disk> Banks<D> {
         self.version
     }
 
-    /// The device as it stands.
+    /// Gives the device back, as it is.
     pub fn into_disk(self) -> D
         ensures { result ≡ self.journal.disk }
     {

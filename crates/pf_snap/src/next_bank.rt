@@ -1,4 +1,4 @@
-//! A bank that is to be begun, in the memory that it is written from.
+//! A bank to begin, in the memory that it is written from.
 ghost use Rattle.std.specs.Prelude.{◌≡◌, ◌^◌, ◌<◌, ◌++◌, [], ◌∷◌, length, IfOk, OnOk};
 ghost use Rattle.pf_snap.specs.Banks.{front, behind_gate};
 
@@ -6,18 +6,18 @@ use crate::header::{BANK_HEADER, header_bytes};
 use pf_journal::CLOSED_GATE;
 use std::alloc::{AllocError, Global};
 
-/// A bank that is to be begun: what is written behind its gate, made before the device is called. It can be started again, in the same
+/// A bank to begin: the bytes that are written after its gate, made before the device is called. It can be started again in the same
 /// memory.
 #[derive(Drop)]
 pub struct NextBank {
     /// The rest of its header, its snapshot, and a closed gate.
     pub behind: Vec<u8>,
-    /// Bytes of its snapshot.
+    /// Its snapshot's length in bytes.
     pub length: usize,
 }
 
 impl NextBank {
-    /// One that has no memory yet.
+    /// An empty one, which has no memory yet.
     pub fn new(alloc: Global) -> NextBank {
         NextBank {
             behind: Vec::new(alloc),
@@ -25,7 +25,7 @@ impl NextBank {
         }
     }
 
-    /// The bank of this snapshot. `AllocError`: none is made.
+    /// The bank of this snapshot. `AllocError`: out of memory.
     pub fn of(
         alloc: Global,
         version: u8,
@@ -43,8 +43,8 @@ impl NextBank {
         Ok(next)
     }
 
-    /// Starts a bank with a snapshot of so many bytes, and takes all memory that it wants beyond what is here. The snapshot is then put
-    /// behind `behind`, and the gate by [`NextBank::close`]. `AllocError`: it has to be started anew, and what `behind` holds isn't said.
+    /// Starts a bank with a snapshot of `length` bytes, and takes all the memory that it still needs. The caller then appends the snapshot
+    /// to `behind`, and [`NextBank::close`] the gate. `AllocError`: it has to be started again; the contents of `behind` are unspecified.
     pub fn start(&mut self, version: u8, generation: u64, length: usize) -> Result<(), AllocError>
         requires { length < 2 ^ 32 }
         ensures front { OnOk result (self.new.behind.items ≡ front version generation length) }
@@ -52,14 +52,14 @@ impl NextBank {
     {
         let header = header_bytes(version, generation, length as u32);
         self.behind.clear();
-        // (the closed gate takes the byte of the open one, which isn't here)
+        // (the header without its open gate, the snapshot, and one byte for the closed gate)
         self.behind.reserve(length.saturating_add(header.len()))?;
         self.behind.extend_from_slice(&header[1..])?;
         self.length = length;
         Ok(())
     }
 
-    /// Puts a closed gate behind the snapshot. `AllocError`: it has to be started anew, and what `behind` holds isn't said.
+    /// Appends a closed gate. `AllocError`: it has to be started again; the contents of `behind` are unspecified.
     pub fn close(&mut self) -> Result<(), AllocError>
         ensures closed { OnOk result (self.new.behind.items ≡ self.old.behind.items ++ CLOSED_GATE ∷ []) }
         ensures same_length { self.new.length ≡ self.old.length }

@@ -1,9 +1,9 @@
--- A batch of steps, part of which was acted on.
+-- A batch of steps, part of which has been taken.
 use Rattle.std.proofs.{Common.{◌≡◌, ℕ, suc, ◌+◌, ◌<◌, ◌≤◌, ◌^◌, Bool, true, false, ◌||◌, cond, List, [], ◌∷◌, length, drop, get_or, refl, sym, ap, ◌∙◌, subst, arith}, Math.Seq.drop-cons, lemmas.List.drop_all}
 use Rattle.pf_state.specs.{declared.{counts.Counts.Counts, limits.TheConstants.STATE_LIMIT, step.Step.Step}, States.{PlainState, NamesFlows, IsStates}, Steps.{stepped, after, no_counts, both, IsCounted, counted, counts, is_over, passes_limit}, Laws.States.is_insert}
 use Rattle.pf_state.proofs.{Tables.{names_step, not_over, within_not_over}, Counting.{inserts, step_adds, step_counts}}
 
--- After so many steps these are the states, and what was counted; and what is still to come is as it is for the whole batch.
+-- After this many steps these are the states, and the counts; and what is still to come is as for the whole batch.
 pub record Acting (es : List PlainState) (steps : List Step) (index : ℕ) (now : List PlainState) (c : Counts) : Type 0 where
   pub names : NamesFlows now
   pub few : length now ≤ STATE_LIMIT

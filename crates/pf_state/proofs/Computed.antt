@@ -1,4 +1,4 @@
--- The bytes of the example message, computed, and what is read of them.
+-- The bytes of the example message, computed, and what is read from them.
 use Rattle.std.proofs.Common.{◌≡◌, lit≤, refl}
 use Rattle.pf_rule.specs.Bytes.{number_at}
 use Rattle.pf_state.specs.{Layouts.Flows.{direction_form, family_form, protocol_form, ports_form, flow_form}, Peer.Records.{insert_form, insert_of}, Peer.Groups.{content, group_at}, Peer.Messages.IsMessage, Peer.Written.message_bytes}

@@ -1,4 +1,4 @@
--- By how much states grow and shrink, and what is counted.
+-- How the number of states changes, and what is counted.
 use Rattle.std.proofs.{Common.{◌≡◌, ℕ, suc, ◌+◌, ◌-◌, Bool, true, false, not, cond, List, [], ◌∷◌, length, Option, Some, None, is_some, refl, ap, ◌∙◌, arith}, lemmas.Bool.Decides.nat_tests, lemmas.List.Sums.sum_by-cons}
 use Rattle.std.specs.{Prelude.{◌==◌, nat_lt}, FinMap.Entries.{length-put, length_without}, List.count_by}
 use Rattle.pf_map.specs.Maps.{with_value}
@@ -9,7 +9,7 @@ use Rattle.pf_state.proofs.{Names.same_itself, Leaves.reads_delete, Tables.{name
 counted_more : {X : Type 0} (p : X → Bool) (x : X) (xs : List X) → count_by p (x ∷ xs) ≡ cond (p x) 1 0 + count_by p xs
 counted_more p x xs = sum_by-cons (λ y. cond (p y) 1 0) x xs
 
--- a delete takes out as many as there are of the name
+-- a delete takes out as many as have the name
 pub shrinks_delete : (es : List PlainState) (n : StateName) → NamesFlows es → length (without_state es n) + named_count es n ≡ length es
 shrinks_delete es n is = let e = length_without name_order name_total n es is.sorted in omega (arith, e)
 
@@ -21,7 +21,7 @@ shrinks_clear (e ∷ es) creator = by (e.0.creator == creator) (shrinks_clear es
   by true rest more = omega (arith, rest, more)
   by false rest more = omega (arith, rest, more)
 
--- how many are less, so
+-- so this is how many fewer there are
 pub counts_deleted : (es : List PlainState) (n : StateName) → NamesFlows es → only_deleted (length es - length (without_state es n)) ≡ counted es (Delete n)
 unfolding counted
 counts_deleted es n is =
@@ -37,7 +37,7 @@ pub shrinks : ((es : List PlainState) (n : StateName) → NamesFlows es → leng
     × ((es : List PlainState) (creator : ℕ) → length (without_creator es creator) + creator_count es creator ≡ length es)
 shrinks = (shrinks_delete, shrinks_clear)
 
--- a state that is put is one more where its name is new
+-- putting a state adds one if its name is new
 pub grows_put : (es : List PlainState) (s : PlainState) → NamesFlows es → length (with_value name_order es s.0 (Some s.1)) + named_count es s.0 ≡ length es + 1
 grows_put es s is =
     let none : held_at s.0 (without_state es s.0) ≡ None = reads_delete es s.0 s.0 ∙ ap (λ b. cond b None (held_at s.0 es)) (same_itself s.0) in
@@ -56,7 +56,7 @@ insert_adds es s is = by (is_stale es s) (is_clash es s) (is_some (held_at s.0 e
   by false false true grown = omega (arith, grown)
   by false false false grown = omega (arith, grown)
 
--- the states grow and shrink by what a step counts
+-- the number of states changes by what a step counts
 pub step_adds : (es : List PlainState) (x : Step) → NamesFlows es → length (stepped es x) + (counted es x).deleted ≡ length es + (counted es x).inserted
 unfolding stepped counted
 step_adds es (Insert s) is = insert_adds es s is
@@ -99,7 +99,7 @@ states_deleted es n is = record { names = names_delete es n is.names; few = let 
 pub states_cleared : (es : List PlainState) (creator : ℕ) → IsStates es → IsStates (without_creator es creator)
 states_cleared es creator is = record { names = names_clear es creator is.names; few = let e = shrinks_clear es creator in let few = is.few in omega (arith, e, few) }
 
--- fewer states stand for one that was there
+-- fewer states mean that one was there
 pub found_by_length : (es : List PlainState) (n : StateName) → NamesFlows es → nat_lt (length (without_state es n)) (length es) ≡ is_some (held_at n es)
 found_by_length es n is = by (is_some (held_at n es)) (shrinks_delete es n is) where
   by : (t : Bool) → length (without_state es n) + cond t 1 0 ≡ length es → nat_lt (length (without_state es n)) (length es) ≡ t

@@ -1,10 +1,10 @@
--- An export is cut into parts that are full but for the last.
+-- An export is cut into parts that are all full but the last.
 use Rattle.std.proofs.{Common.{◌≡◌, ◌<◌, ◌≤◌, ℕ, zero, suc, List, [], ◌∷◌, ◌++◌, length, map, take, drop, refl, sym, subst, ap, ◌∙◌, arith}, lemmas.List.{length-take, length-drop, length-map, take-append-drop}}
 use Rattle.std.specs.{Simd.first_chunks, Slice.Iter.chunk_count}
 use Rattle.pf_state.specs.{Peer.Written.Each, States.PlainState, Failover.Outgoing.{exported_insert, exported_message, parts}, Laws.Failover.{AreFullButLast, AreParts, CutsIntoParts, IsExported, ExportsMessages}}
 use Rattle.pf_state.proofs.ExportParts.{next_part, told_long}
 
--- what holds of no states, and of states where it holds of those behind their first part, holds of all states with their parts
+-- what holds for no states, and for states if it holds for those after their first part, holds for all states with their parts
 pub by_parts : (P : List PlainState → List (List PlainState) → Type 0) → P [] []
     → ((es : List PlainState) → 0 < length es → P (drop 31 es) (parts (drop 31 es)) → P es (take 31 es ∷ parts (drop 31 es)))
     → (es : List PlainState) → P es (parts es)
@@ -20,7 +20,7 @@ length_chunks : (k : ℕ) (es : List PlainState) → length (first_chunks 31 k e
 length_chunks zero es = refl
 length_chunks (suc k) es = ap (λ (j : ℕ). suc j) (length_chunks k (drop 31 es))
 
--- where a part follows, this one is full
+-- if a part follows, this one is full
 full_before : (es : List PlainState) → 0 < length (parts (drop 31 es)) → length (take 31 es) ≡ 31
 full_before es more = omega (arith, more, length_chunks (chunk_count (length (drop 31 es)) 31) (drop 31 es), length-drop 31 es, length-take 31 es)
 

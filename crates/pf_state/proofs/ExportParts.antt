@@ -73,7 +73,7 @@ all_parts current rest before all none so =
 abbrev pub IsRead : List ℕ → List PlainState → Type 0
 IsRead current part = IsMessage (message_bytes (exported_message current part)) (exported_message current part)
 
--- where those of what follows a part are, and the part's is, all are
+-- if those of what follows a part are, and the part's is, all are
 pub one_read_more : (current : List ℕ) (rest part behind : List PlainState) (bytes : List ℕ) (All : Type 0)
     → rest ≡ part ++ behind → length part ≡ min 31 (length rest) → 0 < length rest → bytes ≡ message_bytes (exported_message current part)
     → IsMessage bytes (exported_message current part) → (Each (IsRead current) (parts rest) → All) → Each (IsRead current) (parts behind) → All
@@ -110,7 +110,7 @@ dropped_one told rest s behind left more split so =
     let one : 31 - told ≡ suc (31 - (told + 1)) = omega arith in
     ap (λ (n : ℕ). drop n (s ∷ behind)) (sym one) ∙ ap (λ (l : List PlainState). drop (31 - told) l) (sym split) ∙ so
 
--- where none is left
+-- if none is left
 pub all_taken : (n : ℕ) (part rest all : List PlainState) → rest ≡ [] → part ++ take n rest ≡ all → part ≡ all
 all_taken n part rest all none so = by n (ap (λ (l : List PlainState). part ++ take n l) (sym none) ∙ so) where
   by : (n : ℕ) → part ++ take n [] ≡ all → part ≡ all

@@ -8,7 +8,7 @@ never : (b : Bool) → (b && false) ≡ false
 never true = refl
 never false = refl
 
--- no main rule has the number that stands for none
+-- no main rule has the number that means none
 one_of : (number count : ℕ) → count ≤ ALL_ONES → (not (number == ALL_ONES) && true && nat_lt number count) ≡ nat_lt number count
 one_of number count few = by (nat_lt number count) refl where
   by : (t : Bool) → nat_lt number count ≡ t → (not (number == ALL_ONES) && true && t) ≡ t

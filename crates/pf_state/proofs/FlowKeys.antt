@@ -1,4 +1,4 @@
--- Two flows are one exactly where their keys tie.
+-- Two flows are one exactly if their keys tie.
 use Rattle.std.proofs.{Common.{◌≡◌, ◌⊎◌, inl, inr, Bool, true, false, T, not, refl, sym, ap, ◌∙◌, subst}, lemmas.Cmp.tied_itself}
 use Rattle.std.specs.{declared.{cmp.Ordering.Ordering, cmp.Ordering.TheVariants.Less, cmp.Ordering.TheVariants.Equal, cmp.Ordering.TheVariants.Greater}, Ordering.{eq_by_cmp, is_eq}}
 use Rattle.pf_rule.specs.{declared.{value.direction.Direction.Direction, value.direction.Direction.TheVariants.In, value.direction.Direction.TheVariants.Out}}
@@ -10,7 +10,7 @@ ties Less e = absurd (subst (λ b. T (not b)) e tt)
 ties Equal e = refl
 ties Greater e = absurd (subst (λ b. T (not b)) e tt)
 
--- both ways of a flow have one key
+-- both directions of a flow have one key
 key_turned : (d : Direction) (k : FlowEnds) → key_of (turned (flow_by d k)) ≡ k
 key_turned In k = refl
 key_turned Out k = refl

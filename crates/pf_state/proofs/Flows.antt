@@ -40,7 +40,7 @@ addr_itself : (a : Addr) → same_addr a a ≡ true
 addr_itself (V4 a) = eq-eqb a a refl
 addr_itself (V6 a) = eq-eqb a a refl
 
--- all fields are equal exactly where the flows are
+-- all fields are equal exactly if the flows are
 pub equal_of : (f g : PlainFlow) → is_equal f g ≡ true → f ≡ g
 equal_of f g e =
     let e5 = left_true _ _ e in

@@ -2,19 +2,19 @@
 use Rattle.std.proofs.{Common.{◌≡◌, ◌≢◌, ◌==◌, true, false, true≢false, ◌+◌, ◌-◌, ◌<◌, ℕ, suc, List, [], ◌∷◌, ◌++◌, length, take, drop, Option, Some, None, Result, Ok, Err, refl, sym, ap, ◌∙◌, subst, append_assoc, arith}, lemmas.Bool.Decides.nat_tests, lemmas.List.append-nil}
 use Rattle.pf_state.specs.{declared.{peer.fault.PeerFault.PeerFault, peer.fault.PeerFault.TheVariants.BadRecord, peer.message.Group.Group, peer.record.TheConstants.RECORD, peer.fault.ReadError.ReadError, peer.fault.ReadError.TheVariants.Memory, peer.fault.ReadError.TheVariants.Fault}, Peer.Outcomes.{Fails, IfFault}, Peer.Groups.{records_of, ◌>>=◌, group_at, AreGroups, BreakBehind}}
 
--- a bind behind a bind
+-- a bind after a bind
 pub in_turn : {A : Type 0} (xs : List A) (x : A) (r : Result (List A) PeerFault) → ((r >>= λ ys. Ok (x ∷ ys)) >>= λ zs. Ok (xs ++ zs)) ≡ (r >>= λ ys. Ok ((xs ++ x ∷ []) ++ ys))
 in_turn xs x (Ok ys) = ap (λ l. Ok l) (sym (append_assoc xs (x ∷ []) ys))
 in_turn xs x (Err e) = refl
 
--- the next record is none
+-- the next record is invalid
 pub bad_here : {A : Type 0} (reading : List ℕ → Option A) (n k : ℕ) (rest : List ℕ) (xs : List A) (r : Result (List A) PeerFault) → k < n → reading (take RECORD rest) ≡ None
     → (records_of reading (n - k) rest >>= λ ys. Ok (xs ++ ys)) ≡ r → r ≡ Err BadRecord
 bad_here reading n k rest xs r lt none so =
     let step : n - k ≡ suc (n - suc k) = omega (arith, lt) in
     sym so ∙ rw (step, none) refl
 
--- the next record is one
+-- the next record is valid
 pub one_more_record : {A : Type 0} (reading : List ℕ → Option A) (n k : ℕ) (rest behind : List ℕ) (xs more : List A) (x : A) (r : Result (List A) PeerFault) → k < n
     → reading (take RECORD rest) ≡ Some x → more ≡ xs ++ x ∷ [] → behind ≡ drop RECORD rest → (records_of reading (n - k) rest >>= λ ys. Ok (xs ++ ys)) ≡ r
     → (records_of reading (n - (k + 1)) behind >>= λ ys. Ok (more ++ ys)) ≡ r

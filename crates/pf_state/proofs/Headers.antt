@@ -1,4 +1,4 @@
--- What the first bytes of a message say.
+-- What the first bytes of a message mean.
 use Rattle.std.proofs.{Common.{◌≡◌, ℕ, List, [], ◌∷◌, ◌++◌, take, drop, Option, Some, None, Result, Ok, Err, inr, refl, sym, subst, append_assoc}, lemmas.List.{append-nil, take-append-drop}}
 use Rattle.pf_state.specs.{declared.{peer.message.Message.Message, peer.fault.PeerFault.PeerFault}, Peer.Streams.{Ending, Unfinished, Faulty, Reads, Ends, IsUnfinished, IsFaulty}, Peer.Outcomes.ending, Peer.Messages.{IsMessage, IsJudged}}
 
@@ -7,7 +7,7 @@ pub one_more_message : (bytes rest front behind : List ℕ) (ms : List Message) 
     → (ns : List Message) (e : Ending) → Reads behind ns e → Reads bytes ((ms ++ m ∷ []) ++ ns) e
 one_more_message bytes rest front behind ms m so split is ns e read = subst (λ (l : List Message). Reads bytes l e) (sym (append_assoc ms (m ∷ []) ns)) (so (m ∷ ns) e (front, behind, split, is, read))
 
--- nothing more is read: what is left ends so
+-- nothing more is read: what is left ends like this
 pub end_here : (bytes rest : List ℕ) (ms : List Message) (e : Ending) → ((ns : List Message) (d : Ending) → Reads rest ns d → Reads bytes (ms ++ ns) d) → Ends rest e → Reads bytes ms e
 end_here bytes rest ms e so is = subst (λ (l : List Message). Reads bytes l e) (append-nil ms) (so [] e is)
 
@@ -19,7 +19,7 @@ pub faulty_here : (bytes rest left : List ℕ) (ms ns : List Message) (fault : O
     → ((ks : List Message) (d : Ending) → Reads rest ks d → Reads bytes (ms ++ ks) d) → ns ≡ ms → fault ≡ Some f → IsFaulty rest f → Reads bytes ns (ending fault left)
 faulty_here bytes rest left ms ns fault f so same some is = rw (same, some) (end_here bytes rest ms (Faulty f) so is)
 
--- what stands before a place and what stands from it on
+-- what comes before a place and what comes from it on
 pub cut_at : (rest front behind : List ℕ) (size : ℕ) → front ≡ take size rest → behind ≡ drop size rest → rest ≡ front ++ behind
 cut_at rest front behind size p q = rw (p, q) (sym (take-append-drop size rest))
 

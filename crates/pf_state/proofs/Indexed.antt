@@ -1,4 +1,4 @@
--- What an index of states answers is what the list of them has.
+-- What an index of states returns is what the list of them has.
 use Rattle.std.proofs.{Common.{◌≡◌, ℕ, ◌⊎◌, inl, inr, Bool, true, false, not, ◌&&◌, cond, T, List, [], ◌∷◌, Option, Some, None, option_map, refl, sym, ap, ◌∙◌, subst}, lemmas.Cmp.eq_by_cmp_equiv}
 use Rattle.std.specs.{Prelude.◌==◌, FinMap.{is_sorted}, FinMap.Entries.{is_sorted-where_key, same_entries}, List.find as first_where, Option.option_map_or, Ordering.eq_by_cmp}
 use Rattle.pf_map.specs.Indexes.{of_flow, is_clash as clashes_in}
@@ -37,7 +37,7 @@ record Clashing (es : List PlainState) (s : PlainState) : Type 0 where
   pub other : eq_by_cmp name_order with.0 s.0 ≡ false
   pub flow : same_flow with.1.flow s.1.flow ≡ true
 
--- what is held stays so with a state before it
+-- what is held stays so with one more state in front
 held_behind : (e : PlainState) (es : List PlainState) (n : StateName) (h : Held) → T (is_sorted name_order (e ∷ es)) → held_at n es ≡ Some h → held_at n (e ∷ es) ≡ Some h
 held_behind e es n h is held = by (eq_by_cmp name_order n e.0) refl where
   by : (t : Bool) → eq_by_cmp name_order n e.0 ≡ t → cond t (Some e.1) (held_at n es) ≡ Some h
@@ -79,7 +79,7 @@ is_free es s is effect = clash_is es s is ∙ no_clash es s effect
 
 -- ---- a creator's states are taken out one after the other
 
--- of a creator's states those are left that are still to come, and all others
+-- of a creator's states those still to come are left, and all others
 pub record Clearing (es : List PlainState) (creator : ℕ) (rest left : List PlainState) : Type 0 where
   pub rest_sorted : T (is_sorted name_order rest)
   pub left_sorted : T (is_sorted name_order left)

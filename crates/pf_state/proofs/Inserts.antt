@@ -67,7 +67,7 @@ written id creator generation Out p (V6 s) (V6 d) m n rule anchor is = rw (mod-e
 written id creator generation direction p (V4 s) (V6 d) m n rule anchor is = let e : family.V4 ≡ family.V6 = is.families in cc
 written id creator generation direction p (V6 s) (V4 d) m n rule anchor is = let e : family.V6 ≡ family.V4 = is.families in cc
 
--- what an insert is written as are the bytes of its form
+-- the bytes of an insert have its form
 insert_written : (i : PlainInsert) → IsInsert i → writes insert_form (plain_insert i) ≡ insert_bytes i
 insert_written i is = written i.id i.creator i.generation i.direction i.protocol i.source i.destination i.source_port i.destination_port i.rule i.anchor is
 

@@ -1,4 +1,4 @@
--- What is read of states after a step.
+-- What states hold after a step.
 use Rattle.std.proofs.Common.{◌≡◌, ℕ, Bool, true, false, not, ◌&&◌, cond, List, [], ◌∷◌, Option, Some, None, refl, sym, ap, ◌∙◌}
 use Rattle.std.specs.{Prelude.◌==◌, FinMap.Entries.find-where_key, Ordering.eq_by_cmp}
 use Rattle.pf_map.specs.Maps.{with_value}

@@ -1,4 +1,4 @@
--- Only a name ties with itself.
+-- Only equal names tie.
 use Rattle.std.proofs.{Common.{◌≡◌, true, not, T, refl, ap, subst}, lemmas.Cmp.tied_itself}
 use Rattle.std.specs.{Ordering.{is_eq, eq_by_cmp}, declared.{cmp.Ordering.Ordering, cmp.Ordering.TheVariants.Less, cmp.Ordering.TheVariants.Equal, cmp.Ordering.TheVariants.Greater}}
 use Rattle.pf_state.specs.declared.state.StateName.{StateName}
@@ -9,7 +9,7 @@ ties Less e = absurd (subst (λ b. T (not b)) e tt)
 ties Equal e = refl
 ties Greater e = absurd (subst (λ b. T (not b)) e tt)
 
--- the test of names tells whether they are one
+-- the test of names says whether they are one
 pub one_name : (a b : StateName) → eq_by_cmp name_order a b ≡ true → a ≡ b
 one_name a b e = name_alike a b (ties (name_order a b) e)
 

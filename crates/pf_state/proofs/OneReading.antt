@@ -41,7 +41,7 @@ good_or_bad bytes (g ∷ gs) (h ∷ hs) f p q =
 
 -- ---- one message at the front
 
--- its length stands in its front, whatever follows
+-- its length is in its front, whatever follows
 length_in : (front behind : List ℕ) → IsWhole front → number_at 2 2 (front ++ behind) ≡ length front
 unfolding number_at
 length_in [] behind is = absurd (omega (arith, is.enough))
@@ -50,7 +50,7 @@ length_in (v ∷ z ∷ []) behind is = absurd (omega (arith, is.enough))
 length_in (v ∷ z ∷ a ∷ []) behind is = absurd (omega (arith, is.enough))
 length_in (v ∷ z ∷ a ∷ b ∷ front) behind is = is.measured
 
--- two whole messages at the front of a stream are one
+-- two whole messages at the front of a stream are the same
 front_one : (a x b y : List ℕ) → a ++ x ≡ b ++ y → IsWhole a → IsWhole b → (a ≡ b) × (x ≡ y)
 front_one a x b y is p q =
     let len : length a ≡ length b = sym (length_in a x p) ∙ ap (number_at 2 2) is ∙ length_in b y q in
@@ -79,7 +79,7 @@ not_bad_header (v ∷ z ∷ a ∷ b ∷ front) behind f is (inl (same, inl diffe
 not_bad_header (v ∷ z ∷ a ∷ b ∷ front) behind f is (inl (same, inr differs)) = differs.1 is.zero
 not_bad_header (v ∷ z ∷ a ∷ b ∷ front) behind f is (inr short) = omega (arith, short.1.2, is.measured, is.enough)
 
--- a header isn't bad and unfinished
+-- a header isn't both bad and unfinished
 header_apart : (bytes : List ℕ) (f : PeerFault) → IsUnfinished bytes → IsBadHeader bytes f → ⊥
 header_apart [] f un (inl h) = elim h.1 [ ]
 header_apart [] f un (inr h) = elim h.1 [ ]
@@ -95,7 +95,7 @@ header_apart (v ∷ z ∷ a ∷ b ∷ bytes) f un (inl (same, inl differs)) = di
 header_apart (v ∷ z ∷ a ∷ b ∷ bytes) f un (inl (same, inr differs)) = differs.1 un.1
 header_apart (v ∷ z ∷ a ∷ b ∷ bytes) f un (inr h) = omega (arith, h.1.2, un.2)
 
--- a version that is wrong isn't right
+-- a bad version and a short length exclude each other
 version_or_length : (bytes : List ℕ) → HasBadVersion bytes → HasShortLength bytes → ⊥
 version_or_length [] p q = elim q [ ]
 version_or_length (v ∷ []) p q = elim q [ ]
@@ -129,7 +129,7 @@ ends_one bytes (Unfinished r) (Faulty f) p q = absurd (not_faulty bytes f p.1 q)
 ends_one bytes (Faulty e) (Unfinished s) p q = absurd (not_faulty bytes e q.1 p)
 ends_one bytes (Faulty e) (Faulty f) p q = ap (λ (x : PeerFault). Faulty x) (faulty_one bytes e f p q)
 
--- where a message is, a stream doesn't end
+-- at a message a stream doesn't end
 not_ended : (bytes front behind : List ℕ) (m : Message) (e : Ending) → bytes ≡ front ++ behind → IsMessage front m → Ends bytes e → ⊥
 not_ended bytes front behind m (Unfinished r) split is p = not_unfinished front behind is.whole (subst IsUnfinished split p.1)
 not_ended bytes front behind m (Faulty f) split is (inl p) = not_bad_header front behind f is.whole (subst (λ (l : List ℕ). IsBadHeader l f) split p)

@@ -1,4 +1,4 @@
--- Parts that are put behind bytes in one piece.
+-- Parts that are appended to bytes in one piece.
 use Rattle.std.proofs.{Common.{◌≡◌, ℕ, ◌<◌, List, [], ◌∷◌, ◌++◌, refl, sym, ap, ◌∙◌, append_assoc, arith}}
 use Rattle.pf_form.specs.Bytes.BasicForms.{number_bytes}
 

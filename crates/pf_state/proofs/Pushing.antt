@@ -1,16 +1,16 @@
--- Items that are put behind bytes one by one.
+-- Items that are appended to bytes one by one.
 use Rattle.std.proofs.{Common.{◌≡◌, ℕ, true, List, ◌∷◌, length, map, refl, arith}, lemmas.List.length-map, lemmas.Bool.Decides.nat_tests}
 use Rattle.std.specs.{Prelude.nat_le, List.AllByRecursion}
 use Rattle.pf_form.specs.Bytes.{BasicForms.onto_each, Forms.{Shape, Value, Form, Fits, onto}}
 use Rattle.pf_state.specs.{declared.limits.TheConstants.STATE_LIMIT, States.{PlainState, IsStates}, Layouts.States.{state_form, states_form, plain_state, state_in, plain_states, no_flow_twice}}
 use Rattle.pf_state.proofs.{LayoutsBack.states_back, Rows.{in_turn, once_each}}
 
--- Of all the items these are left: once they stand behind the bytes all do, and all fit where these do.
+-- Of all the items these are left: once they are appended all are, and all fit if these do.
 pub record Pushing {X : Type 0} {a : Shape} (f : Form a) (plain : X → Value a) (rest all : List X) (begun out : List ℕ) : Type 0 where
   pub written : onto_each (onto f) (map plain rest) out ≡ onto_each (onto f) (map plain all) begun
   pub fits : AllByRecursion (Fits f) (map plain rest) → AllByRecursion (Fits f) (map plain all)
 
--- one of them is put there
+-- one of them is appended
 pub pushed_one : {X : Type 0} {a : Shape} (f : Form a) (plain : X → Value a) (x : X) (rest all : List X) (begun out new : List ℕ)
     → new ≡ onto f (plain x) out → Fits f (plain x) → Pushing f plain (x ∷ rest) all begun out → Pushing f plain rest all begun new
 pushed_one f plain x rest all begun out new e fits so_far = record {
@@ -18,7 +18,7 @@ pushed_one f plain x rest all begun out new e fits so_far = record {
   fits = λ rest_fit. so_far.fits (fits, rest_fit);
 }
 
--- a table's states fit their form where each fits its own
+-- a table's states fit their form if each fits its own
 pub states_fit : (version : ℕ) (es : List PlainState) → IsStates es → AllByRecursion (Fits (state_form version)) (plain_states es) → Fits (states_form version) (plain_states es)
 states_fit version es is each =
     let few = is.few in

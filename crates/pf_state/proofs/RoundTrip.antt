@@ -8,7 +8,7 @@ use Rattle.pf_state.proofs.{Appended.{few_inserts, few_deletes, few_clears}, Ins
 
 -- ---- records
 
--- what a record is written as is read as that record, and is as long as a record is
+-- a written record is read back as that record, and is as long as a record is
 record Again {A : Type 0} (reading : List ℕ → Option A) (writing : A → List ℕ) (x : A) : Type 0 where
   read : reading (writing x) ≡ Some x
   long : length (writing x) ≡ RECORD
@@ -35,7 +35,7 @@ records_again reading writing P again (x ∷ xs) rest each =
     let split = append_assoc (writing x) (flat_map writing xs) rest in
     rw (split, take_at (writing x) (flat_map writing xs ++ rest) RECORD one.long, drop_at (writing x) (flat_map writing xs ++ rest) RECORD one.long, one.read, records_again reading writing P again xs rest each.1) refl
 
--- they take so many bytes
+-- they take this many bytes
 records_long : {A : Type 0} (reading : List ℕ → Option A) (writing : A → List ℕ) (P : A → Type 0) → ((x : A) → P x → Again reading writing x) → (xs : List A) → Each P xs
     → length (flat_map writing xs) ≡ RECORD * length xs
 records_long reading writing P again [] each = refl

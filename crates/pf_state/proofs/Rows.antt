@@ -70,7 +70,7 @@ either_of : (a b : Bool) → (a || b) ≡ true → (a ≡ true) ⊎ (b ≡ true)
 either_of true b e = inl refl
 either_of false b e = inr e
 
--- a state whose flow is there before it
+-- a state whose flow occurs before it
 twice : (ps : List PlainState) (s : PlainState) (fs : List PlainState) → is_clash ps s ≡ true → no_flow_twice (ps ++ s ∷ fs) ≡ false
 twice [] s fs clash = absurd (true≢false (sym clash))
 twice (p ∷ ps) s fs clash = by (either_of (not (is_eq (name_order p.0 s.0)) && same_flow p.1.flow s.1.flow) (is_clash ps s) clash) (λ later. twice ps s fs later) where
@@ -83,7 +83,7 @@ low_at : (e s : PlainState) (ps fs : List PlainState) → T (below_all name_orde
 low_at e s [] fs low = first_of _ _ low
 low_at e s (p ∷ ps) fs low = low_at e s ps fs (second_of (is_lt (name_order e.0 p.0)) _ low)
 
--- one that clashes with none, behind them in order
+-- one that clashes with none comes after them in order
 before_it : (ps : List PlainState) (s : PlainState) (fs : List PlainState) → T (is_sorted name_order (ps ++ s ∷ fs)) → is_clash ps s ≡ false → Each (Before s) ps
 before_it [] s fs sorted none = tt
 before_it (p ∷ ps) s fs sorted none =
@@ -105,7 +105,7 @@ plain_rows : (rows : List StoredState) → plain_states (map of_row rows) ≡ ma
 plain_rows [] = refl
 plain_rows (r ∷ rows) = ap (λ l. plain_row r ∷ l) (plain_rows rows)
 
--- these states were made of the rows before the ones that are left
+-- these states were made of the rows before those that are left
 record Made (rows rest : List StoredState) (es : List PlainState) : Type 0 where
   pub split : es ++ map of_row rest ≡ map of_row rows
   pub names : NamesFlows es

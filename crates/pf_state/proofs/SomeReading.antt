@@ -10,7 +10,7 @@ use Rattle.pf_rule.specs.Bytes.{number_at, byte_at}
 abbrev Grouped : List ℕ → Type 0
 Grouped bytes = ((gs : List Group) × AreGroups bytes gs) ⊎ ((f : PeerFault) × (before : List Group) × BreakBehind before bytes f)
 
--- what stands at the front, by its tests
+-- what is at the front, by its tests
 abbrev by_tests : Bool → Bool → Bool → Result Group PeerFault → List ℕ → Result (Group × List ℕ) PeerFault
 by_tests few acts past read behind = if few then Err BadLength
     else (if acts then (if past then Err BadLength else (read >>= λ g. Ok (g, behind))) else Err BadAction)
@@ -39,7 +39,7 @@ one_more : (bytes behind : List ℕ) (g : Group) → bytes ≢ [] → group_at b
 one_more bytes behind g some is (inl (gs, are)) = inl (g ∷ gs, (some, behind, is, are))
 one_more bytes behind g some is (inr (f, before, breaks)) = inr (f, g ∷ before, (some, behind, is, breaks))
 
--- by the group at the front, where what follows it is grouped
+-- by the group at the front, if what follows it is grouped
 by_front : (bytes : List ℕ) → bytes ≢ [] → ((behind : List ℕ) → length behind < length bytes → Grouped behind)
     → (r : Result (Group × List ℕ) PeerFault) → group_at bytes ≡ r → Grouped bytes
 by_front bytes some rest (Ok (g, behind)) is = one_more bytes behind g some is (rest behind (shorter bytes behind g is))
@@ -63,7 +63,7 @@ judged_by bytes whole (inr (f, before, breaks)) = (Err f, record { whole = whole
 judged : (bytes : List ℕ) → IsWhole bytes → (r : Result Message PeerFault) × IsJudged bytes r
 judged bytes whole = judged_by bytes whole (grouped_up_to (length (drop MESSAGE_HEADER bytes)) (drop MESSAGE_HEADER bytes) (omega arith))
 
--- ---- what stands where a message begins
+-- ---- what is at the start of a message
 
 abbrev SomeFront : List ℕ → Type 0
 SomeFront bytes = (front : MessageStart) × IsFront bytes front
@@ -123,7 +123,7 @@ read_by bytes front behind split (Ok m) is rest = (m ∷ rest.0, rest.1, (front,
 read_by bytes front behind split (Err f) is rest =
     ([], Faulty f, inr (record { front = front; behind = behind; split = split; broken = is }))
 
--- by what stands at the front, where what follows a message has a reading
+-- by what is at the front, if what follows a message has a reading
 by_message : (bytes : List ℕ) → ((rest : List ℕ) → length rest < length bytes → SomeReading rest) → SomeFront bytes → SomeReading bytes
 by_message bytes rest (Partial, is) = ([], Unfinished bytes, (refl, is))
 by_message bytes rest (Bad f, is) = ([], Faulty f, inl is)

@@ -17,7 +17,7 @@ second_of false b p = absurd p
 pub no : {X : Type 0} → true ≡ false → X
 no e = absurd (true≢false e)
 
--- nothing that isn't there is
+-- None isn't Some
 pub nothing_is : {X Y : Type 0} (x : X) → None ≡ Some x → Y
 nothing_is x e = no (sym (ap is_some e))
 
@@ -39,7 +39,7 @@ clash_none false false known e = refl
 pub no_clash : (es : List PlainState) (s : PlainState) → has_effect (insertion es s) ≡ true → is_clash es s ≡ false
 no_clash es s e = clash_none (is_stale es s) (is_clash es s) (is_some (held_at s.0 es)) e
 
--- where none clashes, a state of another name has another flow
+-- if none clashes, a state of another name has another flow
 pub others_differ : (es : List PlainState) (s : PlainState) (b : StateName) (y : Held) → is_clash es s ≡ false → held_at b es ≡ Some y → eq_by_cmp name_order b s.0 ≡ false → same_flow y.flow s.1.flow ≡ true → ⊥
 others_differ [] s b y none there other same = nothing_is y there
 others_differ (e ∷ es) s b y none there other same = by (eq_by_cmp name_order b e.0) refl there none (λ clear found. others_differ es s b y clear found other same) where
@@ -159,7 +159,7 @@ found_is (e ∷ es) f s is found = by (same_flow e.1.flow f) refl found (found_i
         behind true same held = nothing_is s.1 (sym (none_behind e.0 es (first_of _ _ is)) ∙ subst (λ n. held_at n es ≡ Some s.1) (one_name s.0 e.0 same) held)
         behind false same held = held
 
--- where a state has the flow, one is found
+-- if a state has the flow, one is found
 is_found : (es : List PlainState) (f : PlainFlow) (n : StateName) (x : Held) → held_at n es ≡ Some x → same_flow x.flow f ≡ true → is_some (state_of f es) ≡ true
 is_found [] f n x there has = nothing_is x there
 is_found (e ∷ es) f n x there has = by (same_flow e.1.flow f) refl (eq_by_cmp name_order n e.0) there (λ held. is_found es f n x held has) where

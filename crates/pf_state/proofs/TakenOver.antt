@@ -1,11 +1,11 @@
--- Inserts of a table's states, in order, make that table where there were no states.
+-- Inserting a table's states in order, starting without states, makes that table.
 use Rattle.std.proofs.{Common.{◌≡◌, ◌&&◌, ◌||◌, not, ℕ, Bool, true, false, T, cond, List, [], ◌∷◌, ◌++◌, ◌≤◌, length, map, Some, None, refl, sym, subst, ap, ◌∙◌, append_assoc, length-append, true≢false, arith}, lemmas.List.{append-nil, length-map}}
 use Rattle.std.specs.{declared.{cmp.Ordering.Ordering, cmp.Ordering.TheVariants.Less, cmp.Ordering.TheVariants.Equal, cmp.Ordering.TheVariants.Greater}, FinMap.{is_sorted, put}, FinMap.Entries.below_all, Ordering.{is_eq, is_lt, ordering_reverse}}
 use Rattle.pf_map.specs.Maps.{without, with_value}
 use Rattle.pf_state.specs.{Orders.name_total, Peer.Written.Each, declared.{limits.TheConstants.STATE_LIMIT, step.Insertion.Insertion, step.Insertion.TheVariants.New, step.Step.TheVariants.Insert}, Flows.same_flow, States.{PlainState, name_order, held_at, NamesFlows}, Steps.{is_clash, insertion, has_effect, stepped, after, is_over, passes_limit}, Laws.Failover.{state_there, TakesOver}}
 use Rattle.pf_state.proofs.{Names.{same_itself, same_name}, Tables.within_not_over, ExportsTaken.tells_the_states}
 
--- p stands before s, and has another flow
+-- p comes before s, and has another flow
 pub record Before (s p : PlainState) : Type 0 where
   pub less : name_order p.0 s.0 ≡ Less
   pub other : same_flow p.1.flow s.1.flow ≡ false
@@ -14,7 +14,7 @@ abbrev pub Apart : List PlainState → Type 0
 Apart [] = Unit {0}
 Apart (e ∷ es) = Each (λ s. Before s e) es × Apart es
 
--- ---- a state behind all others is inserted at their end
+-- ---- a state after all others is inserted at the end
 
 pub behind : (s p : PlainState) → name_order p.0 s.0 ≡ Less → name_order s.0 p.0 ≡ Greater
 behind s p less = name_total.antisymm s.0 p.0 ∙ ap ordering_reverse less
@@ -70,7 +70,7 @@ fits f ps (s ∷ es) apart few =
     ∙ ap (λ (b : Bool). b || passes_limit (ps ++ f s ∷ []) (map (λ t. Insert (f t)) es)) (within_not_over (ps ++ f s ∷ []) front_few)
     ∙ fits f (ps ++ f s ∷ []) es (subst Apart (sym moved) apart) (subst (λ (l : List PlainState). length l ≤ STATE_LIMIT) (sym moved) few)
 
--- ---- a table's states stand apart
+-- ---- a table's states are pairwise apart
 
 front : (a b : Bool) → T (a && b) → T a
 front true b h = tt

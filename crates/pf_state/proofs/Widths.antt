@@ -1,4 +1,4 @@
--- How many bytes states take where they are kept: 96 each.
+-- How many bytes stored states take: 96 each.
 use Rattle.std.proofs.{Common.{◌≡◌, ◌+◌, ◌*◌, ℕ, true, List, [], ◌∷◌, length, refl, arith}, lemmas.{Bool.{and_parts, Decides.nat_tests}, List.Sums.{sum_by-cons}}}
 use Rattle.std.specs.List.{sum_by}
 use Rattle.pf_addr.specs.{Address.family_of, declared.addr.Addr.{Addr, TheVariants.{V4, V6}}}

@@ -1,5 +1,5 @@
--- What flows are looked for by: one key for both ways of a flow, and an order of keys in which a number mixed of all fields decides
--- first.
+-- The keys by which flows are looked up: one key for both directions of a flow, and an order of keys in which a number mixed from all
+-- fields decides first.
 use Rattle.std.specs.{Prelude.{ℕ, ◌+◌, ◌*◌, ◌/◌, ◌%◌, ◌^◌, bit_xor}, Ordering.{ordering_then, nat_cmp}}
 use Rattle.std.specs.declared.cmp.Ordering.{Ordering}
 use Rattle.pf_addr.specs.declared.{addr.Addr.Addr, addr.Addr.TheVariants.V4, addr.Addr.TheVariants.V6}
@@ -18,7 +18,7 @@ ends_of f = record {
   destination_port = f.destination_port;
 }
 
--- the flow that has these
+-- the flow with these ends
 abbrev pub flow_between : Direction → FlowEnds → PlainFlow
 flow_between d e = record {
   direction = d;
@@ -38,16 +38,16 @@ exchanged e = record {
   destination_port = e.source_port;
 }
 
--- the ends of a flow this way as the packets have them that come in; of those the ends as the flow has them
+-- turns the ends of a flow of this direction into those that incoming packets have, and back
 abbrev pub inward : Direction → FlowEnds → FlowEnds
 inward In e = e
 inward Out e = exchanged e
 
--- the ends of a flow as those of its packets have them that come in: both ways of the flow have the same
+-- the ends of a flow as its incoming packets have them: the same for both directions of the flow
 abbrev pub key_of : PlainFlow → FlowEnds
 key_of f = inward f.direction (ends_of f)
 
--- the flow this way that has the key
+-- the flow in this direction that has the key
 abbrev pub flow_by : Direction → FlowEnds → PlainFlow
 flow_by d k = flow_between d (inward d k)
 
@@ -77,7 +77,7 @@ ends_order a b =
 abbrev pub folded : ℕ → ℕ
 folded n = bit_xor n (n / 2 ^ 32)
 
--- one part more, mixed into a number of 64 bits
+-- one more part, mixed into a number of 64 bits
 unfoldable pub stirred : ℕ → ℕ → ℕ
 stirred state part = folded ((bit_xor state part * 11400714819323198485) % 2 ^ 64)
 
@@ -85,10 +85,10 @@ abbrev pub with_addr : ℕ → Addr → ℕ
 with_addr state (V4 n) = stirred state n
 with_addr state (V6 n) = stirred (stirred state (n / 2 ^ 64)) (n % 2 ^ 64)
 
--- a number that is mixed of all fields
+-- a number that is mixed from all fields
 abbrev pub mixed : FlowEnds → ℕ
 mixed e = with_addr (with_addr (stirred 0 ((e.source_port * 65536 + e.destination_port) * 256 + e.protocol)) e.source) e.destination
 
--- by the mixed number, and where these tie by the fields
+-- by the mixed number, and if these tie by the fields
 abbrev pub key_order : FlowEnds → FlowEnds → Ordering
 key_order a b = ordering_then (nat_cmp (mixed a) (mixed b)) (ends_order a b)

@@ -1,4 +1,4 @@
--- Flows: what a state is looked for by (pf.conf(5)). That the interface is no part of a flow is own.
+-- Flows: what a state is looked up by (pf.conf(5)). That the interface is no part of a flow is our own choice.
 use Rattle.std.specs.Prelude.{◌≡◌, ℕ, ◌<◌, ◌==◌, ◌&&◌, ◌||◌, Bool, false}
 use Rattle.pf_addr.specs.{declared.{addr.Addr.Addr, addr.Addr.TheVariants.V4, addr.Addr.TheVariants.V6}, Address.{family_of, same_family, IsAddr}}
 use Rattle.pf_rule.specs.{declared.{value.direction.Direction.Direction, value.direction.Direction.TheVariants.In, value.direction.Direction.TheVariants.Out}, Value.Values.{IsProtocol, has_ports}, Value.Tests.same_direction, Packets.PlainPacket}
@@ -12,7 +12,7 @@ pub record PlainFlow : Type 0 where
   pub destination : Addr
   pub destination_port : ℕ
 
--- what a flow keeps: addresses of one family, and no ports but for a protocol that has them
+-- the invariant of a flow: addresses of one family, and no ports unless its protocol has them
 pub record IsFlow (f : PlainFlow) : Type 0 where
   pub protocol : IsProtocol f.protocol
   pub addresses : IsAddr f.source × IsAddr f.destination
@@ -20,7 +20,7 @@ pub record IsFlow (f : PlainFlow) : Type 0 where
   pub ports : (f.source_port < 65536) × (f.destination_port < 65536)
   pub no_ports : has_ports f.protocol ≡ false → (f.source_port ≡ 0) × (f.destination_port ≡ 0)
 
--- the same as a test, of fields that are each of their type
+-- the same as a test, for fields that are each of their type
 abbrev pub is_flow : PlainFlow → Bool
 is_flow f = same_family (family_of f.source) (family_of f.destination)
     && (has_ports f.protocol || (f.source_port == 0) && (f.destination_port == 0))
@@ -42,7 +42,7 @@ abbrev pub other_way : Direction → Direction
 other_way In = Out
 other_way Out = In
 
--- as the answers have it: the other way, with the ends exchanged
+-- as the answers have it: the other direction, with the ends exchanged
 abbrev pub turned : PlainFlow → PlainFlow
 turned f = record {
   direction = other_way f.direction;
@@ -69,6 +69,6 @@ is_equal f g =
     && same_addr f.destination g.destination
     && (f.destination_port == g.destination_port)
 
--- two are one flow where they are equal, or each is the other turned
+-- two are one flow if they are equal, or one is the other turned
 unfoldable pub same_flow : PlainFlow → PlainFlow → Bool
 same_flow f g = is_equal f g || is_equal f (turned g)

@@ -8,7 +8,7 @@ pub mod Steps
 pub mod Bindings
 pub mod Layouts
 pub mod Laws
--- what public clauses cite of the crates below
+-- what public contracts cite of the crates below
 pub use Rattle.pf_addr.specs.Address
 pub use Rattle.pf_rule.specs.Bytes
 pub use Rattle.pf_rule.specs.Value.Tests

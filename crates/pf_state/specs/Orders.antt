@@ -1,4 +1,4 @@
--- The orders of names and of flows' keys are total, in each only what is equal ties, and hints rise with them.
+-- The orders of names and of flows' keys are total, in each only equal items tie, and hints rise with them.
 use Rattle.std.specs.{Prelude.{◌≡◌, ℕ, zero, suc, T}, Cmp.{IsTotalOrder, then_total, on_total, nat_cmp_total}, FinMap.{IsAntisymmetric, nat_cmp-IsAntisymmetric}, Ordering.{ordering_then, is_eq, nat_cmp}}
 use Rattle.std.specs.declared.{cmp.Ordering.Ordering, cmp.Ordering.TheVariants.Less, cmp.Ordering.TheVariants.Equal, cmp.Ordering.TheVariants.Greater}
 use Rattle.std.proofs.Common.{refl, sym, ap, ◌∙◌, subst}
@@ -22,7 +22,7 @@ name_alike a b tied =
 addr_total : IsTotalOrder addr_order
 addr_total = then_total (on_total family_rank nat_cmp_total) (on_total number_of nat_cmp_total)
 
--- an address of this family and this number
+-- an address of this family with this number
 addr_by : ℕ → ℕ → Addr
 addr_by zero n = V4 n
 addr_by (suc rank) n = V6 n

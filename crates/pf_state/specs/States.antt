@@ -1,4 +1,4 @@
--- States, and the table of them (pf.conf(5)). How states are named and ordered is own.
+-- States, and the table of them (pf.conf(5)). How states are named and ordered is our own choice.
 use Rattle.std.specs.{Prelude.{◌≡◌, ◌≤◌, ◌==◌, Bool, T, true, List, length, Option, Some}, FinMap.{find, is_sorted}, List.{list_all, find as first_where}, Ordering.{ordering_then, nat_cmp}}
 use Rattle.std.specs.declared.cmp.Ordering.{Ordering}
 use Rattle.pf_state.specs.{declared.{limits.TheConstants.STATE_LIMIT, state.Bound.Bound, state.Bound.TheVariants.Rule, state.Bound.TheVariants.Default, state.Held.Held, state.StateName.StateName}, Flows.{PlainFlow, same_flow}}
@@ -24,7 +24,7 @@ pub record NamesFlows (es : List PlainState) : Type 0 where
   pub sorted : T (is_sorted name_order es)
   pub one_flow : (a b : StateName) (x y : Held) → held_at a es ≡ Some x → held_at b es ≡ Some y → same_flow x.flow y.flow ≡ true → a ≡ b
 
--- what a table keeps: that, and no more states than there may be
+-- the invariant of a table: that, and no more states than the limit
 pub record IsStates (es : List PlainState) : Type 0 where
   pub names : NamesFlows es
   pub few : length es ≤ STATE_LIMIT

@@ -1,4 +1,4 @@
--- Steps that change states: what an insert is judged as, what a delete and a clear take out, and what is counted. All own.
+-- Steps that change states: how an insert is judged, what a delete and a clear take out, and what is counted. All our own.
 use Rattle.std.specs.{Prelude.{◌≡◌, ℕ, ◌+◌, ◌<◌, ◌^◌, ◌==◌, ◌&&◌, ◌||◌, nat_lt, nat_le, Bool, true, false, not, cond, List, [], ◌∷◌, length, fold, is_some, Some, None, Result, Ok, Err}, FinMap.Entries.where_key, List.{list_any, count_by}, Option.option_map_or, Ordering.eq_by_cmp}
 use Rattle.pf_map.specs.Maps.{with_value}
 use Rattle.pf_state.specs.{declared.{counts.Counts.Counts, limits.TheConstants.STATE_LIMIT, refusal.StatesRefusal.StatesRefusal, refusal.StatesRefusal.TheVariants.StatesFull, refusal.StatesRefusal.TheVariants.Memory, state.StateName.StateName, step.Insertion.Insertion, step.Insertion.TheVariants.Stale, step.Insertion.TheVariants.Clash, step.Insertion.TheVariants.Replaced, step.Insertion.TheVariants.New, step.Step.Step, step.Step.TheVariants.Insert, step.Step.TheVariants.Delete, step.Step.TheVariants.Clear}, Flows.same_flow, States.{PlainState, name_order, held_at}}
@@ -13,7 +13,7 @@ is_stale es s = option_map_or (λ held. nat_le s.1.generation held.generation) (
 abbrev pub is_clash : List PlainState → PlainState → Bool
 is_clash es s = list_any (λ t. not (eq_by_cmp name_order t.0 s.0) && same_flow t.1.flow s.1.flow) es
 
--- stale is asked first, then clash, then whether the name is known
+-- stale is checked first, then clash, then whether the name is known
 abbrev pub insertion : List PlainState → PlainState → Insertion
 insertion es s = cond (is_stale es s) Stale (cond (is_clash es s) Clash (cond (is_some (held_at s.0 es)) Replaced New))
 
@@ -95,12 +95,12 @@ counts es (x ∷ xs) = both (counted es x) (counts (stepped es x) xs)
 abbrev pub is_over : List PlainState → Bool
 is_over es = nat_lt STATE_LIMIT (length es)
 
--- behind some step there are more states than there may be
+-- after some step there are more states than the limit
 unfoldable pub passes_limit : List PlainState → List Step → Bool
 passes_limit es [] = false
 passes_limit es (x ∷ xs) = is_over (stepped es x) || passes_limit (stepped es x) xs
 
--- A batch is refused exactly where a step passes the limit, but that memory may be refused anywhere.
+-- A batch is refused exactly if a step exceeds the limit, out of memory aside.
 abbrev pub Refuses : {X : Type 0} → Result X StatesRefusal → Bool → Type 0
 Refuses (Ok x) full = full ≡ false
 Refuses (Err StatesFull) full = full ≡ true

@@ -48,7 +48,7 @@ fn judge(states: &States, new: &State) -> Insertion
     }
 }
 
-// The states with one that is inserted, unless it is stale or clashes, and what becomes of it.
+// The states with one inserted, unless it is stale or clashes, and what becomes of it.
 #[tactic(auto, using(crate::proofs::Whole::whole_with), unfolding(crate::specs::Steps::stepped))]
 fn insert(alloc: Global, states: States, new: &State) -> Result<(States, Insertion), AllocError>
     requires names { NamesFlows states }
@@ -66,7 +66,7 @@ fn insert(alloc: Global, states: States, new: &State) -> Result<(States, Inserti
     Ok((left, judged))
 }
 
-/// The states of all other creators. `AllocError`: nothing is left of these; what shares them stays.
+/// The states of all other creators. `AllocError`: these states are dropped; other owners keep theirs.
 pub(crate) fn clear(alloc: Global, states: States, creator: u32) -> Result<States, AllocError>
     requires { T (is_sorted name_order states) }
     ensures { IfOk result (λ s. s ≡ without_creator states creator) }
@@ -81,14 +81,14 @@ pub(crate) fn clear(alloc: Global, states: States, creator: u32) -> Result<State
     Ok(left)
 }
 
-/// Whether there are more states than there may be.
+/// Whether there are more states than the limit.
 pub(crate) fn is_over(states: &States) -> bool
     ensures { result ≡ is_over states.now }
 {
     states.len() > STATE_LIMIT
 }
 
-// What is left of so many states, and how many were taken out.
+// What is left of this many states, and how many were taken out.
 fn taken_out(before: usize, left: States) -> (States, Counts)
     requires { length left ≤ before }
     ensures left { result.0 ≡ left }
@@ -98,7 +98,7 @@ fn taken_out(before: usize, left: States) -> (States, Counts)
     (left, Counts::of_deletion(deleted))
 }
 
-/// The states after one step, and what became of it. `AllocError`: nothing is left of these; what shares them stays.
+/// The states after one step, and what became of it. `AllocError`: these states are dropped; other owners keep theirs.
 #[tactic(auto, using(crate::proofs::Counting::shrinks, crate::proofs::Whole::whole_without, crate::proofs::Whole::whole_cleared), unfolding(crate::specs::Steps::stepped, crate::specs::Steps::counted))]
 pub(crate) fn act(
     alloc: Global,

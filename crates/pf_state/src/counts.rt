@@ -53,7 +53,7 @@ impl Counts {
         }
     }
 
-    /// Of a step that took out so many states.
+    /// Of a step that took out this many states.
     pub(crate) fn of_deletion(deleted: u64) -> Counts
         ensures { result ≡ only_deleted deleted }
     {
@@ -63,7 +63,7 @@ impl Counts {
         }
     }
 
-    /// Of some steps and those behind them.
+    /// Of some steps and those after them.
     pub(crate) fn and(self, more: Counts) -> Counts
         requires { IsCounted (both self more) }
         ensures { result ≡ both self more }

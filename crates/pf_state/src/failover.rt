@@ -1,4 +1,4 @@
-//! What the messages of a peer that takes over mean for the states here, and which messages tell a peer of them.
+//! What the messages of a peer that takes over mean for the states here, and which messages give a peer these states.
 
 mod incoming;
 pub mod laws;

@@ -8,11 +8,11 @@ use pf_rule::Packet;
 use pf_rule::value::{Direction, Protocol};
 use std::marker::Model;
 
-/// A flow: what its packets have in common, as the first of them has it (pf.conf(5)). Its addresses are of one family, and its ports
-/// are 0 unless it is of TCP or UDP. That the interface is no part of it is own. Contracts see it as these fields (`PlainFlow`).
+/// A flow: what its packets have in common, as the first of them has it (pf.conf(5)). Its addresses are of one family, and its ports are 0
+/// unless it is TCP or UDP. That the interface is no part of it is our own choice. Contracts see it as these fields (`PlainFlow`).
 #[derive(Clone, Copy)]
 pub struct Flow {
-    // the ends as the packets have them that come in, so that a flow has its key at hand
+    // the ends as incoming packets have them, so that the flow's key is at hand
     key: FlowKey,
     /// Which way the first packet goes through the interface.
     direction: Direction,
@@ -44,7 +44,7 @@ fn other_way(direction: Direction) -> Direction
     }
 }
 
-// The ends of a flow this way as the packets have them that come in; of those the ends as the flow has them.
+// Turns the ends of a flow of this direction into those that incoming packets have, and back.
 fn inward(direction: Direction, ends: FlowEnds) -> FlowEnds
     ensures { result ≡ inward direction ends }
 {
@@ -61,8 +61,8 @@ fn inward(direction: Direction, ends: FlowEnds) -> FlowEnds
 }
 
 impl Flow {
-    /// The flow of a packet that goes this way, between these ends. `None`: the addresses differ in family, or a port isn't 0 and
-    /// the protocol has none.
+    /// The flow of a packet in this direction, between these ends. `None`: the addresses differ in family, or a port isn't 0 though the
+    /// protocol has no ports.
     pub fn new(
         direction: Direction,
         protocol: Protocol,
@@ -109,7 +109,7 @@ impl Flow {
         Flow::between(packet.direction(), ends)
     }
 
-    /// The same flow as the answers have it: the other way, from the destination to the source.
+    /// The same flow as the answers have it: the other direction, from the destination to the source.
     pub fn turned(&self) -> Flow
         ensures { result ≡ turned self.now }
     {
@@ -119,7 +119,7 @@ impl Flow {
         }
     }
 
-    // The flow this way between these ends.
+    // The flow in this direction between these ends.
     fn between(direction: Direction, ends: FlowEnds) -> Flow
         requires { IsFlow (flow_between direction ends) }
         ensures { result ≡ flow_between direction ends }
@@ -137,14 +137,14 @@ impl Flow {
         inward(self.direction, self.key.ends())
     }
 
-    /// What it is looked for by: both ways of it have the same, and no other flow.
+    /// The key to look it up by: both directions of it have the same, and no other flow has it.
     pub fn key(&self) -> &FlowKey
         ensures { result.now ≡ key_of self.now }
     {
         &self.key
     }
 
-    /// Whether both are one flow: they are equal, or each is the other turned.
+    /// Whether both are one flow: they are equal, or one is the other turned.
     #[tactic(auto, using(crate::proofs::FlowKeys::same_flow_is))]
     pub fn same(&self, other: &Flow) -> bool
         ensures { result ≡ same_flow self.now other.now }

@@ -1,4 +1,4 @@
-//! What flows are looked for by.
+//! The keys by which flows are looked up.
 ghost use Rattle.std.specs.Prelude.{◌≡◌, ◌<◌, ◌^◌};
 ghost use Rattle.pf_state.specs.FlowKeys.{stirred, with_addr, mixed, family_rank, number_of, addr_order, ends_order, key_order};
 
@@ -7,10 +7,10 @@ use pf_rule::value::Protocol;
 use std::cmp::Ordering;
 use std::marker::Model;
 
-/// The protocol and the ends of a flow, as the packets of one way have them.
+/// The protocol and the ends of a flow, as the packets of one direction have them.
 #[derive(Clone, Copy)]
 pub struct FlowEnds {
-    // the widest first: a table of states takes less room
+    // the widest first, so that a table of states takes less room
     /// The address that the packets come from.
     pub source: Addr,
     /// The address that they go to.
@@ -23,7 +23,7 @@ pub struct FlowEnds {
     pub protocol: Protocol,
 }
 
-/// The ends of a flow as the packets have them that come in, with a number that is mixed of them. Contracts see the ends.
+/// The ends of a flow as incoming packets have them, with a number mixed from them. Contracts see the ends.
 #[derive(Clone, Copy)]
 pub struct FlowKey {
     ends: FlowEnds,
@@ -47,7 +47,7 @@ impl Model for FlowKey {
     ghost inverse_ok = { λ k is. λ i. record { ends = k.ends; mix = sym is i } };
 }
 
-// A number mixed of another and of one part more.
+// A number, with one more part mixed in.
 fn stir(state: u64, part: u64) -> u64
     ensures { result ≡ stirred state part }
 {
@@ -122,7 +122,7 @@ fn ends_order(one: &FlowEnds, other: &FlowEnds) -> Ordering
 }
 
 impl FlowKey {
-    /// The key of a flow whose packets that come in have these ends.
+    /// The key of a flow whose incoming packets have these ends.
     pub(crate) fn new(ends: FlowEnds) -> FlowKey
         ensures { result ≡ ends }
     {

@@ -1,4 +1,4 @@
-//! States stand in an index, by their names and by their flows.
+//! The index of states, by their names and by their flows.
 ghost use Rattle.pf_state.specs.{FlowKeys.{key_of, key_order, mixed}, Orders.{name_total, name_alike, names_rise, key_total, key_alike, keys_rise}, States.name_order};
 
 use crate::flow_key::FlowKey;

@@ -1,4 +1,4 @@
-//! What follows from the definitions that contracts cite: functions that do nothing, whose contracts are the laws.
+//! Laws of flows, states and steps. Each function does nothing; its contract is the law.
 ghost use Rattle.std.specs.Prelude.{◌≡◌};
 ghost use Rattle.pf_state.specs.Laws.States.{OneFlowOrAnother, InterfaceIsNoPart, OneStateAFlow, KeepsWhatIsThere, StaleByGeneration, ReadsWhatStepsLeave, NamesAlike, LastStepStands, StaysStates, RefusedByAnyStep, CountsAddUp, BindsExactly, TellsTheNumber};
 
@@ -6,17 +6,16 @@ use crate::binding::ALL_ONES;
 use crate::failover::EXPORT_RECORDS;
 use crate::limits::STATE_LIMIT;
 
-/// The numbers that definitions and code cite by name: how many states there may be, what stands for no rule, and how many states a
-/// message of an export tells of. Those of messages are in [`crate::peer::numbers_of_messages_are_these`].
+/// The numbers that definitions and code cite by name: how many states there may be, what means no rule, and how many states a
+/// message of an export has. Those of messages are in [`crate::peer::numbers_of_messages_are_these`].
 pub fn numbers_are_these()
     ensures states { STATE_LIMIT ≡ 65_536 }
     ensures no_rule { ALL_ONES ≡ 4_294_967_295 }
     ensures exported { EXPORT_RECORDS ≡ 31 }
 {}
 
-/// Two flows are one where they are equal, or one is the other turned, which is so of each with itself, of both if of one, and of
-/// the first and the third if of the first and the second and of the second and the third. The interface of a packet is no part of
-/// its flow.
+/// Two flows are one if they are equal, or one is the other turned: this is reflexive, symmetric and transitive. The interface of a packet
+/// is no part of its flow.
 pub fn flows_are_one_or_another()
     ensures alike { OneFlowOrAnother }
     ensures interface { InterfaceIsNoPart }
@@ -28,8 +27,8 @@ pub fn one_state_a_flow()
     ensures { OneStateAFlow }
 {}
 
-/// A stale insert, and one that clashes, changes nothing. A delete takes out what is there whatever its generation, and a clear
-/// exactly one creator's states. Whether an insert of a known name is stale its generation alone says.
+/// An insert that is stale or clashes changes nothing. A delete takes out what is there whatever its generation, and a clear takes out
+/// exactly one creator's states. Whether an insert of a known name is stale depends only on its generation.
 #[tactic(auto, using(crate::proofs::Leaves::keeps_what_is_there, crate::proofs::Leaves::steps_read))]
 pub fn steps_change_what_they_name()
     ensures keeps { KeepsWhatIsThere }
@@ -38,22 +37,22 @@ pub fn steps_change_what_they_name()
     ensures names { NamesAlike }
 {}
 
-/// After a batch there is under each name what the last step left that had effect on it; the states are in order, no name and no
-/// flow stands twice, and there are no more than there may be. A batch is refused where that would not be so behind some step.
+/// After a batch each name has what the last step that affected it left; the states are in order, no name and no flow occurs twice, and
+/// there are no more than the limit. A batch is refused exactly if some step would leave too many.
 pub fn batches_leave_states()
     ensures last { LastStepStands }
     ensures stays { StaysStates }
     ensures refused { RefusedByAnyStep }
 {}
 
-/// Each insert is counted once, and the states grow and shrink by what is counted.
+/// Each insert is counted once, and the number of states changes by what is counted.
 #[tactic(auto, using(crate::proofs::Counting::counts_add_up))]
 pub fn counts_add_up()
     ensures { CountsAddUp }
 {}
 
-/// A state is bound to a main rule only where the checksum that came with it is that of the main rules here, no anchor is named,
-/// and the number is that of one of them. That number is told only while these rules stand.
+/// A state is bound to a main rule only if the checksum that came with it is that of the main rules here, no anchor is named, and the
+/// number is that of one of them. An export gives that number only while these rules are in place.
 pub fn states_are_bound_by_sums()
     ensures binds { BindsExactly }
     ensures tells { TellsTheNumber }

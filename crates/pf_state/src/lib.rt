@@ -1,24 +1,32 @@
-//! States: what they are, how steps change them, and how a peer that takes over is told of them.
+//! States: what they are, how steps change them, and how a peer that takes over learns of them.
 //!
 //! A state lets the packets of one flow pass without a look at the rules (pf.conf(5)). It is named by a number and the host that made it,
 //! and bound to one of the main rules or to the default rule. A table holds at most 65,536 of them, no name and no flow twice, and is
-//! changed by batches of steps: inserts, deletes and clears. A peer tells of its states in messages, whose form is own, after that of
+//! changed by batches of steps: inserts, deletes and clears. A peer sends its states in messages, whose form is our own, after that of
 //! pfsync(4).
 //!
-//! The crate has four layers, and they stay apart:
+//! The crate has four layers, kept apart:
 //! - states, their table and steps, in the modules at the root: they know no bytes and nothing of `peer`;
 //! - bytes of flows, states and steps, in [`layouts`], by layouts of `pf_form::bytes`: what a store keeps of them;
 //! - messages, in [`peer`]: how a stream of bytes is read in whatever pieces it comes, and how messages are written. It knows flows and
-//!   their bytes, and no state;
-//! - [`failover`], which knows states and messages: the steps that a message asks for, and the messages that tell a peer of all states.
+//!   their bytes, but no state;
+//! - [`failover`], which knows states and messages: the steps that a message asks for, and the messages that give a peer all states.
 //!
-//! It knows packets and addresses, and of rules only how many main rules there are and the 16 bytes of their checksum: not what they
-//! say, no rulesets at paths, no lines and no disk. Of pf_map it has the maps in which states stand by name and by flow.
+//! It knows packets and addresses, and of the rules only how many main rules there are and their checksum of 16 bytes: not what they say,
+//! no rulesets at paths, no lines and no disk. From pf_map it has the maps that hold states by name and by flow.
 //!
-//! To read first: `specs/Flows.antt`, `States.antt`, `Steps.antt` and `Bindings.antt` say what the table does, `specs/Peer/Records.antt`,
-//! `Groups.antt`, `Messages.antt` and `Streams.antt` what a peer's bytes mean, `specs/Layouts/` what a store's bytes are,
-//! `specs/Failover/` how states and messages meet. [`laws`], [`peer`] and
-//! [`failover::laws`] say what follows.
+//! Proved, in the public contracts and in the laws of [`laws`], [`peer`], [`layouts`] and [`failover::laws`]:
+//! - a table does what the definitions say: at most one state has a flow and it is the one found, the last step on a name counts, a batch
+//!   is taken whole or refused whole, counts add up, and a state is bound to a main rule only by the checksum of these rules;
+//! - a stream has exactly one reading however it is cut, a fault stays, and a written message is read back;
+//! - [`layouts`] reads and writes exactly the forms in `specs/Layouts/`;
+//! - an export is read back as its messages, and a peer without states then has these and no others.
+//!
+//! Only tests of other crates show that an out-of-memory error comes only when out of memory.
+//!
+//! Read first: `specs/Flows.antt`, `States.antt`, `Steps.antt` and `Bindings.antt` for the table, `specs/Peer/Records.antt`, `Groups.antt`,
+//! `Messages.antt` and `Streams.antt` for a peer's bytes, `specs/Layouts/` for a store's bytes, `specs/Failover/` for how states and
+//! messages meet.
 #![tactic(auto)]
 
 mod binding;

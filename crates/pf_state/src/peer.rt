@@ -1,11 +1,11 @@
-//! Messages by which a peer that takes over tells of its states: their form in bytes, how a stream of them is read in whatever
-//! pieces it comes, and how they are written.
+//! Messages by which a peer that takes over sends its states: their form in bytes, how a stream of them is read in whatever pieces it
+//! comes, and how they are written.
 //!
 //! A message has a header of [`MESSAGE_HEADER`] bytes: the version, a zero byte, the length of the whole message in two bytes, and the
-//! checksum of the rules that its states were made by. Groups follow, each an action, a zero byte and a count in two bytes, and
-//! that many records of [`RECORD`] bytes, of which an insert has its layout in `specs/Peer/Records.antt`. In the bytes all numbers have
-//! their highest byte first; in the types here they are plain
-//! numbers. The form is own, after that of pfsync(4)'s states. Nothing in a message is authenticated.
+//! checksum of the rules that its states were made by. Groups follow, each an action, a zero byte and a count in two bytes, and that many
+//! records of [`RECORD`] bytes; `specs/Peer/Records.antt` has the layout of an insert. In the bytes all numbers have their highest byte
+//! first; in the types here they are plain numbers. The form is our own, after that of pfsync(4)'s states. Nothing in a message is
+//! authenticated.
 
 mod fault;
 mod fields;

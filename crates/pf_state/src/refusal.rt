@@ -4,12 +4,12 @@ ghost use Rattle.pf_state.specs.declared.refusal.StatesRefusal.TheVariants.{Memo
 
 use std::alloc::AllocError;
 
-/// Why a batch of steps isn't acted on. After each of these the states are as before.
+/// Why a batch of steps is refused. After each of these the states are as before.
 #[derive(Clone, Copy, Debug, PartialEq, Eq)]
 pub enum StatesRefusal {
-    /// Behind one of the steps there would be more than 65,536 states.
+    /// After one of the steps there would be more than 65,536 states.
     StatesFull,
-    /// A growth of memory was refused.
+    /// Out of memory.
     Memory,
 }
 

@@ -6,12 +6,12 @@ use crate::flow::Flow;
 use pf_map::KeyValue;
 use std::cmp::Ordering;
 
-/// What a state is named by.
+/// The name of a state.
 #[derive(Clone, Copy, Debug, PartialEq, Eq)]
 pub struct StateName {
-    /// Its number among its creator's.
+    /// Its number, chosen by its creator.
     pub id: u64,
-    /// Who made it.
+    /// The host that made it.
     pub creator: u32,
 }
 
@@ -31,11 +31,11 @@ pub struct Held {
     pub flow: Flow,
     /// The rule that it is bound to.
     pub bound: Bound,
-    /// Which of two tellings of this state is the later one: the greater generation. 0 for a state that was made here.
+    /// Which of two versions of this state is the later one: the greater generation. 0 for a state that was made here.
     pub generation: u32,
 }
 
-/// A state: what it is named by, and what is held. It is shared by all tables and steps that have it. Contracts see the pair.
+/// A state: its name, and what is held under it. It is shared by all tables and steps that have it. Contracts see the pair.
 pub type State = KeyValue<StateName, Held>;
 
 impl StateName {
@@ -48,7 +48,7 @@ impl StateName {
             .then(self.creator.cmp(&other.creator))
     }
 
-    /// Whether both are one name.
+    /// Whether both are the same name.
     pub fn same(&self, other: &StateName) -> bool
         ensures { result ≡ eq_by_cmp name_order self.now other.now }
     {
@@ -56,12 +56,12 @@ impl StateName {
     }
 }
 
-// What the type of a checksum says.
+// What the type of a checksum says: it has 16 bytes.
 fn tell_sum(_sum: &[u8; 16])
     ensures { (length _sum.now == 16) ≡ true }
 {}
 
-/// What each state keeps: a checksum that it is bound by is whole.
+/// What each state keeps: a checksum in its binding is whole.
 pub(crate) fn tell_whole(state: &State)
     ensures { is_whole state.now.1.bound ≡ true }
 {

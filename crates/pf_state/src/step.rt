@@ -4,7 +4,7 @@ ghost use Rattle.std.specs.Prelude.{◌≡◌};
 use crate::state::{State, StateName};
 use std::marker::Model;
 
-/// What a record of a peer, or the judging of a packet, does with the states.
+/// What a record of a peer, or judging a packet, does to the states.
 #[derive(Drop)]
 pub enum Step {
     /// Makes this state, or replaces the one of its name.
@@ -18,11 +18,11 @@ pub enum Step {
 /// What becomes of a state that is inserted.
 #[derive(Clone, Copy, Debug, PartialEq, Eq)]
 pub enum Insertion {
-    /// Its name is known, and its generation isn't greater than that one's. Nothing changes.
+    /// Its name is known, and its generation isn't greater than the one there. Nothing changes.
     Stale,
-    /// Its flow is another state's. Nothing changes.
+    /// Another state has its flow. Nothing changes.
     Clash,
-    /// It takes the place of the state of its name.
+    /// It replaces the state of its name.
     Replaced,
     /// It is a new state.
     New,
@@ -44,14 +44,14 @@ impl Model for StepList {
 }
 
 impl StepList {
-    /// The list of these. It is never refused for memory.
+    /// The list of these steps. It takes no memory.
     pub fn new(steps: Vec<Step>) -> StepList
         ensures { result ≡ steps.items }
     {
         StepList { steps }
     }
 
-    /// Them, in order.
+    /// The steps, in order.
     pub fn as_slice(&self) -> &[Step]
         ensures { result.now ≡ self.now }
     {

@@ -16,7 +16,7 @@ use std::marker::Model;
 
 /// At most 65,536 states, no name and no flow twice. Contracts see the list of them in the order of their names.
 ///
-/// A changed table shares with the old one all states that stay, and nearly all of what finds them.
+/// A changed table shares with the old one all states that stay, and nearly all of the index.
 pub struct StateTable {
     index: States,
 }
@@ -48,7 +48,7 @@ impl StateTable {
         }
     }
 
-    /// The table of these, which are a table's.
+    /// The table of these states, which are valid for a table.
     pub(crate) fn of(states: States) -> StateTable
         requires table { IsStates states }
         requires whole { are_whole states ≡ true }
@@ -57,7 +57,7 @@ impl StateTable {
         StateTable { index: states }
     }
 
-    /// The same table, with one owner more. No state and no page is copied. `AllocError`: none is made.
+    /// The same table with one more owner: no state and no page is copied. `AllocError`: nothing is made.
     pub fn shared(&self) -> Result<StateTable, AllocError>
         ensures { IfOk result (λ t. t ≡ self.now) }
     {
@@ -73,12 +73,12 @@ impl StateTable {
         self.index.len()
     }
 
-    /// What each table keeps: it has so few states, and each checksum that they are bound by is whole.
+    /// What each table keeps: no more states than the limit, and only whole checksums in their bindings.
     pub(crate) fn tell_whole(&self)
         ensures few { length self.now ≤ STATE_LIMIT }
         ensures whole { are_whole self.now ≡ true }
     {
-        // the type keeps it of the index
+        // the type's invariant says it of the index
         let _index = &self.index;
     }
 
@@ -91,7 +91,7 @@ impl StateTable {
         self.index.entries()
     }
 
-    /// The states in a list, in the order of their names, each shared. `AllocError`: none is made.
+    /// The states as a list, in the order of their names, each shared. `AllocError`: nothing is made.
     pub fn listed(&self, alloc: Global) -> Result<Vec<State>, AllocError>
         ensures { IfOk result (λ v. v.items ≡ self.now) }
     {
@@ -102,7 +102,7 @@ impl StateTable {
         Ok(listed)
     }
 
-    /// The state of a packet's flow, of which there is one at most. It is never refused for memory.
+    /// The state of a packet's flow; there is at most one. It takes no memory.
     #[tactic(auto, using(crate::proofs::Indexed::of_flow_is))]
     pub fn find(&self, packet: &Packet) -> Option<&State>
         ensures { option_map (λ s. s.now) result ≡ state_of (flow_of packet.now) self.now }
@@ -111,17 +111,17 @@ impl StateTable {
         self.index.of_flow(flow.key())
     }
 
-    /// What is held under a name, if it is known. It is never refused for memory.
+    /// What is held under a name, if it is known. It takes no memory.
     pub fn held_at(&self, name: StateName) -> Option<Held>
         ensures { result ≡ held_at name self.now }
     {
         held_at(&self.index, name)
     }
 
-    /// The table after steps in turn, and what became of them. This one stays as it is.
+    /// The table after these steps in turn, and what became of them. This table stays as it is.
     ///
-    /// [`StatesRefusal::StatesFull`] is exactly for steps of which one would leave more than 65,536 states, also where those
-    /// behind it leave fewer; [`StatesRefusal::Memory`] may come before. After a refusal nothing is made.
+    /// [`StatesRefusal::StatesFull`] is exactly for steps one of which would leave more than 65,536 states, even if later ones leave fewer;
+    /// [`StatesRefusal::Memory`] may come before. After a refusal nothing is made.
     pub fn after_batch(
         &self,
         alloc: Global,
@@ -144,7 +144,7 @@ impl StateTable {
         Ok((StateTable { index: states }, counts))
     }
 
-    /// Acts on steps in turn, and counts what became of them. It is refused as `after_batch` is, and then the table is as before.
+    /// Takes these steps in turn, and counts what became of them. It is refused as `after_batch` is, and then the table is as before.
     pub fn apply_batch(&mut self, alloc: Global, steps: &[Step]) -> Result<Counts, StatesRefusal>
         ensures refused { Refuses result (passes_limit self.old steps.now) }
         ensures counts { IfOk result (λ c. c ≡ counts self.old steps.now) }
@@ -155,7 +155,7 @@ impl StateTable {
         Ok(counts)
     }
 
-    /// Takes out the state of a name, whatever its generation. Answers whether there was one. `AllocError`: the table is as before.
+    /// Takes out the state of a name, whatever its generation. Returns whether there was one. `AllocError`: the table is as before.
     #[tactic(auto, using(crate::proofs::Counting::found_by_length))]
     pub fn remove(&mut self, alloc: Global, name: StateName) -> Result<bool, AllocError>
         ensures found { IfOk result (λ found. found ≡ is_some (held_at name self.old)) }
@@ -168,7 +168,7 @@ impl StateTable {
         Ok(found)
     }
 
-    /// Takes out all states of one creator. Answers how many there were. `AllocError`: the table is as before.
+    /// Takes out all states of one creator. Returns how many there were. `AllocError`: the table is as before.
     #[tactic(auto, using(crate::proofs::Counting::shrinks_clear))]
     pub fn clear_creator(&mut self, alloc: Global, creator: u32) -> Result<usize, AllocError>
         ensures count { IfOk result (λ count. count ≡ creator_count self.old creator) }

@@ -1,4 +1,4 @@
--- What is kept: what its types keep fits its form, its data tell it, and its bytes.
+-- What is kept: what its types guarantee fits its form, its data determine it, and so do its bytes.
 use Rattle.std.proofs.{Common.{◌*◌, ◌^◌, ◌≡◌, ◌≢◌, ◌≤◌, ◌==◌, ◌&&◌, not, ℕ, Bool, true, false, T, List, [], ◌∷◌, length, map, cond, Some, None, Ok, refl, sym, ap, ◌∙◌, true≢false, arith}, lemmas.{List.length-map, Bool.{and_parts, Decides.nat_tests}, Cmp.{alike_right, tied_itself, nat_list_cmp_total}}}
 use Rattle.std.specs.{Prelude.{nat_le, replicate}, declared.{cmp.Ordering.Ordering, cmp.Ordering.TheVariants.Less, cmp.Ordering.TheVariants.Equal, cmp.Ordering.TheVariants.Greater}, Cmp.IsTotalOrder, FinMap.{find, is_sorted}, FinMap.Entries.below_all, List.{list_all, AllByRecursion}, Ordering.{is_eq, is_lt, ordering_reverse}}
 use Rattle.pf_addr.specs.Path.Paths.{path_order}
@@ -33,7 +33,7 @@ some_is x xs = let filled : (length (x ∷ xs) == 0) ≡ false = grind (arith, n
 pub some_mapped : {A B : Type 0} (f : A → B) (xs : List A) → has_some (map f xs) ≡ has_some xs
 some_mapped f xs = ap (λ n. not (n == 0)) (length-map xs f)
 
--- items that are seen as others are in order where those are
+-- items are in order exactly if what they are seen as is
 pub seen_in_order : {A B : Type 0} (before : B → B → Bool) (view : A → B) (xs : List A)
     → in_order before (map view xs) ≡ in_order (λ x y. before (view x) (view y)) xs
 seen_in_order before view [] = refl
@@ -51,7 +51,7 @@ seen_again f g (x ∷ xs) = ap (λ ys. g (f x) ∷ ys) (seen_again f g xs)
 -- ---- maps of lists
 
 module _ {K X : Type 0} {R : K → K → Ordering} (o : IsTotalOrder R) where
-  -- what is behind a key isn't found at it
+  -- what comes after a key isn't found at it
   tied_none : (k x : K) → R k x ≡ Equal → (es : List (K × List X)) → T (below_all R x es) → find R k es ≡ None
   tied_none k x tied [] low = refl
   tied_none k x tied (e ∷ es) low =
@@ -60,7 +60,7 @@ module _ {K X : Type 0} {R : K → K → Ordering} (o : IsTotalOrder R) where
       ∙ ap ordering_reverse (alike_right o k x e.0 tied ∙ o.antisymm e.0 x ∙ ap ordering_reverse (less_of _ (first_of _ _ low))) in
       rw less (tied_none k x tied es (second_of (is_lt (R x e.0)) _ low))
 
-  -- a map of lists has none that is empty
+  -- a map of lists has no empty one
   all_some : (es : List (K × List X)) → T (is_sorted R es) → ((k : K) → find R k es ≢ Some []) → list_all (λ e. has_some e.1) es ≡ true
   all_some [] is filled = refl
   all_some (e ∷ es) is filled = rw (here e.1 refl) (all_some es (second_of (below_all R e.0 es) _ is) rest) where
@@ -96,7 +96,7 @@ rulesets_fit version rs is le each =
       rw (few RULESET_LIMIT rs plain_ruled, at_most_is RULESET_LIMIT rs le, rules_kept rs, some) refl,
     )
 
--- rows that are read in turn
+-- rows that are read in order
 pub rulesets_sorted : (rows : List StoredRuleset) → in_order ruleset_before (map (λ r. plain_ruled r.placed) rows) ≡ true
     → T (is_sorted path_order (map (λ r. r.placed) rows))
 rulesets_sorted rows is =
@@ -196,7 +196,7 @@ tables_read rows before rest read is =
     (map (λ r. plain_tabled (placed r)) rows) read (tables_are rows ∙ is)
     ∙ ap (λ (vs : List (Value PlacedShape)). Ok (vs, rest)) (seen_again placed plain_tabled rows)
 
--- ---- told by its data
+-- ---- determined by its data
 
 tables_told : (ts : List PlainPlacedTable) → map tabled_in (map plain_tabled ts) ≡ ts
 tables_told [] = refl
@@ -233,7 +233,7 @@ pub durable_spelled : (version : ℕ) (d : PlainDurable) (bytes : List ℕ) → 
     → IsDurable version d bytes
 durable_spelled version d bytes told is = record { spelled = is; told = sym told }
 
--- they are put behind others
+-- they are appended to others
 pub ends_in_snapshot : (version : ℕ) (d : PlainDurable) (before bytes : List ℕ) → durable_in (plain_durable d) ≡ d → Fits (durable_form version) (plain_durable d)
     → bytes ≡ onto (durable_form version) (plain_durable d) before → EndsInSnapshot version d before bytes
 ends_in_snapshot version d before bytes told fits is = record {
@@ -242,11 +242,11 @@ ends_in_snapshot version d before bytes told fits is = record {
   behind = is ∙ onto_is (durable_form version) (plain_durable d) before;
 }
 
--- bytes are those of one thing kept at most
+-- bytes are those of at most one thing kept
 pub one_durable : (version : ℕ) (d e : PlainDurable) (bytes : List ℕ) → IsDurable version d bytes → IsDurable version e bytes → d ≡ e
 one_durable version d e bytes a b = a.told ∙ ap durable_in (one_value (durable_form version) bytes (plain_durable d) (plain_durable e) a.spelled b.spelled) ∙ sym b.told
 
--- and what is kept has the bytes of some data that tell it
+-- and what is kept has the bytes of some data that determine it
 pub none_told : {A : Type 0} (version : ℕ) (d : PlainDurable) (bytes : List ℕ) → ((v : Value DurableShape) → Spells (durable_form version) v bytes → A)
     → IsDurable version d bytes → A
 none_told version d bytes refuses is = refuses (plain_durable d) is.spelled

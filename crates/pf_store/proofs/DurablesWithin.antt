@@ -1,4 +1,4 @@
--- A snapshot is of something within all limits.
+-- What has a snapshot is within all limits.
 use Rattle.std.proofs.{Common.{◌≡◌, ◌≢◌, ◌≤◌, ◌&&◌, ◌||◌, not, cond, ℕ, Bool, true, false, List, [], ◌∷◌, length, map, Some, refl, sym, ap, ◌∙◌, subst, true≢false, arith}, lemmas.{List.length-map, Bool.{and_parts, Decides.nat_tests}, Cmp.nat_list_cmp_total}}
 use Rattle.std.specs.{Prelude.nat_le, declared.cmp.Ordering.Ordering, FinMap.find, List.{list_all, list_any, AllByRecursion}, Option.unwrap_or, Ordering.{eq_by_cmp, is_lt}}
 use Rattle.pf_addr.specs.Path.Paths.{path_order}
@@ -21,7 +21,7 @@ use Rattle.pf_store.proofs.Durables.{some_mapped, seen_in_order}
 -- ---- what is found in a map of lists
 
 module _ {K X : Type 0} (R : K → K → Ordering) where
-  -- what holds of each list, and of none, holds of the one that is found
+  -- what is true of each list, and of the empty one, is true of the one that is found
   listed : (P : List X → Type 0) (es : List (K × List X)) (k : K) → AllByRecursion (λ e. P e.1) es → P [] → P (list_at R k es)
   listed P [] k each none = none
   listed P (e ∷ es) k each none = by (eq_by_cmp R k e.0) (listed P es k each.1 none) where
@@ -108,7 +108,7 @@ entries_few_at vs fits p name = listed table_order AreEntries (map tabled_in vs)
 
 -- ---- states
 
--- a flow that none of them has isn't found
+-- a flow that none of the states has isn't found
 elsewhere : (es : List PlainState) (h : Held) (n : StateName) (x : Held) → not (list_any (λ t. same_flow h.flow t.1.flow) es) ≡ true → held_at n es ≡ Some x
     → same_flow h.flow x.flow ≡ true → ⊥
 elsewhere [] h n x none there same = nothing_is x there

@@ -1,4 +1,4 @@
--- Lists in order are said so in one way by layouts and in one by maps, which are the same.
+-- Layouts and maps each say in their own way that a list is in order; both mean the same.
 use Rattle.std.proofs.Common.{◌≡◌, T, Bool, true, ◌&&◌, List, [], ◌∷◌, refl, sym, ap, ◌∙◌}
 use Rattle.std.specs.{declared.cmp.Ordering.Ordering, Cmp.IsTotalOrder, FinMap.is_sorted, Ordering.is_lt}
 use Rattle.pf_form.specs.Bytes.Lists.{in_order}

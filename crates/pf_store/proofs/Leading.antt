@@ -14,7 +14,7 @@ use Rattle.pf_store.proofs.{Durables.one_durable, RecordedForms.one_group}
 
 -- ---- groups
 
--- of those that follow in turn each follows where those before it have come
+-- those that follow in turn still do with one more that may come next
 pub follow_push : (d : PlainDurable) (rs : List Recorded) (r : Recorded) → FollowInTurn d rs → Follows (left_by_all d rs) r → FollowInTurn d (rs ++ r ∷ [])
 follow_push d [] r all follows = (follows, tt)
 follow_push d (q ∷ rs) r all follows = (all.0, follow_push (left_by d q) rs r all.1 follows)
@@ -23,7 +23,7 @@ pub follow_at : (d : PlainDurable) (rs : List Recorded) (r : Recorded) (rest : L
 follow_at d [] r rest all = all.0
 follow_at d (q ∷ rs) r rest all = follow_at (left_by d q) rs r rest all.1
 
--- ---- one record of a group more
+-- ---- one more record of a group
 
 taken : {A : Type 0} (xs : List A) (i : ℕ) (x : A) → i < length xs → x ≡ get_or xs i x → take (i + 1) xs ≡ take i xs ++ x ∷ []
 taken xs i x lt is = take_more xs i x lt ∙ ap (λ y. take i xs ++ y ∷ []) (sym is)
@@ -54,7 +54,7 @@ pub leads-push : (version : ℕ) (d : PlainDurable) (ps : List (List ℕ)) (e : 
 leads-push version d [] e p xs led is follows = subst (λ (f : PlainDurable). Leads version f (p ∷ []) (left_by_all e xs)) (sym led) (xs, is, follows, refl)
 leads-push version d (q ∷ ps) e p xs led is follows = (led.0, led.1, led.2, leads-push version (left_by_all d led.0) ps e p xs led.3 is follows)
 
--- payloads lead to one thing
+-- payloads lead to only one thing
 pub one_end : (version : ℕ) (d : PlainDurable) (ps : List (List ℕ)) (e f : PlainDurable) → Leads version d ps e → Leads version d ps f → e ≡ f
 one_end version d [] e f a b = sym a ∙ b
 one_end version d (p ∷ ps) e f a b =
@@ -64,7 +64,7 @@ pub one_made : (content : Content) (d e : PlainDurable) → Makes content d → 
 one_made content d e a b =
     one_end content.version b.first content.payloads d e (subst (λ (f : PlainDurable). Leads content.version f content.payloads d) (one_durable content.version a.first b.first content.snapshot a.kept b.kept) a.leads) b.leads
 
--- where a payload leads nowhere, all of them don't
+-- if one payload leads nowhere, all together lead nowhere
 pub stopped : (version : ℕ) (first : PlainDurable) (done : List (List ℕ)) (p : List ℕ) (rest : List (List ℕ)) (d e : PlainDurable) → Leads version first done d → ((xs : List Recorded) → IsRecorded version xs p → FollowInTurn d xs → ⊥) → Leads version first (done ++ p ∷ rest) e → ⊥
 stopped version first [] p rest d e led none all = none all.0 all.1 (subst (λ (f : PlainDurable). FollowInTurn f all.0) led all.2)
 stopped version first (q ∷ done) p rest d e led none all =
@@ -103,7 +103,7 @@ module _ (payloads : List (Vec ℕ Global)) (i : ℕ) (p : Vec ℕ Global) (lt :
         length-counted p.items,
       )
 
--- what alone has a payload doesn't follow
+-- the only group that has a payload doesn't follow
 pub none_follows : {A : Type 0} (version : ℕ) (r : Result A GroupFault) (ys : List Recorded) (d : PlainDurable) (p : List ℕ) → IsRecorded version ys p → IfErr r (λ e. e ≡ NoForm → ¬ FollowInTurn d ys)
     → IfErr r (λ e. e ≡ NoForm → (xs : List Recorded) → IsRecorded version xs p → ¬ FollowInTurn d xs)
 none_follows version (Ok a) ys d p is none = tt

@@ -5,7 +5,7 @@ use Rattle.pf_core.specs.Durable.Changes.{PlainDurable}
 use Rattle.pf_store.specs.{Lengths.snapshot_length, Snapshots.{EndsInSnapshot, IsBankOf}}
 use Rattle.pf_store.proofs.Sized.{snapshot_long}
 
--- a front for a snapshot of so many bytes, the snapshot, and the gate
+-- a front for a snapshot of n bytes, the snapshot, and the gate
 pub bank_of : (generation : ℕ) (d : PlainDurable) (bank : NextBank) (n : ℕ) (started pushed : List ℕ) → n ≡ snapshot_length d → started ≡ front NEWEST (generation + 1) n
     → EndsInSnapshot NEWEST d started pushed → bank.behind.items ≡ pushed ++ 0 ∷ [] → bank.length ≡ n → IsBankOf generation bank d
 bank_of generation d bank n started pushed long begins ends closed is_long =

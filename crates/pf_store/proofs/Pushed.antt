@@ -1,4 +1,4 @@
--- What is put behind bytes fits its form.
+-- What is appended to bytes fits its form.
 use Rattle.std.proofs.{Common.{◌≡◌, ◌≤◌, ◌&&◌, ℕ, Bool, true, false, T, List, [], ◌∷◌, length, map, refl, sym, arith}, lemmas.{List.length-map, Bool.Decides.nat_tests}}
 use Rattle.std.specs.{Cmp.Lexicographic.nat_list_cmp_total, FinMap.is_sorted, List.AllByRecursion, Ordering.is_lt}
 use Rattle.pf_addr.specs.Path.Names.{name_order}
@@ -55,13 +55,13 @@ pub rule_list_fits : (version : ℕ) (rs : List PlainRule) → length rs ≤ RUL
 unfolding rule_list_form
 rule_list_fits version rs le fits = (fits, few RULE_LIMIT rs plain_rule le)
 
--- what an item's data fit
+-- an item whose data fit their form has one
 pub item_formed : (version : ℕ) (i : Item) → Fits (item_form version) (plain_item i) → has_item_form i ≡ true
 unfolding item_form tables_form defined_form
 item_formed version (item.Rules r) fits = refl
 item_formed version (item.Tables p ts) fits = rw (sym (length-map ts plain_named)) (fits.0.1.1)
 
--- changes fit a group where each fits its own form
+-- changes fit a group if each fits its own form
 pub made_fit : {C : Type 0} (as_plain : C → PlainChange) (version : ℕ) (cs : List C) → is_group cs ≡ true
     → AllByRecursion (Fits (change_form version)) (map (λ c. plain_record (made (as_plain c))) cs) → Fits (group_form version) (map (λ c. plain_record (made (as_plain c))) cs)
 unfolding group_form

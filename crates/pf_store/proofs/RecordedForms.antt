@@ -1,4 +1,4 @@
--- What is recorded is told by its data, and its data by its bytes.
+-- Data determine what is recorded, and bytes determine the data.
 use Rattle.std.proofs.{Common.{◌≡◌, ◌<◌, ◌^◌, ◌==◌, ◌&&◌, not, ℕ, true, List, [], ◌∷◌, length, map, refl, sym, ap, ◌∙◌, subst, inl, inr, arith}, lemmas.{List.length-map, Bool.Decides.nat_tests}}
 use Rattle.std.specs.{Prelude.nat_le, List.{list_all, AllByRecursion}}
 use Rattle.pf_form.specs.{Bytes.{BasicForms.number_bytes, Forms.{list, Value, Fits, Spells, number, onto}}, Laws.Bytes.{Onto.onto_is, Texts.one_value}}
@@ -35,7 +35,7 @@ items_have_form : (version : ℕ) (vs : List (Value ItemShape)) → AllByRecursi
 items_have_form version [] each = refl
 items_have_form version (v ∷ vs) each = rw (item_has_form version v each.0) (items_have_form version vs each.1)
 
--- what data tell has bytes where the data fit
+-- what data say has bytes if the data fit
 pub formed_of : (version : ℕ) (v : Value ChangeShape) → Fits (change_form version) v → has_form (record_in v) ≡ true
 unfolding change_form edit_form items_form
 formed_of version (inl vs) fits =
@@ -49,7 +49,7 @@ formed_of version (inr (inr (inr (inr (inl steps))))) fits = grind (arith, nat_t
 formed_of version (inr (inr (inr (inr (inr (inl name)))))) fits = refl
 formed_of version (inr (inr (inr (inr (inr (inr epoch)))))) fits = grind (arith, nat_tests, fits.0.0.0.0.0.0)
 
--- where its data tell what is recorded, and fit, it has bytes
+-- if data determine what is recorded, and fit, it has bytes
 pub formed : (version : ℕ) (r : Recorded) → record_in (plain_record r) ≡ r → Fits (change_form version) (plain_record r) → has_form r ≡ true
 formed version r told fits = subst (λ x. has_form x ≡ true) told (formed_of version (plain_record r) fits)
 
@@ -59,7 +59,7 @@ each_formed : (version : ℕ) (vs : List (Value ChangeShape)) → AllByRecursion
 each_formed version [] each = refl
 each_formed version (v ∷ vs) each = rw (formed_of version v each.0) (each_formed version vs each.1)
 
--- where their data tell what is recorded, and fit, a group has bytes
+-- if data determine what a group records, and fit, it has bytes
 pub group_formed : (version : ℕ) (rs : List Recorded) → map record_in (map plain_record rs) ≡ rs → Fits (group_form version) (map plain_record rs) → have_form rs ≡ true
 unfolding group_form
 group_formed version rs told fits =
@@ -67,7 +67,7 @@ group_formed version rs told fits =
     let each : list_all has_form rs ≡ true = subst (λ xs. list_all has_form xs ≡ true) told (each_formed version (map plain_record rs) fits.0.1) in
     rw (many) each
 
--- what bytes record has bytes
+-- what was read from bytes has bytes
 pub recorded_formed : (version : ℕ) (rs : List Recorded) (payload : List ℕ) → IsRecorded version rs payload → have_form rs ≡ true
 recorded_formed version rs payload is = group_formed version rs (sym is.told) is.spelled.fits
 
@@ -107,12 +107,12 @@ opening_spelled version epoch out lt is =
 pub opening_pushed : (version epoch : ℕ) (out : List ℕ) → epoch < 256 ^ 4 → out ≡ onto (number 4) epoch (1 ∷ 7 ∷ []) → IsRecorded version (opens epoch ∷ []) out
 opening_pushed version epoch out lt is = spelled version (opens epoch ∷ []) out refl (opening_spelled version epoch out lt is)
 
--- bytes are those of one group at most
+-- bytes are those of at most one group
 pub one_group : (version : ℕ) (rs ss : List Recorded) (bytes : List ℕ) → IsRecorded version rs bytes → IsRecorded version ss bytes → rs ≡ ss
 one_group version rs ss bytes a b =
     a.told ∙ ap (map record_in) (one_value (group_form version) bytes (map plain_record rs) (map plain_record ss) a.spelled b.spelled) ∙ sym b.told
 
--- and what is recorded has the bytes of some data that tell it
+-- and what is recorded has the bytes of some data that determine it
 pub none_told : {A : Type 0} (version : ℕ) (rs : List Recorded) (bytes : List ℕ) → ((v : Value (list ChangeShape)) → Spells (group_form version) v bytes → A)
     → IsRecorded version rs bytes → A
 none_told version rs bytes refuses is = refuses (map plain_record rs) is.spelled

@@ -1,4 +1,4 @@
--- A record whose payload was pushed behind the four bytes of its length.
+-- A record whose payload was pushed after the four bytes of its length.
 use Rattle.std.proofs.Common.{◌≡◌, ◌+◌, ◌++◌, ℕ, List, length, drop, ◌∙◌, ap, subst, arith, length-append}
 use Rattle.std.proofs.lemmas.List.{drop_at}
 use Rattle.pf_journal.specs.{Journal.IsOf, declared.journal.Record.Record}

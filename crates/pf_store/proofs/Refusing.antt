@@ -1,4 +1,4 @@
--- What holds something isn't refused as nothing.
+-- An image that holds something isn't refused as one that holds nothing.
 use Rattle.std.proofs.Common.{◌≡◌, ◌≢◌, ◌⊎◌, ⊎_elim, ◌+◌, ◌^◌, ◌<◌, inl, inr, ℕ, List, length, refl, ◌∙◌, ap, subst, arith}
 use Rattle.pf_journal.specs.Records.{records, region, IsFront, StandsFor}
 use Rattle.pf_journal.proofs.Parsing.{one_front, front_of}
@@ -13,7 +13,7 @@ use Rattle.pf_store.specs.declared.store.fault.OpenFault.{OpenFault}
 use Rattle.pf_store.specs.declared.store.fault.OpenFault.TheVariants.{BadSize, NoBank, Corrupt, Memory, Fault, EpochsExhausted, Full, Places}
 use Rattle.pf_store.proofs.{Durables.one_durable, Leading.{one_made, stopped}}
 
--- what makes something doesn't break off
+-- content that makes something doesn't break off
 makes_some : (torn : Type 0) (bank : ℕ) (content : Content) (place : ℕ) (d : PlainDurable) → ¬ torn → Makes content d → MakesNone torn bank content place → ⊥
 makes_some torn bank content place d whole makes (inl none) = none.0 makes.first makes.kept
 makes_some torn bank content place d whole makes (inr (inl none)) =
@@ -42,7 +42,7 @@ held_behind image place d held b =
     })
     b.none
 
--- a look is refused by chance alone
+-- a look fails only when out of memory or by a fault of the device
 none_refused : (image : List ℕ) (e : LookFault) (d : PlainDurable) (held : Holds image d) → generation_of image d held < 2 ^ 63 → (e ≢ looking.Memory) → (e ≢ looking.Fault) → IsRefused e image → ⊥
 none_refused image e d held early no_memory no_fault refused = ⊎_elim no_memory no_fault (holding.by_chance image e held.content held.bank early refused)
 
@@ -57,7 +57,7 @@ held_is_found image EpochsExhausted d held early refused says = says
 held_is_found image Full d held early refused says = says
 held_is_found image Places d held early refused says = says
 
--- broken off at such a place, told otherwise
+-- the same error, with another fact about its place
 pub breaks_off : (e : OpenFault) (P Q : ℕ → Type 0) → ((n : ℕ) → P n → Q n) → BreaksOff e P → BreaksOff e Q
 breaks_off BadSize P Q tell off = off
 breaks_off NoBank P Q tell off = off
@@ -68,20 +68,20 @@ breaks_off EpochsExhausted P Q tell off = off
 breaks_off Full P Q tell off = off
 breaks_off Places P Q tell off = off
 
--- ---- what a look found, and no state in it
+-- ---- a look found something, but no state in it
 
 torn_as : (A B : Type 0) (bank : ℕ) (content : Content) (place : ℕ) → (A → B) → MakesNone A bank content place → MakesNone B bank content place
 torn_as A B bank content place tell (inl none) = inl none
 torn_as A B bank content place tell (inr (inl none)) = inr (inl none)
 torn_as A B bank content place tell (inr (inr t)) = inr (inr (record { d = t.d; makes = t.makes; open_gate = tell t.open_gate; at = t.at }))
 
--- memory is refused behind the header of the bank that counts
+-- out of memory after the header of the bank that counts was read
 out_of_memory : (seen : List ℕ) (bank other : ℕ) (content : Content) → IsSize (length seen) → AreBanks (length seen) bank other → Counts seen bank other → content.generation < 2 ^ 63
     → HasSnapshot seen bank content.version content.generation content.snapshot → IsUnopened Memory seen
 out_of_memory seen bank other content size places counts early has =
     (size, (bank, content.version, content.generation, length content.snapshot, record { other = other; banks = places; counts = counts; header = has.header; early = early }))
 
--- so it is where something is held
+-- that may be if something is held
 pub held_in_want : (seen : List ℕ) (d : PlainDurable) (held : Holds seen d) → generation_of seen d held < 2 ^ 63 → IsUnopened Memory seen
 held_in_want seen d held early =
     let h = held.bank.holds in
@@ -111,7 +111,7 @@ unopened seen bank other content torn EpochsExhausted size places counts early h
 unopened seen bank other content torn Full size places counts early has front none off = absurd off
 unopened seen bank other content torn Places size places counts early has front none off = absurd off
 
--- and it isn't for an epoch or for room
+-- and the error isn't about the epoch or about room
 pub by_reading : (e : OpenFault) (P : ℕ → Type 0) → BreaksOff e P → (e ≢ EpochsExhausted) × (e ≢ Full)
 by_reading BadSize P off = absurd off
 by_reading NoBank P off = absurd off
@@ -124,7 +124,7 @@ by_reading Places P off = absurd off
 
 -- ---- what may be opened
 
--- one bank counts in an image, and has one closed gate
+-- only one bank counts in an image, and its records end at only one closed gate
 pub one_at : (image : List ℕ) (d e : PlainDurable) (a : Holds image d) (b : Holds image e) → a.bank.at ≡ b.bank.at
 one_at image d e a b =
     one_place image (length image) a.bank.at a.bank.other b.bank.at b.bank.other a.bank.holds.banks b.bank.holds.banks a.bank.holds.counts b.bank.holds.counts

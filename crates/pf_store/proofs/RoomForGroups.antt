@@ -1,4 +1,4 @@
--- A group fits where its record finds room, and what can be wanted has bytes there.
+-- A group fits exactly if its record finds room, and what can be wanted has bytes then.
 use Rattle.std.proofs.{Common.{◌≡◌, ℕ, ◌+◌, ◌^◌, ◌<◌, ◌≤◌, Bool, true, false, List, [], ◌∷◌, length, refl, ◌∙◌, arith}, lemmas.{List.length-map, Bool.Decides.nat_tests}}
 use Rattle.std.specs.{Prelude.{◌↔◌, ◌&&◌, nat_le, nat_lt}, List.list_all}
 use Rattle.pf_core.specs.Durable.Changes.{PlainDurable, PlainChange, commits, adds, deletes, sets, acts, removes}
@@ -47,7 +47,7 @@ pub group-fits : (size : ℕ) (before next : PlainDurable) (es : List PlainChang
 unfolding group_fits
 group-fits size before next es = (finds size before next es, fits size before next es)
 
--- ---- what can be wanted has bytes, where a bank has room for them
+-- ---- what can be wanted has bytes if a bank has room for them
 
 is_short : {A : Type 0} (xs : List A) → length xs < 2 ^ 32 → nat_lt (length xs) (2 ^ 32) ≡ true
 is_short xs few = grind (arith, nat_tests, few)

@@ -1,4 +1,4 @@
--- What a record more, or a switch, leaves of what is held.
+-- What one more record, or a switch, leaves of what is held.
 use Rattle.std.proofs.Common.{◌≡◌, inl, inr, ℕ, ◌+◌, ◌^◌, ◌<◌, ◌≤◌, Bool, List, length, refl, sym, ap, ◌∙◌, subst, arith}
 use Rattle.std.specs.Prelude.{Result, Ok, Err, IfOk, IfErr}
 use Rattle.pf_disk.specs.Disk.{EachMoment, IsImage, IsSynced}
@@ -17,17 +17,17 @@ not_greater a b none = omega (arith, none)
 pub not_less : (a b : ℕ) → (a < b → ⊥) → b ≤ a
 not_less a b none = omega (arith, none)
 
--- of a result another thing
+-- from one fact about a result to another
 pub on_ok : {T E : Type 0} (r : Result T E) (P Q : T → Type 0) → ((x : T) → P x → Q x) → IfOk r P → IfOk r Q
 on_ok (Ok x) P Q f p = f x p
 on_ok (Err e) P Q f p = tt
 
--- of two things of a result a third
+-- from two facts about a result to a third
 pub on_both : {T E : Type 0} (r : Result T E) (P Q R : T → Type 0) → ((x : T) → P x → Q x → R x) → IfOk r P → IfOk r Q → IfOk r R
 on_both (Ok x) P Q R f p q = f x p q
 on_both (Err e) P Q R f p q = tt
 
--- of three things of a result a fourth
+-- from three facts about a result to a fourth
 pub on_three : {T E : Type 0} (r : Result T E) (P Q R S : T → Type 0) → ((x : T) → P x → Q x → R x → S x) → IfOk r P → IfOk r Q → IfOk r R → IfOk r S
 on_three (Ok x) P Q R S f p q s = f x p q s
 on_three (Err e) P Q R S f p q s = tt
@@ -59,7 +59,7 @@ pub still : (content : Content) (d : PlainDurable) (snapshot : List ℕ) → Mak
 still content d snapshot makes is c (inl bank) = held content d c makes bank
 still content d snapshot makes is c (inr bank) = held (switched content NEWEST snapshot) d c (makes_switched content d snapshot is) bank
 
--- an image of one content by its generation, or one of two
+-- the generation of an image that holds this content, or one of two
 pub no_later : (g : ℕ) (content : Content) → content.generation ≤ g → (c : List ℕ) → snap.Holds c content → IsNoLaterThan g c
 no_later g content low c has d h = subst (λ (k : Content). k.generation ≤ g) (one_content c content h.content has h.bank) low
 
@@ -67,7 +67,7 @@ pub neither_later : (g : ℕ) (a b : Content) → a.generation ≤ g → b.gener
 neither_later g a b one other c (inl has) = no_later g a one c has
 neither_later g a b one other c (inr has) = no_later g b other c has
 
--- what either of two leaves room for
+-- an image that holds either of two leaves room
 roomy_as : (seen : List ℕ) (d : PlainDurable) → IsRoomy (bank_size (length seen)) d → (c : List ℕ) → IsAsLongAs seen c → Holds c d → LeavesRoom c
 roomy_as seen d roomy c long has e holds =
     roomy_in NEWEST holds.content.version (bank_size (length c)) e
@@ -78,7 +78,7 @@ pub roomy_either : (seen : List ℕ) (d e : PlainDurable) → IsRoomy (bank_size
 roomy_either seen d e one other c long (inl has) = roomy_as seen d one c long has
 roomy_either seen d e one other c long (inr has) = roomy_as seen e other c long has
 
--- each image of a device that reads as it, where nothing is unsynced
+-- each image of a device that holds this, if nothing is unsynced
 pub held_synced : (seen : List ℕ) (unsynced : ℕ → Bool) (d : PlainDurable) → IsSynced unsynced → Holds seen d → (c : List ℕ) → IsImage seen unsynced c → Holds c d
 held_synced seen unsynced d synced holds c image = subst (λ (l : List ℕ). Holds l d) (sym (only_read seen unsynced c synced image)) holds
 
@@ -88,11 +88,11 @@ module _ {D : Type 0} (seen : D → List ℕ) (unsynced : D → ℕ → Bool) wh
   standing store d s = held_synced (seen store.disk) (unsynced store.disk) d s.synced s.holds
 
   module _ (faults : D → ℕ) (banks : Banks D) (d : PlainDurable) where
-    -- the read of banks that hold it
+    -- what the device of banks that hold it reads as
     abbrev pub have_held : HaveKept seen banks d → Holds (seen banks.journal.disk) d
     have_held k = held k.content d (seen banks.journal.disk) k.makes (record { at = banks.at; other = banks.other; holds = k.keeps.holds })
 
-    -- what a store's banks hold their fields tell
+    -- the fields of a store's banks agree with what they hold
     pub store_has : IsStore seen unsynced faults banks → Holds (seen banks.journal.disk) d → HaveKept seen banks d
     store_has s h =
         let there : snap.Holds (seen banks.journal.disk) s.content = record { at = banks.at; other = banks.other; holds = s.keeps.holds } in
@@ -106,7 +106,7 @@ module _ {D : Type 0} (seen : D → List ℕ) (unsynced : D → ℕ → Bool) wh
     stores ready k few = record { ready = ready; content = k.content; keeps = k.keeps; few = few }
 
     module _ (ready : IsReady seen unsynced banks) (k : HaveKept seen banks d) (n : ℕ) (twelve : n ≡ 12) where
-      -- an opening's record has room nowhere
+      -- an opening's record has no room anywhere
       pub tells_full : (e : PlainDurable) → IsFull (seen banks.journal.disk) e
           → (banks.journal.end < banks.journal.gate + n) × (bank_size (length (seen banks.journal.disk)) < BANK_HEADER + snapshot_length d + n)
       tells_full e full =
@@ -127,7 +127,7 @@ module _ {D : Type 0} (seen : D → List ℕ) (unsynced : D → ℕ → Bool) wh
         there = omega (arith, full.1, twelve);
       }
 
-      -- an opening's record has room in the bank that counts, or hasn't
+      -- whether an opening's record has room in the bank that counts
       module _ (e : PlainDurable) (held : Holds (seen banks.journal.disk) e) where
         abbrev image : List ℕ
         image = seen banks.journal.disk
@@ -148,7 +148,7 @@ module _ {D : Type 0} (seen : D → List ℕ) (unsynced : D → ℕ → Bool) wh
         pub by_generation : generation_of image e held ≡ banks.generation
         by_generation = ap (λ (c : Content). c.generation) (one_content image held.content k.content held.bank (have_held k).bank) ∙ sym k.keeps.generation
 
-  -- there is one version so far
+  -- there is only one version so far
   one_version : (banks : Banks D) (d : PlainDurable) (k : HaveKept seen banks d) → banks.version ≡ 1
   one_version banks d k =
       let known : (1 ≤ k.content.version) × (k.content.version ≤ 1) = k.keeps.holds.bank.front.header.known in
@@ -184,7 +184,7 @@ module _ {D : Type 0} (seen : D → List ℕ) (unsynced : D → ℕ → Bool) wh
     pub both_generations : (old mid new : D) (g : ℕ) → EachMoment moment left_since old mid (IsNoLaterThan g) → EachMoment moment left_since mid new (IsNoLaterThan g) → EachMoment moment left_since old new (IsNoLaterThan g)
     both_generations old mid new g first second = and_then moment left_since old mid new (IsNoLaterThan g) first second
 
-    -- nothing has become of it yet
+    -- nothing has changed yet
     pub before : (old new : D) (d e : PlainDurable) → EachMoment moment left_since old new (λ c. Holds c d) → EachMoment moment left_since old new (HoldsEither d e)
     before old new d e run = weakened moment left_since old new (λ c. Holds c d) (HoldsEither d e) run (λ c has. inl has)
 

@@ -1,4 +1,4 @@
--- How many bytes what is kept takes: in each version as many, and part by part.
+-- How many bytes what is kept takes: the same in each version, and part by part.
 use Rattle.std.proofs.{Common.{◌≡◌, ◌≤◌, ◌+◌, ◌*◌, ℕ, List, [], ◌∷◌, length, map, refl, ap, ◌∙◌, arith}, lemmas.List.Sums.sum_by-cons}
 use Rattle.std.specs.List.{sum_by}
 use Rattle.pf_addr.specs.Path.PathForms.{path_form, table_name_form}
@@ -57,7 +57,7 @@ raised_roomy size d roomy = omega (arith, raised_long d, roomy)
 
 -- ---- part by part
 
--- each has so many
+-- ones add up to the length
 ones : (bytes : List ℕ) → sum_by (λ b. 1) bytes ≡ length bytes
 ones [] = refl
 ones (b ∷ bytes) = omega (arith, sum_by-cons (λ b. 1) b bytes, ones bytes)

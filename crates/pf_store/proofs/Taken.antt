@@ -24,7 +24,7 @@ plain_table r = plain_named r.table
 abbrev in_turn : List PlainDefinedTable → Bool
 in_turn = in_order (λ a b. is_lt (name_order a.0 b.0))
 
--- rows of which each comes before the next are tables in the order of their names
+-- if each row comes before the next, they are tables in the order of their names
 pub rows_sorted : (rows : List StoredTable) → in_order named_before (map plain_table rows) ≡ true
     → T (is_sorted name_order (map table_of rows))
 rows_sorted rows is = sorted_of nat_list_cmp_total (map table_of rows) (back rows is) where
@@ -72,7 +72,7 @@ items_read version rows items before after are many is =
     let all : is_commit (map plain_row rows) ≡ true = as_many rows items are ∙ many in
     rw (are, plain_items rows, is, all) refl
 
--- and none or more
+-- none, or more than those
 pub items_refused : (version : ℕ) (rows : List StoredItem) (items : List Item) (before after : List ℕ) → items ≡ map item_of rows
     → is_commit items ≡ false
     → reads (counted 1 (item_form version)) before ≡ Ok (map plain_row rows, after) → reads (items_form version) before ≡ Err (Bad (length before))
@@ -94,7 +94,7 @@ group_read version rs before after many is =
     let all : is_group (map plain_record rs) ≡ true = many_records rs ∙ many in
     rw (is, all) refl
 
--- and none or more
+-- none, or more than those
 pub group_refused : (version : ℕ) (rs : List Recorded) (before after : List ℕ) → is_group rs ≡ false
     → reads (counted 1 (change_form version)) before ≡ Ok (map plain_record rs, after) → reads (group_form version) before ≡ Err (Bad (length before))
 unfolding group_form

@@ -14,7 +14,7 @@ use Rattle.pf_store.proofs.DurablesWithin.{durable_within, entries_few}
 use Rattle.pf_anchor.specs.Forms.{NamedShape, named_form, named_in, rule_list_form, rules_form}
 use Rattle.pf_store.specs.{Groups.{ChangeShape, ItemShape, change_form, defined_form, group_form, item_form, item_in, items_form, plain_record, record_in, tables_form, IsRecorded}, Stores.{FollowInTurn, Follows, left_by, left_by_all, Leads, Makes}}
 
--- ---- what a commit's bytes tell
+-- ---- what is read from a commit's bytes
 
 all_behind : {A : Type 0} (P : A → Type 0) (xs ys : List A) → AllByRecursion P xs → AllByRecursion P ys → AllByRecursion P (xs ++ ys)
 all_behind P [] ys one other = other

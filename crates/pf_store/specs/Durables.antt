@@ -1,15 +1,15 @@
--- Which of what is kept has bytes, and which bytes are its snapshot in a version. Their form is pf_core's.
+-- When what is kept has bytes, and which bytes are its snapshot in a version. Their form is `durable_form` of pf_core.
 use Rattle.std.specs.Prelude.{◌≡◌, ℕ, ◌&&◌, Bool, false, List, [], ◌∷◌, replicate, codes}
 use Rattle.pf_addr.specs.declared.addr.Family.TheVariants.{V4}
 use Rattle.pf_form.specs.Bytes.Forms.{Spells}
 use Rattle.pf_anchor.specs.{declared.limits.TheConstants.{RULESET_LIMIT, TABLE_COUNT_LIMIT}, Tables.placed_table, Forms.{at_most, configured}}
 use Rattle.pf_core.specs.Durable.{Changes.{PlainDurable, durable_with}, Forms.{durable_form, plain_durable, durable_in}}
 
--- Which of what is kept has bytes: no more rulesets and tables than there may be. All else that its form asks, its types keep.
+-- What is kept has bytes if it has no more rulesets and tables than allowed. Its types guarantee all else that the form requires.
 abbrev pub durable_has_form : PlainDurable → Bool
 durable_has_form d = at_most RULESET_LIMIT d.config.rulesets && at_most TABLE_COUNT_LIMIT d.config.tables
 
--- These bytes are the snapshot of what is kept, in a version: its data spell them, and tell it.
+-- These bytes are the snapshot of what is kept, in a version: its data spell them, and determine it.
 pub record IsDurable (version : ℕ) (d : PlainDurable) (bytes : List ℕ) : Type 0 where
   pub spelled : Spells (durable_form version) (plain_durable d) bytes
   pub told : d ≡ durable_in (plain_durable d)
@@ -20,7 +20,7 @@ pub record IsDurable (version : ℕ) (d : PlainDurable) (bytes : List ℕ) : Typ
 abbrev pub example_kept : PlainDurable
 example_kept = durable_with 0 (configured [] (placed_table [] (codes "t") ((record { family = V4; len = 8; front = 10 }, false) ∷ []) ∷ [])) []
 
--- behind the numbers of rulesets and tables: its path, its name, the number of its entries and the entry; then that of states
+-- the epoch, the numbers of rulesets and of tables; the table's path, its name, the number of its entries, the entry; the number of states
 abbrev pub example_bytes : List ℕ
 example_bytes =
     0 ∷ 0 ∷ 0 ∷ 0 ∷ 0 ∷ 0 ∷ 0 ∷ 0 ∷ 0 ∷ 0 ∷ 0 ∷ 1 ∷ 0 ∷ 1 ∷ 116 ∷ 0 ∷ 0 ∷ 0 ∷ 1 ∷ 4 ∷ 8 ∷ 0 ∷ 0 ∷ 10 ∷ 0 ∷ 0 ∷ 0 ∷ replicate 16 0

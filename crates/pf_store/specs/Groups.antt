@@ -1,7 +1,7 @@
--- What a bank's records keep, in bytes, in each version: a group of changes and openings. First how many there are, in one byte, 1 to 64,
--- and then each.
+-- What a bank's records keep, in bytes, in each version: a group of changes and openings. First their number in one byte, 1 to 64, and
+-- then each.
 --
---   1 commit: how many it replaces, in one byte, 1 to 64, and then each:
+--   1 commit: how many rulesets it replaces, in one byte, 1 to 64, and then each:
 --       1 and the rules at a path: the path, their number in four bytes, each rule
 --       2 and the tables at a path that were defined: the path, their number in four bytes, and of each its name and its entries
 --   2 add, 3 delete, 4 set: the path and the name of a table, and the entries as handed in
@@ -9,8 +9,8 @@
 --   6 the removal of a state: its name
 --   7 an opening: its epoch in four bytes
 --
--- Entries stand behind their number in four bytes. Those of a table that was defined stand in its order, no network twice, and the
--- tables in that of their names.
+-- Entries come after their number in four bytes. Those of a table that was defined are in its order, no network twice, and the tables in
+-- that of their names.
 use Rattle.std.specs.{Prelude.{◌≡◌, ℕ, ◌==◌, ◌^◌, ◌&&◌, not, nat_le, nat_lt, Bool, true, List, [], ◌∷◌, length, map}, List.list_all, Ordering.is_lt}
 use Rattle.std.proofs.Common.{inl, inr}
 use Rattle.pf_addr.specs.Path.{Names.name_order, PathForms.{TextShape, path_form, table_name_form}}
@@ -91,7 +91,7 @@ plain_record (made (acts steps)) = inr (inr (inr (inr (inl (map plain_step steps
 plain_record (made (removes name)) = inr (inr (inr (inr (inr (inl (plain_name name))))))
 plain_record (opens epoch) = inr (inr (inr (inr (inr (inr epoch)))))
 
--- ---- what bytes tell
+-- ---- what is read from bytes
 
 abbrev pub item_in : Value ItemShape → Item
 item_in (inl v) = item.Rules (ruled_in v)
@@ -115,7 +115,7 @@ abbrev pub has_item_form : Item → Bool
 has_item_form (item.Rules r) = true
 has_item_form (item.Tables p named) = at_most OFFERED_TABLE_LIMIT named
 
--- of a commit as many as it may name, each with as many tables as a ticket takes, and lists whose numbers have four bytes
+-- a commit has as many items as it may name, each with no more tables than a ticket takes; the number of a list fits in four bytes
 abbrev pub has_form : Recorded → Bool
 has_form (made (commits items)) = is_commit items && list_all has_item_form items
 has_form (made (adds p name xs)) = is_short xs
@@ -125,7 +125,7 @@ has_form (made (acts steps)) = is_short steps
 has_form (made (removes name)) = true
 has_form (opens epoch) = nat_lt epoch (2 ^ 32)
 
--- What a command can want has bytes, where it isn't longer than any bank: then lists are short too.
+-- What a command can want: it has bytes unless it is longer than any bank, since then its lists are short too.
 abbrev pub can_be_wanted : PlainChange → Bool
 can_be_wanted (commits items) = is_commit items && list_all has_item_form items
 can_be_wanted (adds p name xs) = true
@@ -140,16 +140,16 @@ can_be_wanted (removes name) = true
 abbrev pub made_all : List PlainChange → List Recorded
 made_all es = map made es
 
--- as many as one record keeps, of which each has bytes
+-- as many as one record keeps, and each has bytes
 abbrev pub have_form : List Recorded → Bool
 have_form rs = is_group rs && list_all has_form rs
 
--- The payload is the bytes of a group, in a version: its data spell them, and tell it.
+-- The payload is the bytes of a group, in a version: its data spell them, and determine it.
 pub record IsRecorded (version : ℕ) (rs : List Recorded) (payload : List ℕ) : Type 0 where
   pub spelled : Spells (group_form version) (map plain_record rs) payload
   pub told : rs ≡ map record_in (map plain_record rs)
 
--- The record is of a payload, the bytes of a group in a version.
+-- The record's payload is the bytes of this group, in a version.
 pub record IsRecordOf (version : ℕ) (rs : List Recorded) (whole : Record) : Type 0 where
   pub payload : List ℕ
   pub is : IsOf payload whole

@@ -1,4 +1,4 @@
--- How many bytes what is kept takes in a bank, in the version that is written: in a snapshot, and as the payload of a record.
+-- How many bytes what is kept takes in a bank, in the version that is written: in a snapshot, and in a record's payload.
 use Rattle.std.specs.Prelude.{ℕ, ◌+◌, List, [], ◌∷◌}
 use Rattle.pf_form.specs.Bytes.Forms.{length_of}
 use Rattle.pf_snap.specs.declared.header.TheConstants.{NEWEST}
@@ -22,7 +22,7 @@ snapshot_length d = durable_length NEWEST d
 abbrev pub item_length : Item → ℕ
 item_length i = length_of (item_form NEWEST) (plain_item i)
 
--- a table behind its path
+-- a table, without its path
 abbrev pub named_length : PlainDefinedTable → ℕ
 named_length t = length_of named_form (plain_named t)
 
@@ -32,10 +32,10 @@ edit_length p name es = length_of edit_form (p, (name, plain_entries es))
 abbrev pub step_length : Step → ℕ
 step_length x = length_of (step_form NEWEST) (plain_step x)
 
--- a change or an opening, behind the byte of its kind
+-- a change or an opening, with the byte of its kind
 abbrev pub recorded_length : Recorded → ℕ
 recorded_length r = length_of (change_form NEWEST) (plain_record r)
 
--- a group's: how many there are, in one byte, and each
+-- a group: its number of changes and openings in one byte, and each
 abbrev pub payload_length : List Recorded → ℕ
 payload_length rs = 1 + total recorded_length rs

@@ -7,7 +7,7 @@ pub mod StoreFaults
 pub mod StoreKept
 pub mod Openings
 pub mod Rooms
--- what public clauses cite of the crates below
+-- what public clauses use of the crates below
 pub use Rattle.pf_disk.specs.Disk
 pub use Rattle.pf_journal.specs.Records
 pub use Rattle.pf_snap.specs.Banks

@@ -10,11 +10,11 @@ use Rattle.pf_store.specs.{Durables.IsDurable, Groups.IsRecorded, Lengths.snapsh
 use Rattle.pf_store.specs.declared.{groups.change.Recorded.Recorded, store.fault.OpenFault.OpenFault, store.fault.OpenFault.TheVariants.{BadSize, NoBank, Corrupt, Memory, Fault, EpochsExhausted, Full, Places}}
 use Rattle.pf_store.specs.declared.limits.TheConstants.{OPENING_RECORD}
 
--- The snapshot of the bank of this version at this place is of nothing.
+-- The snapshot of the bank at place `at`, of this version, is of nothing that can be kept.
 abbrev pub BreaksInSnapshot : (version at : ℕ) → List ℕ → ℕ → Type 0
 BreaksInSnapshot version at snapshot place = ((d : PlainDurable) → ¬ IsDurable version d snapshot) × (place ≡ at + BANK_HEADER)
 
--- One of the payloads is of no group that follows what the ones before it leave, where the first record's gate stands at `start`.
+-- One of the payloads is of no group that follows what those before it leave. The first record's gate is at `start`.
 pub record StopsAt (version : ℕ) (first : PlainDurable) (start : ℕ) (payloads : List (List ℕ)) (place : ℕ) : Type 0 where
   pub done : List (List ℕ)
   pub payload : List ℕ
@@ -25,25 +25,25 @@ pub record StopsAt (version : ℕ) (first : PlainDurable) (start : ℕ) (payload
   pub none : (xs : List Recorded) → IsRecorded version xs payload → ¬ FollowInTurn d xs
   pub at : place ≡ start + length (records done)
 
--- Behind such a snapshot it stops.
+-- The snapshot is of something, but one of the payloads after it stops there.
 pub record NoGroup (bank : ℕ) (content : Content) (place : ℕ) : Type 0 where
   pub first : PlainDurable
   pub kept : IsDurable content.version first content.snapshot
   pub stops : StopsAt content.version first (records_start bank content.snapshot) content.payloads place
 
--- All of them lead on, but the gate behind them is open.
+-- All of them lead on, but the gate after them is open.
 pub record IsTorn (torn : Type 0) (bank : ℕ) (content : Content) (place : ℕ) : Type 0 where
   pub d : PlainDurable
   pub makes : Makes content d
   pub open_gate : torn
   pub at : place ≡ records_start bank content.snapshot + length (records content.payloads)
 
--- What the bank at a place has makes nothing: it breaks off at this place.
+-- The content of a bank makes nothing: it breaks off at this place.
 abbrev pub MakesNone : Type 0 → (bank : ℕ) → Content → ℕ → Type 0
 MakesNone torn bank content place =
     BreaksInSnapshot content.version bank content.snapshot place ⊎ (NoGroup bank content place ⊎ IsTorn torn bank content place)
 
--- Behind the header of the bank that counts, which is one that is read, snapshot and records break off at this place.
+-- The header of the bank that counts can be read, but the snapshot and records after it break off at this place.
 pub record BreaksBehind (seen : List ℕ) (place : ℕ) : Type 0 where
   pub bank : ℕ
   pub other : ℕ
@@ -63,23 +63,23 @@ gate_of seen d held = records_start held.bank.at held.content.snapshot + length 
 abbrev pub generation_of : (seen : List ℕ) (d : PlainDurable) → Holds seen d → ℕ
 generation_of seen d held = held.content.generation
 
--- what the image holds, it holds by a generation of so many at most
+-- what the image holds, it holds by a generation of at most g
 abbrev pub IsNoLaterThan : ℕ → List ℕ → Type 0
 IsNoLaterThan g seen = (d : PlainDurable) (held : Holds seen d) → generation_of seen d held ≤ g
 
 abbrev pub IsAsLongAs : List ℕ → List ℕ → Type 0
 IsAsLongAs seen image = length image ≡ length seen
 
--- A bank has 64 bytes left behind a snapshot of what the image holds, in its own version.
+-- A bank has 64 bytes left after a snapshot of what the image holds, in its own version.
 abbrev pub LeavesRoom : List ℕ → Type 0
 LeavesRoom image = (d : PlainDurable) (held : Holds image d) → IsRoomyIn held.content.version (bank_size (length image)) d
 
--- The record of an opening has room behind the others in the bank that counts.
+-- The record of an opening has room after the others in the bank that counts.
 abbrev pub HasRoomHere : (seen : List ℕ) (d : PlainDurable) → Holds seen d → Type 0
 HasRoomHere seen d held = gate_of seen d held + OPENING_RECORD ≤ held.bank.at + bank_size (length seen)
 
--- The image holds what the device that was opened held, its epoch perhaps one greater, by the generation from before or the next one, and
--- leaves room where that did.
+-- The image holds what the opened device held, its epoch perhaps one greater, by the generation from before or the next one, and leaves
+-- room if that did.
 pub record FollowsOn (seen image : List ℕ) : Type 0 where
   pub kept : PlainDurable
   pub held : Holds seen kept
@@ -91,8 +91,8 @@ pub record FollowsOn (seen image : List ℕ) : Type 0 where
 abbrev pub IsOfOpening : List ℕ → (ℕ → Bool) → List ℕ → Type 0
 IsOfOpening seen unsynced image = IsImage seen unsynced image ⊎ FollowsOn seen image
 
--- The record of an opening has room neither behind the others nor in a bank behind a snapshot of what is held: it takes 12 bytes with the
--- gate behind it.
+-- The record of an opening has room neither after the others nor in a bank after a snapshot of what is held: it takes 12 bytes with the
+-- gate after it.
 pub record IsFull (seen : List ℕ) (d : PlainDurable) : Type 0 where
   pub held : Holds seen d
   pub early : generation_of seen d held < 2 ^ 63
@@ -100,8 +100,8 @@ pub record IsFull (seen : List ℕ) (d : PlainDurable) : Type 0 where
   pub here : held.bank.at + bank_size (length seen) < gate_of seen d held + OPENING_RECORD
   pub there : bank_size (length seen) < BANK_HEADER + snapshot_length d + OPENING_RECORD
 
--- What is so of the bytes that a device reads as, where it isn't opened. A fault of the device may come in place of each but that of the
--- size, and want of memory in place of what stands behind a header.
+-- What is true of the bytes that a device reads as, if it isn't opened. `Fault` may take the place of each error but `BadSize`, and
+-- `Memory` that of each error in what comes after the header.
 abbrev pub IsUnopened : OpenFault → List ℕ → Type 0
 IsUnopened BadSize seen = IsRefused looking.BadSize seen
 IsUnopened NoBank seen = IsRefused looking.NoBank seen

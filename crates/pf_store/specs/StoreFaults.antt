@@ -1,4 +1,4 @@
--- Which fault it is, and which of them the device's bytes alone decide.
+-- Which error it is, and which errors depend only on the device's bytes.
 use Rattle.std.specs.Prelude.{ℕ, Bool, true, false, Result, Ok, Err}
 use Rattle.pf_snap.specs.declared.fault.LookFault.{LookFault}
 use Rattle.pf_snap.specs.declared.fault.LookFault.TheVariants as looking
@@ -20,7 +20,7 @@ abbrev pub is_save_fault : {T : Type 0} → Result T SaveFault → Bool
 is_save_fault (Ok x) = false
 is_save_fault (Err e) = is_saving_fault e
 
--- It was done, or the device or memory failed, only where this holds; and it is refused as full only where it doesn't.
+-- `Ok`, `Memory` and `Fault` come only if this holds, and `Full` only if it doesn't.
 abbrev pub TellsRoom : {T : Type 0} → Result T SaveFault → Type 0 → Type 0
 TellsRoom (Ok x) P = P
 TellsRoom (Err saving.Memory) P = P
@@ -54,7 +54,7 @@ SaysNone EpochsExhausted = ⊥
 SaysNone Full = ⊥
 SaysNone Places = ⊥
 
--- corrupt at a place for which P holds, or memory was refused
+-- corrupt at a place for which P holds, or out of memory
 abbrev pub BreaksOff : OpenFault → (ℕ → Type 0) → Type 0
 BreaksOff BadSize P = ⊥
 BreaksOff NoBank P = ⊥
@@ -65,7 +65,7 @@ BreaksOff EpochsExhausted P = ⊥
 BreaksOff Full P = ⊥
 BreaksOff Places P = ⊥
 
--- the same, where it came of looking at a device
+-- the same error, if it came from a look at a device
 abbrev pub unlooked : LookFault → OpenFault
 unlooked looking.BadSize = BadSize
 unlooked looking.NoBank = NoBank
@@ -85,7 +85,7 @@ abbrev pub is_add_fault : {T : Type 0} → Result T AddFault → Bool
 is_add_fault (Ok x) = false
 is_add_fault (Err e) = is_adding_fault e
 
--- why a record wasn't added, where its switch failed
+-- why a record wasn't added, if its switch failed
 abbrev pub switched_to : SwitchFault → AddFault
 switched_to switching.Memory = adding.Memory
 switched_to switching.Fault = adding.Fault

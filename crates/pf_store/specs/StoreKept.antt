@@ -5,8 +5,8 @@ use Rattle.pf_snap.specs.{Banks.{bank_size, Content}, Ready.{IsReady, Keeps}, de
 use Rattle.pf_core.specs.Durable.Changes.{PlainDurable}
 use Rattle.pf_store.specs.Stores.{Holds, Makes}
 
--- What contracts see of a store: its device; how many bytes each of its banks has; the generation of the one that counts, and how many bytes
--- that one has from its closed gate on; whether a save has met a fault.
+-- What contracts see of a store: its device; how many bytes each of its banks has; the generation of the one that counts, and how many
+-- bytes that one has from its closed gate on; whether a save met a fault.
 pub record PlainStore (D : Type 0) : Type 0 where
   pub disk : D
   pub size : ℕ
@@ -28,14 +28,14 @@ pub record Stands {D : Type 0} (seen : D → List ℕ) (unsynced : D → ℕ →
   pub holds : Holds (seen store.disk) d
   pub synced : IsSynced (unsynced store.disk)
 
--- what a store's type keeps as long as it isn't halted
+-- what a store's type guarantees as long as it isn't halted
 pub record IsStore {D : Type 0} (seen : D → List ℕ) (unsynced : D → ℕ → Bool) (faults : D → ℕ) (banks : Banks D) : Type 0 where
   pub ready : IsReady seen unsynced banks
   pub content : Content
   pub keeps : Keeps seen banks content
   pub few : faults banks.journal.disk < 2 ^ 63
 
--- the banks hold what is kept, and their fields tell it
+-- the banks hold what is kept, and their fields agree with it
 pub record HaveKept {D : Type 0} (seen : D → List ℕ) (banks : Banks D) (d : PlainDurable) : Type 0 where
   pub content : Content
   pub keeps : Keeps seen banks content

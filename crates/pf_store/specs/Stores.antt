@@ -1,4 +1,4 @@
--- What a device's image holds: what was kept first and what changes have made of it since.
+-- What a device's image holds: what was kept first, and what changes have made of it since.
 use Rattle.std.specs.Prelude.{◌≡◌, ◌⊎◌, ◌≤◌, ℕ, ◌+◌, true, List, [], ◌∷◌, fold, Ok}
 use Rattle.pf_snap.specs.{Banks.Content, declared.header.TheConstants.{BANK_HEADER, NEWEST}}
 use Rattle.pf_snap.specs.Banks as snap
@@ -19,7 +19,7 @@ abbrev pub left_by : PlainDurable → Recorded → PlainDurable
 left_by d (recorded.Made e) = applied d e
 left_by d (recorded.Opens epoch) = in_epoch epoch d
 
--- Each of a group may come next where those before it have come.
+-- Each of a group may come next after those before it.
 abbrev pub FollowInTurn : PlainDurable → List Recorded → Type 0
 FollowInTurn d [] = Unit {0}
 FollowInTurn d (r ∷ rs) = Follows d r × FollowInTurn (left_by d r) rs
@@ -28,18 +28,18 @@ FollowInTurn d (r ∷ rs) = Follows d r × FollowInTurn (left_by d r) rs
 abbrev pub left_by_all : PlainDurable → List Recorded → PlainDurable
 left_by_all d rs = fold left_by d rs
 
--- The payloads are, in this version, of groups, each of which follows what the ones before it leave, and all of them leave this.
+-- The payloads are those of groups, in this version; each group follows what those before it leave, and all of them leave `e`.
 abbrev pub Leads : (version : ℕ) → PlainDurable → List (List ℕ) → PlainDurable → Type 0
 Leads version d [] e = d ≡ e
 Leads version d (p ∷ ps) e = (xs : List Recorded) × IsRecorded version xs p × FollowInTurn d xs × Leads version (left_by_all d xs) ps e
 
--- The snapshot is of what was kept first, and the payloads lead from there to this, both in the bank's version.
+-- The snapshot is of what was kept first, and the payloads lead from there to `d`, both in the bank's version.
 pub record Makes (content : Content) (d : PlainDurable) : Type 0 where
   pub first : PlainDurable
   pub kept : IsDurable content.version first content.snapshot
   pub leads : Leads content.version first content.payloads d
 
--- The image holds what is kept: so the bank that counts says.
+-- The image holds what is kept, in the bank that counts.
 pub record Holds (image : List ℕ) (d : PlainDurable) : Type 0 where
   pub content : Content
   pub bank : snap.Holds image content
@@ -51,7 +51,7 @@ HoldsEither before next image = Holds image before ⊎ Holds image next
 
 -- ---- room
 
--- A bank of so many bytes has 64 left behind a snapshot of what is kept, in a version: enough for an opening's record.
+-- A bank of `size` bytes has 64 left after a snapshot of what is kept, in a version: enough for an opening's record.
 abbrev pub IsRoomyIn : (version size : ℕ) → PlainDurable → Type 0
 IsRoomyIn version size d = BANK_HEADER + durable_length version d + ROOM_TO_OPEN ≤ size
 
@@ -59,13 +59,13 @@ IsRoomyIn version size d = BANK_HEADER + durable_length version d + ROOM_TO_OPEN
 abbrev pub IsRoomy : (size : ℕ) → PlainDurable → Type 0
 IsRoomy size d = IsRoomyIn NEWEST size d
 
--- A payload of n bytes finds room in banks of so many bytes: one has 64 bytes left behind a snapshot of what is kept then, and room for
--- the payload's record behind one of what is kept before.
+-- A payload of n bytes finds room in banks of `size` bytes: one has 64 bytes left after a snapshot of what is kept then, and room for the
+-- payload's record after one of what is kept before.
 pub record HasRoom (size : ℕ) (before next : PlainDurable) (n : ℕ) : Type 0 where
   pub then : IsRoomy size next
   pub behind : BANK_HEADER + snapshot_length before + (n + AROUND) ≤ size
 
--- changes that have a payload, and it finds room
+-- changes have a payload, and it finds room
 pub record FindsRoom (size : ℕ) (before next : PlainDurable) (es : List PlainChange) : Type 0 where
   pub formed : have_form (made_all es) ≡ true
   pub room : HasRoom size before next (payload_length (made_all es))

@@ -1,15 +1,16 @@
-//! Changes in bytes: what a record's payload means. Read first `specs/Groups.antt`, which has each kind of change by its bytes.
+//! Changes in bytes: what a record's payload means. Start with `specs/Groups.antt`, which has each kind of change by its bytes.
 //!
 //! - `group`: [`write_group`] and [`read_group`]: what one record keeps; `record_group` and `record_opening`: the record itself.
 //! - `as_change`: [`AsChange`]: a change that is handed in as it is, or shared.
 //! - `change`: [`Recorded`]: a change or an opening as a record has it.
 //! - `items`: what a commit replaces, rules or tables.
 //! - `tables`: tables that were defined, and entries.
-//! - `telling`: that what is recorded is told by its data.
-//! - `fault`: why either ends without its result.
-//! - `laws`: a payload is that of one group at most, and how many bytes it has.
+//! - `telling`: that data determine what is recorded.
+//! - `fault`: why a write or a read fails.
+//! - `laws`: a payload is that of at most one group, and how many bytes it has.
 //!
-//! `group` uses all others, `change` uses `items` and `tables`, `items` uses `tables`, and `telling` knows `change`.
+//! `group` uses `as_change`, `change`, `fault` and `telling`; `change` uses `items`, `tables` and `telling`; `items` uses `tables`;
+//! `telling` knows `change`.
 
 mod as_change;
 mod change;

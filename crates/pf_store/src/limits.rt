@@ -1,16 +1,16 @@
-//! How much room a bank keeps. Definitions cite these constants.
+//! How much room a bank keeps. Specs use these constants.
 
-/// Bytes that a snapshot of nothing has.
+/// Bytes of a snapshot of nothing.
 pub const EMPTY_LENGTH: usize = 16;
 
-/// Bytes that a record takes beside its payload: its gate, the payload's length in four bytes, and the gate behind it.
+/// Bytes of a record besides its payload: its gate, the payload's length in four bytes, and the gate after it.
 pub const AROUND: usize = 6;
 
-/// Bytes that an opening's payload has.
+/// Bytes of an opening's payload.
 pub const OPENING_PAYLOAD: usize = 6;
 
-/// Bytes that an opening's record takes.
+/// Bytes of an opening's record, with the gate after it.
 pub const OPENING_RECORD: usize = OPENING_PAYLOAD + AROUND;
 
-/// Bytes that a bank has left behind a snapshot of what is kept, so that there is room for openings' records.
+/// Bytes that a bank has left after a snapshot of what is kept, as room for openings' records.
 pub const ROOM_TO_OPEN: usize = 64;

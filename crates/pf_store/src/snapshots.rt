@@ -1,11 +1,11 @@
-//! All that is kept in bytes: a snapshot. Read first `specs/Durables.antt`, which has its form.
+//! All that is kept in bytes: a snapshot. Start with `specs/Durables.antt`, which has an example; its form is `durable_form` of `pf_core`.
 //!
 //! - `durable`: [`write_durable`] and [`read_durable`].
 //! - `rulesets`, `tables`: the two maps, each of them a list in order.
-//! - `telling`: that what is kept is told by its data.
-//! - `laws`: bytes are those of one thing kept at most, how many there are, and those of two examples.
+//! - `telling`: that data determine what is kept.
+//! - `laws`: bytes are those of at most one thing kept, how many there are, and those of two examples.
 //!
-//! `durable` uses `rulesets`, `tables` and `telling`, and of module `groups` all use how a ruleset's rules and a table stand in bytes.
+//! `durable` uses `rulesets`, `tables` and `telling`. All use module `groups`, for the fault and for how rules and a table stand in bytes.
 
 mod durable;
 mod laws;

@@ -1,17 +1,17 @@
 //! A device that holds what is kept: the bank that counts has a snapshot of what was kept when it was begun, and a record for each group
-//! since. Where a record has no room there, the other bank is begun first.
+//! since. If a record has no room there, the other bank is begun first.
 //!
-//! Read first `specs/Stores.antt`: what an image holds, then `specs/StoreKept.antt`: what contracts see of a store, and
+//! Start with `specs/Stores.antt`: what an image holds. Then read `specs/StoreKept.antt`: what contracts see of a store, and
 //! `specs/Openings.antt`: why a device isn't opened. The modules:
 //!
 //! - `keeping`: [`Store`], which saves changes, and [`Store::open`].
-//! - `adding`: a record more, behind a switch where it has no room.
+//! - `adding`: adds a record, after a switch if it has no room.
 //! - `finding`: [`Store::peek`], what a device holds.
 //! - `formatting`: [`format`], which makes a device hold nothing.
 //! - `replaying`: what a snapshot and payloads make.
-//! - `lengths`: how long a snapshot would be.
-//! - `fault`: why any of them ends without its result.
-//! - `laws`: an image holds one thing at most, which is within all limits.
+//! - `lengths`: how long a snapshot and a payload would be.
+//! - `fault`: why any of them fails.
+//! - `laws`: an image holds at most one thing, within all limits, and when it can be opened; when a group fits.
 
 mod adding;
 mod fault;

@@ -1,4 +1,4 @@
-// Lines over Books, and what is read of a Book's device.
+// Lines played over Books, and what is read of a Book's device.
 ghost use Rattle.pf_book.specs.Books.{IsNamed};
 ghost use Rattle.pf_store_tests.specs.declared.books.TheConstants.{HISTORY_LIMIT};
 
@@ -13,7 +13,7 @@ use std::sync::Wait;
 /// The most changes that a history may have. No rows have so many.
 pub const HISTORY_LIMIT: usize = 1000;
 
-/// Makes a Book of an opening, and hands its device back with what the Book replies to lines.
+/// Makes a Book of an opening, and returns what the Book replies to lines, and its device.
 pub fn replies_over<D: Disk + Drop, J: Chapter, H: Wait + Drop>(
     waits: H,
     alloc: Global,
@@ -47,7 +47,7 @@ pub fn replies<D: Disk + Drop, J: Chapter, H: Wait + Drop>(
     Ok(text)
 }
 
-/// The reply to a line, with bars between its lines. A line that begins with `group` gives the replies to all in it.
+/// The reply to a line, with bars between its lines. A line that begins with `group` gives the replies to all lines in it.
 pub fn reply<D: Disk + Drop, J: Chapter, H: Wait + Drop>(
     alloc: Global,
     book: &mut Book<D, J, H>,
@@ -64,7 +64,7 @@ pub fn reply<D: Disk + Drop, J: Chapter, H: Wait + Drop>(
     text_of(alloc, &reply)
 }
 
-// The replies to the commands of one group, or the refusal of them all. A line that is no command is left out.
+// The replies to the commands of one group, or the refusal of all. A line that isn't a command is left out.
 fn group_replies<D: Disk + Drop, J: Chapter, H: Wait + Drop>(
     alloc: Global,
     book: &mut Book<D, J, H>,
@@ -111,7 +111,7 @@ fn joined(alloc: Global, lines: &str) -> Result<String, AllocError> {
     Ok(text)
 }
 
-/// Where the next record goes on a device of these bytes. 0: they hold nothing.
+/// Where the next record goes on a device of these bytes, or 0 if they hold nothing.
 pub fn closed_gate(alloc: Global, bytes: &[u8]) -> Result<usize, AllocError> {
     let mut disk = MemDisk::of(alloc, Vec::from_slice(alloc, bytes)?)?;
     match look(alloc, &mut disk) {

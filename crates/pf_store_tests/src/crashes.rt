@@ -1,4 +1,4 @@
-// Appends in memory that a crash or a fault cuts.
+// Appends in memory that a crash or a fault cuts short.
 ghost use Rattle.std.specs.Prelude.{◌≡◌, ◌≤◌, length};
 ghost use Rattle.pf_disk.specs.{Disk.IsSynced, Filled.FillsAll};
 
@@ -18,7 +18,7 @@ pub fn play(alloc: Global, told: &mut String) -> Result<(), ReadFault> {
     Ok(())
 }
 
-/// A crash at each moment of the second of two appends, calls 5 to 8, and behind it: how many records each fill leaves.
+/// A crash at each moment of the second of two appends, calls 5 to 8, and after it: how many records each fill leaves.
 fn tell_crashes(alloc: Global, told: &mut String) -> Result<(), ReadFault> {
     let Ok(journal) = with_two(alloc, open_gates(alloc)?, END) else {
         return Err(ReadFault::Fault);
@@ -61,7 +61,7 @@ fn left_by(
     Ok(counts)
 }
 
-/// One of the six fills; the last is by these bytes.
+/// One of the six fills; the last one uses these bytes.
 pub fn fill(number: u32, bytes: &[u8]) -> Fill<'_>
     ensures { FillsAll result (length bytes.now) }
 {
@@ -75,7 +75,7 @@ pub fn fill(number: u32, bytes: &[u8]) -> Fill<'_>
     }
 }
 
-/// An append to a device of which calls fail: what it answers, what reached the device below, and what is read there.
+/// An append to a device whose calls fail: what it returns, what reached the device below, and what is read there.
 fn tell_fault(alloc: Global, told: &mut String, disk: FuseDisk<MemDisk>) -> Result<(), ReadFault>
     requires size { END ≤ length (⟦<FuseDisk<MemDisk> as Disk>⟧.seen disk) }
     requires synced { IsSynced (⟦<FuseDisk<MemDisk> as Disk>⟧.unsynced disk) }

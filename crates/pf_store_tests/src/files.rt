@@ -1,4 +1,4 @@
-// Devices over files, beside one in memory. The files lie where the program runs.
+// Devices over files, beside one in memory. The files are in the directory where the program runs.
 ghost use Rattle.std.specs.Prelude.{◌≡◌, length, IfOk};
 ghost use Rattle.pf_disk.specs.Disk.{IsSynced};
 
@@ -18,7 +18,7 @@ pub fn play(rt: &HostRuntime, told: &mut String) -> Result<(), ReadFault> {
     for size in [0, SIZE - 1, SIZE + 1] {
         tell_taken(rt, told, "script", size)?;
     }
-    // Its length is 0, and 0 bytes are read from it, but no system syncs it: so an opening syncs, as later syncs do.
+    // Its length is 0, and 0 bytes are read from it, but no system syncs it: so taking a file as a device syncs it, as later syncs do.
     tell_taken(rt, told, "/dev/null", 0)?;
     tell_other_bytes(rt, told)?;
     tell_read_only(rt, told)
@@ -42,7 +42,7 @@ fn device(alloc: Global, file: File) -> Result<FileDisk, ReadFault>
     }
 }
 
-/// A thousand reads, writes and syncs, the same ones each time: all that the reads gave.
+/// Makes a thousand reads, writes and syncs, the same ones each time: returns all that the reads gave.
 fn played<D: Disk>(alloc: Global, disk: &mut D) -> Result<Vec<u8>, ReadFault> {
     let mut random = 0x2545_F491_4F6C_DD1Du64;
     let mut given = Vec::new(alloc);
@@ -55,7 +55,7 @@ fn played<D: Disk>(alloc: Global, disk: &mut D) -> Result<Vec<u8>, ReadFault> {
     Ok(given)
 }
 
-/// The call that this number stands for. What a read gives is added.
+/// Makes the call that this number stands for. What a read gives is appended.
 fn play_call<D: Disk>(disk: &mut D, random: u64, given: &mut Vec<u8>) -> Result<(), ReadFault> {
     if disk.size() != SIZE || disk.faults() != 0 {
         return Err(ReadFault::Fault);
@@ -113,7 +113,7 @@ fn tell_journal(rt: &HostRuntime, told: &mut String) -> Result<(), ReadFault> {
     Ok(())
 }
 
-/// What a file is taken as where it should have so many bytes.
+/// What a file is taken as if it should have `size` bytes.
 fn tell_taken(
     rt: &HostRuntime,
     told: &mut String,
@@ -127,7 +127,7 @@ fn tell_taken(
     Ok(())
 }
 
-/// What another program writes isn't what was written here.
+/// A read fails after another program wrote other bytes than were written here.
 fn tell_other_bytes(rt: &HostRuntime, told: &mut String) -> Result<(), ReadFault> {
     let mut disk = device(rt.alloc(), open(rt, "journal")?)?;
     let mut buffer = [0u8; 8];
@@ -141,7 +141,7 @@ fn tell_other_bytes(rt: &HostRuntime, told: &mut String) -> Result<(), ReadFault
     Ok(())
 }
 
-/// A file that is open for reading alone takes no write, and then nothing more.
+/// A file that is open for reading only takes no write, and nothing more after that.
 fn tell_read_only(rt: &HostRuntime, told: &mut String) -> Result<(), ReadFault> {
     let Ok(file) = File::open(rt, "journal") else {
         return Err(ReadFault::Fault);

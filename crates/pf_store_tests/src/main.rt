@@ -1,14 +1,19 @@
-//! Plays the disk, the journal and histories over devices, and tells what came of it: of what no clause says, and of files. Its
-//! stored output, `stdout`, is what it has to tell wherever it runs; the files that it works on lie in `data`, and lie where it runs.
+//! A program of tests: it plays disks, journals and histories over devices, and writes what came of them. It shows what no contract says,
+//! and what files do. `stdout` is what it has to write wherever it runs. The files that it works on are in `data`; it expects them in the
+//! directory where it runs.
 //!
-//! It knows the crates below by what they give out. Read `stdout` first, and then the module of each part:
+//! It knows the public items of the crates below. It doesn't know what should come out: that is in `stdout`. Read `stdout` first, and then
+//! the module of each part:
 //!
-//! - `records`: the devices and journals that the others play on, and what an open gate with no record behind it is read as.
-//! - `crashes`: how many records a crash leaves, by call and by fill, and what an append comes to on a device of which calls fail.
-//! - `files`: a thousand calls on a file beside the same in memory, and files that are taken as no device: one has another
-//!   length, one can't be synced.
+//! - `records`: the devices and journals that the others play on, and what an open gate with no record after it is read as.
+//! - `crashes`: how many records a crash leaves, by call and by fill, and what an append comes to on a device whose calls fail.
+//! - `files`: a thousand calls on a file beside the same calls in memory, and files that aren't taken as a device: one has another length,
+//!   one can't be synced.
 //! - `saves`: the rows of `stdin`, whose head says how they are written, on devices in memory: openings, saves, crashes and faults.
-//! - `books`: lines over a `Book` of `pf_book`, and what is read of its device. `rows`: how rows are spelled. `saves` alone uses the two.
+//! - `books`: lines over a `Book` of `pf_book`, and what is read of its device; `saves` uses it.
+//! - `rows`: how rows are spelled; `saves` and `books` use it.
+//!
+//! Nothing is proved here but that the tests keep the contracts of what they call.
 #![tactic(auto)]
 
 mod books;

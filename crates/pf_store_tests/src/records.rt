@@ -1,4 +1,4 @@
-// Records in memory, and what is no record.
+// Records in memory, and what isn't a record.
 ghost use Rattle.std.specs.Prelude.{◌≡◌, ◌+◌, ◌^◌, ◌<◌, ◌≤◌, length, IfOk};
 ghost use Rattle.pf_disk.specs.Disk.{IsSynced};
 
@@ -21,7 +21,7 @@ const SECOND: &[u8] = &[
     1, 4, 0, 1, 0x74, 0, 0, 0, 1, 4, 8, 0, 0, 10, 0, 0, 0, 0, 0, 0, 0, 0, 0, 0, 0, 0, 0, 0, 0,
 ];
 
-/// A device of open gates, but for a closed one at the region's start: what isn't written isn't closed.
+/// A device of open gates, but for a closed one at the region's start: so bytes that weren't written don't look like a closed gate.
 pub fn open_gates(alloc: Global) -> Result<MemDisk, AllocError>
     ensures size { IfOk result (λ disk. length (⟦<MemDisk as Disk>⟧.seen disk) ≡ SIZE) }
     ensures synced { IfOk result (λ disk. IsSynced (⟦<MemDisk as Disk>⟧.unsynced disk)) }
@@ -33,7 +33,7 @@ pub fn open_gates(alloc: Global) -> Result<MemDisk, AllocError>
     Ok(disk)
 }
 
-/// A journal of no records up to a place.
+/// A journal without records, in a region up to `end`.
 pub fn empty<D: Disk>(disk: D, end: usize) -> Journal<D>
     ensures { result ≡ record { disk = disk; start = START; gate = START; end = end } }
 {
@@ -45,7 +45,7 @@ pub fn empty<D: Disk>(disk: D, end: usize) -> Journal<D>
     }
 }
 
-/// A journal of two records up to a place.
+/// A journal of two records, in a region up to `end`.
 pub fn with_two<D: Disk + Drop>(
     alloc: Global,
     disk: D,
@@ -79,7 +79,7 @@ pub fn play(alloc: Global, told: &mut String) -> Result<(), ReadFault> {
     Ok(())
 }
 
-/// What an open gate with this length behind it is read as.
+/// What an open gate with this length after it is read as.
 fn tell_open_gate(alloc: Global, told: &mut String, len: u8) -> Result<(), ReadFault> {
     let mut bytes = vec![in alloc; 0u8; SIZE]?;
     bytes[START] = OPEN_GATE;

@@ -1,11 +1,11 @@
-// How rows are spelled. The head of `stdin` says what each of them means.
+// How rows are spelled. The head of `stdin` says what each kind means.
 
 use std::alloc::{AllocError, Global};
 
-/// What stands between the lines of a group, and between its replies.
+/// What is written between the lines of a group, and between its replies.
 pub const GROUPED: &str = " + ";
 
-/// Rows that are played in turn, over what an opening gives where they open a device.
+/// Rows that are played in turn, over an opening if they open a device.
 #[derive(Drop)]
 pub struct Segment {
     pub opens: bool,
@@ -39,7 +39,7 @@ pub fn segments(alloc: Global, text: &str) -> Result<Vec<Segment>, AllocError> {
     Ok(segments)
 }
 
-/// Tells a row, and says whether it comes to something, as no comment, heading and empty row does.
+/// Writes a row, and returns whether it is played: comments, headings and empty rows aren't.
 pub fn tell_row(told: &mut String, row: &str) -> Result<bool, AllocError> {
     told.push_str(row)?;
     let is_played = !row.is_empty() && !row.starts_with("//") && !row.starts_with("==");
@@ -49,12 +49,12 @@ pub fn tell_row(told: &mut String, row: &str) -> Result<bool, AllocError> {
     Ok(is_played)
 }
 
-/// The word of a row, and what is behind it.
+/// The first word of a row, and what comes after it.
 pub fn cut_word(row: &str) -> (&str, &str) {
     row.split_once(' ').unwrap_or((row, ""))
 }
 
-/// What stands before the first bar, and what is behind it.
+/// What comes before the first bar, and what comes after it.
 pub fn cut_bar(text: &str) -> (&str, &str) {
     text.split_once(" | ").unwrap_or((text, ""))
 }
@@ -68,7 +68,7 @@ pub fn lines_of(alloc: Global, text: &str) -> Result<Vec<String>, AllocError> {
     Ok(lines)
 }
 
-/// A number in decimal digits.
+/// The number in decimal digits, or 0 if it is none.
 pub fn number(text: &str) -> usize {
     text.parse::<usize>().unwrap_or(0)
 }
@@ -85,7 +85,7 @@ pub fn put_bytes(bytes: &mut Vec<u8>, changes: &str) {
     }
 }
 
-/// Bytes at random, the same ones each time for a number.
+/// Fills with random bytes, the same ones each time for a seed.
 pub fn fill_at_random(bytes: &mut Vec<u8>, seed: u64) {
     let mut random = seed;
     for byte in bytes.iter_mut() {

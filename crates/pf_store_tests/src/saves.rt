@@ -1,4 +1,4 @@
-// Openings and saves over devices in memory, by the rows of `stdin`.
+// Openings and saves over devices in memory, as the rows of `stdin` say.
 ghost use Rattle.std.specs.Prelude.{◌≡◌, IfOk};
 ghost use Rattle.pf_book.specs.Books.{IsNamed};
 ghost use Rattle.pf_store_tests.specs.declared.books.TheConstants.{HISTORY_LIMIT};
@@ -17,14 +17,14 @@ use std::alloc::{AllocError, Global};
 use std::marker::Brand;
 use std::sync::Wait;
 
-/// Their replies tell all that is kept in the rows, but for the epoch.
+/// The replies to these lines say all that the rows keep, but for the epoch.
 const QUESTIONS: &str =
     "show rules - | show rules web | show tables - | show tables web | show states";
 
 /// The calls of an opening and of a save, and one more.
 const CALLS: u64 = 14;
 
-/// How many fills a crash is looked at with.
+/// How many fills each crash is tried with.
 const FILLS: u32 = 7;
 
 /// A device between two rows, and what is known of the last opening of it.
@@ -38,7 +38,7 @@ struct Bench<H: Wait + Drop + Copy> {
     kept: Vec<String>,
 }
 
-/// What a device is opened as, and that device behind it.
+/// What a device is opened as, and the device after that.
 #[derive(Drop)]
 struct Opened {
     epoch: u32,
@@ -47,7 +47,7 @@ struct Opened {
     disk: MemDisk,
 }
 
-/// Plays the rows of a text, and tells each with what it comes to.
+/// Plays the rows of a text, and writes each with what it comes to.
 pub fn play<H: Wait + Drop + Copy>(
     waits: H,
     alloc: Global,
@@ -123,7 +123,7 @@ impl<H: Wait + Drop + Copy> Bench<H> {
         Ok(())
     }
 
-    /// A row for which nothing has to be opened.
+    /// Plays a row for which nothing has to be open.
     fn play_device(&mut self, told: &mut String, row: &str) -> Result<(), AllocError> {
         let (word, rest) = cut_word(row);
         match word {
@@ -174,7 +174,7 @@ impl<H: Wait + Drop + Copy> Bench<H> {
         Ok(())
     }
 
-    /// Opens the device so many times in turn, until an opening is refused.
+    /// Opens the device `times` times in turn, or until an opening is refused.
     fn open_often(&mut self, told: &mut String, times: usize) -> Result<(), AllocError> {
         let mut epoch = 0;
         for number in 0..times {
@@ -196,7 +196,7 @@ impl<H: Wait + Drop + Copy> Bench<H> {
         MemDisk::of(self.alloc, self.bytes.to_vec(self.alloc)?)
     }
 
-    /// Tells what was opened. What is kept then comes before all saves.
+    /// Writes what was opened. What is kept then is what was kept after no save.
     fn begin<J: Chapter>(
         &mut self,
         told: &mut String,
@@ -223,7 +223,7 @@ impl<H: Wait + Drop + Copy> Bench<H> {
         Ok(())
     }
 
-    /// One line of a client.
+    /// Plays one line of a client.
     fn call<J: Chapter>(
         &mut self,
         told: &mut String,
@@ -240,7 +240,7 @@ impl<H: Wait + Drop + Copy> Bench<H> {
         Ok(())
     }
 
-    /// One line of a client, so many times: the reply to the last.
+    /// Plays one line of a client several times, and writes the reply to the last.
     fn call_often<J: Chapter>(
         &mut self,
         told: &mut String,
@@ -254,13 +254,13 @@ impl<H: Wait + Drop + Copy> Bench<H> {
         self.call(told, book, line)
     }
 
-    /// Other bytes at some places, until the device is opened.
+    /// Puts other bytes at some places, until the device is opened.
     fn put(&mut self, told: &mut String, changes: &str) -> Result<(), AllocError> {
         put_bytes(&mut self.bytes, changes);
         told.push_str("put")
     }
 
-    /// The bytes between two places.
+    /// Writes the bytes between two places.
     fn tell_bytes(&self, told: &mut String, places: &str) -> Result<(), AllocError> {
         let (start, end) = cut_word(places);
         for byte in self.bytes.get(number(start)..number(end)).unwrap_or(&[]) {
@@ -269,7 +269,7 @@ impl<H: Wait + Drop + Copy> Bench<H> {
         Ok(())
     }
 
-    /// How many bytes a snapshot of all that is kept has, and whether it is read back as that.
+    /// Writes how many bytes a snapshot of all that is kept has, and whether it reads back the same.
     fn tell_snapshot<J: Chapter>(
         &self,
         told: &mut String,
@@ -288,14 +288,14 @@ impl<H: Wait + Drop + Copy> Bench<H> {
         write!(told, "{} bytes, read back: {is_same}", bytes.len())
     }
 
-    /// What the device is opened as with some bytes changed.
+    /// Writes what the device is opened as with some bytes changed.
     fn tell_changed(&self, told: &mut String, changes: &str) -> Result<(), AllocError> {
         let mut bytes = self.bytes.to_vec(self.alloc)?;
         put_bytes(&mut bytes, changes);
         self.tell_opened(told, bytes)
     }
 
-    /// What the device is opened as after a crash in a call, with these bytes where it may leave any, and the replies to lines there.
+    /// Writes what the device is opened as after a crash in a call, with these bytes where it may leave any, and the replies to lines then.
     fn tell_crash(&self, told: &mut String, disk: &MemDisk, how: &str) -> Result<(), AllocError> {
         let (crash, lines) = cut_bar(how);
         let (call, changes) = cut_word(crash);
@@ -314,8 +314,8 @@ impl<H: Wait + Drop + Copy> Bench<H> {
         self.tell_replies(told, image, lines)
     }
 
-    /// What the device is opened as after a crash in each call, with each byte in turn at a place where the crash may leave any. It is told
-    /// behind the first of the bytes that it stands for.
+    /// Writes what the device is opened as after a crash in each call, with each byte in turn at a place where the crash may leave any. It
+    /// comes after the first of the bytes that lead to it.
     fn tell_each_byte(
         &self,
         told: &mut String,
@@ -349,7 +349,7 @@ impl<H: Wait + Drop + Copy> Bench<H> {
         Ok(())
     }
 
-    /// After how many saves what a crash leaves was kept, by call and by fill.
+    /// Writes by call and by fill after how many saves what a crash leaves was kept.
     fn tell_crashes(&self, told: &mut String, disk: &MemDisk) -> Result<(), AllocError> {
         for moment in 1..disk.calls().saturating_add(2) {
             write!(told, "\n  in call {moment}:")?;
@@ -374,7 +374,7 @@ impl<H: Wait + Drop + Copy> Bench<H> {
         disk.image(self.alloc, moment, fill(number, &bytes))
     }
 
-    /// An opening and twice the same line, on devices of which calls fail.
+    /// Plays an opening and the same line twice, on devices whose calls fail.
     fn tell_faults(&self, told: &mut String, line: &str) -> Result<(), AllocError> {
         let lines = lines_of(self.alloc, &format!(in self.alloc; "{line} | {line}")?)?;
         for calls in 0..CALLS {
@@ -386,14 +386,15 @@ impl<H: Wait + Drop + Copy> Bench<H> {
         Ok(())
     }
 
-    /// An opening and some lines, on a device of which all calls behind so many fail.
+    /// Plays an opening and some lines, on a device whose calls all fail after the first few.
     fn tell_failing(&self, told: &mut String, how: &str) -> Result<(), AllocError> {
         let (calls, lines) = cut_bar(how);
         let disk = FuseDisk::after(self.device()?, number(calls) as u64);
         self.tell_fault(told, disk, &lines_of(self.alloc, lines)?)
     }
 
-    /// What they come to, and what the device below is opened as then: with the bytes of its last sync, and with all that were written.
+    /// Writes what the lines come to, and what the device below is opened as then: with the bytes of its last sync, and with all written
+    /// bytes.
     fn tell_fault(
         &self,
         told: &mut String,
@@ -422,8 +423,8 @@ impl<H: Wait + Drop + Copy> Bench<H> {
         self.tell_opened(told, below.image(self.alloc, u64::MAX, Fill::New)?)
     }
 
-    /// Each of some lines with each behind it in one group, after other lines: the replies to the two, and whether they come to the same one by
-    /// one.
+    /// Plays each of some lines with each of them after it, in one group and after other lines: writes the replies to the two, and whether
+    /// they come to the same one by one.
     fn tell_pairs(&self, told: &mut String, how: &str) -> Result<(), AllocError> {
         let (before, lines) = how.rsplit_once(" | ").unwrap_or(("", how));
         for first in lines.split(GROUPED) {
@@ -457,7 +458,7 @@ impl<H: Wait + Drop + Copy> Bench<H> {
         Ok(())
     }
 
-    /// The replies to lines and to some behind them over the device with its bytes, and to what is asked of all that is kept then.
+    /// The replies to lines and to some after them over the device with its bytes, and to the questions for all that is kept then.
     fn replies_behind(&self, before: &str, lines: &str) -> Result<String, AllocError> {
         let mut told = String::new(self.alloc);
         let all = format!(in self.alloc; "{before} | {lines} | {QUESTIONS}")?;
@@ -465,7 +466,7 @@ impl<H: Wait + Drop + Copy> Bench<H> {
         Ok(told)
     }
 
-    /// The replies to lines over a device with these bytes.
+    /// Writes the replies to lines over a device with these bytes.
     fn tell_replies(
         &self,
         told: &mut String,
@@ -503,7 +504,7 @@ impl<H: Wait + Drop + Copy> Bench<H> {
         }))
     }
 
-    /// What a device with these bytes is opened as.
+    /// Writes what a device with these bytes is opened as.
     fn tell_opened(&self, told: &mut String, bytes: Vec<u8>) -> Result<(), AllocError> {
         match self.opened(bytes)? {
             Ok(opened) => {
@@ -515,8 +516,8 @@ impl<H: Wait + Drop + Copy> Bench<H> {
         }
     }
 
-    /// After how many saves what a device with these bytes holds was kept. Where its opening switches to the other bank, also how many
-    /// crashes in the calls of that opening leave the same, of how many.
+    /// Writes after how many saves what a device with these bytes holds was kept; and, if its opening switches to the other bank, how many
+    /// of the crashes in the calls of that opening leave the same.
     fn tell_place(&self, told: &mut String, bytes: Vec<u8>) -> Result<(), AllocError> {
         let (gate, half) = (closed_gate(self.alloc, &bytes)?, bytes.len() / 2);
         match self.opened(bytes)? {
@@ -531,7 +532,7 @@ impl<H: Wait + Drop + Copy> Bench<H> {
         }
     }
 
-    /// How many crashes in the calls of an opening leave what it gave, in its epoch or the next, of how many.
+    /// Writes how many of the crashes in the calls of an opening leave what it gave, in its epoch or the next.
     fn tell_stops(&self, told: &mut String, opened: &Opened) -> Result<(), AllocError> {
         let (mut same, mut all) = (0u64, 0u64);
         for moment in 1..opened.disk.calls().saturating_add(2) {
@@ -546,7 +547,7 @@ impl<H: Wait + Drop + Copy> Bench<H> {
         write!(told, "({same} of {all})")
     }
 
-    /// Whether a device with these bytes is opened as what an opening before it gave, in that epoch or the next.
+    /// Whether a device with these bytes is opened as what an earlier opening gave, in that epoch or the next.
     fn opens_as(&self, bytes: Vec<u8>, before: &Opened) -> Result<bool, AllocError> {
         match self.opened(bytes)? {
             Ok(opened) => {
@@ -557,7 +558,7 @@ impl<H: Wait + Drop + Copy> Bench<H> {
         }
     }
 
-    /// After how many saves this was kept.
+    /// Writes after how many saves this was kept.
     fn tell_saves(&self, told: &mut String, text: &String) -> Result<(), AllocError> {
         match self.kept.iter().position(|kept| kept == text) {
             Some(saves) => write!(told, "{saves}"),

@@ -1,4 +1,4 @@
--- Entries are gathered, added and deleted from front to back, and what each is answered.
+-- How entries are gathered, added and deleted in turn, and what is answered for each.
 use Rattle.std.proofs.{Common.{◌≡◌, ℕ, zero, suc, ◌+◌, ◌<◌, ◌≤◌, Bool, true, false, not, cond, ◌&&◌, ◌||◌, List, [], ◌∷◌, ◌++◌, length, get_or, take, drop, append-nil, append_assoc, drop-cons, Option, Some, None, is_some, is_none, refl, sym, ap, ◌∙◌, subst, true≢false, arith}, Math.Seq.take-suc, lemmas.List.take-append-drop, lemmas.List.Folds.list_any-append, lemmas.List.Sums.fold-append, lemmas.List.Elements.{All-nil, All-push}}
 use Rattle.std.specs.{Bool.beq, FinMap.put, FinMap.Entries.find_tied, Ordering.is_eq, declared.{cmp.Ordering.Ordering, cmp.Ordering.TheVariants.{Less, Equal, Greater}}, List.{list_any, All, fold}, Option.option_or}
 use Rattle.pf_addr.specs.Address.{IsNetwork, PlainNet}
@@ -32,7 +32,7 @@ all_taken (x ∷ xs) (suc i) le = let rest = all_taken xs i (omega arith) in (ap
 
 -- ---- conflicts
 
--- where a list names no network with both signs, it is a list of networks with one sign alone
+-- where a list names no network with both signs, it is a list of networks with one sign each
 agree_behind : (before xs : List PlainEntry) → Agree before → conflict_behind before xs ≡ None → Agree (before ++ xs)
 unfolding conflict_behind
 agree_behind before [] agree none = subst Agree (sym (append-nil before)) agree
@@ -144,7 +144,7 @@ gathered_all xs i named g le =
 
 -- ---- adding, and what is noted of the list
 
--- what is noted has the sign that each network of the table was first named with
+-- what is noted has, for each network of the table, the sign with which the list first named it
 abbrev pub IsNoted : List PlainEntry → List PlainEntry → List PlainEntry → Type 0
 IsNoted es before noted = (q : PlainNet) → is_some (sign_of q es) ≡ true → sign_of q noted ≡ sign_of q before
 
@@ -170,7 +170,7 @@ tied_of Less e = absurd (true≢false (sym e))
 tied_of Equal e = refl
 tied_of Greater e = absurd (true≢false (sym e))
 
--- a network that isn't among some has no sign there, and neither has one that is the same
+-- a network that has a sign among entries has none in x alone, if the network of x has none there
 not_same : (es : List PlainEntry) (x : PlainEntry) (q : PlainNet) → sign_of x.0 es ≡ None → is_some (sign_of q es) ≡ true → sign_of q (x ∷ []) ≡ None
 not_same es x q none some = by (is_eq (net_order q x.0)) refl where
   by : (t : Bool) → is_eq (net_order q x.0) ≡ t → sign_of q (x ∷ []) ≡ None
@@ -222,7 +222,7 @@ notes_next es before noted x (Some t) (Some s) are is at = λ q some. are q some
 notes_next es before noted x (Some t) None are is at = λ q some.
     sign_added noted (x ∷ []) q ∙ ap (λ o. option_or o (sign_of q (x ∷ []))) (are q some) ∙ sym (sign_push before x q)
 
--- what is known once the first i entries were added
+-- what is known after the first i entries were added
 pub record Adding (es xs : List PlainEntry) (i : ℕ) (after noted : List PlainEntry) (answers : List Addition) : Type 0 where
   pub so_far : after ≡ added es (take i xs)
   pub signs : IsNoted es (take i xs) noted
@@ -234,7 +234,7 @@ unfolding added
 adding_nothing es xs after answers is none =
     record { so_far = is; signs = λ q some. refl; told = ap (λ l. l ++ additions es xs) none; list = gathering_nothing xs }
 
--- by its network's sign in the table so far, and the one that it was first named with
+-- what is known of the next entry: its network's sign in the table so far, and the one with which it was first named
 pub record IsNext (es xs : List PlainEntry) (i : ℕ) (after noted : List PlainEntry) (x : PlainEntry) (there first : Option Bool) : Type 0 where
   pub low : i < length xs
   pub at : x ≡ get_or xs i x
@@ -272,7 +272,7 @@ pub adding_stops : (es xs : List PlainEntry) (i : ℕ) (after noted : List Plain
 adding_stops es xs i after noted answers x there first a n is =
     gathers_no_more xs i (added [] (take i xs)) x a.list n.low n.at (opposed es xs i after noted answers x there first true a n is)
 
--- what is known of all entries
+-- what is known after all entries were added
 pub record AllAdded (es xs after : List PlainEntry) (answers : List Addition) : Type 0 where
   pub leaves : after ≡ added es xs
   pub told : answers ≡ additions es xs
@@ -292,7 +292,7 @@ all_added es xs i after noted answers a le =
 
 -- ---- changing entry by entry
 
--- where a network isn't there, to put it in takes nothing out
+-- where a network isn't there, putting it in takes nothing out
 pub put_only : (es : List PlainEntry) (x : PlainEntry) → sign_of x.0 es ≡ None → with_value net_order es x.0 (Some x.1) ≡ put net_order x.0 x.1 es
 put_only es x none = ap (put net_order x.0 x.1) (stays es none) where
   stays : (fs : List PlainEntry) → sign_of x.0 fs ≡ None → without net_order fs x.0 ≡ fs
@@ -329,10 +329,10 @@ unfolding deletions
 dels_end answers es xs i le = sym (append-nil answers)
     ∙ ap (λ l. answers ++ deletions (deleted es (take i xs)) l) (sym (all_taken xs i le).1)
 
--- ---- what is answered by the table that an edit begins with
+-- ---- answers by the table before the edit
 
--- the answer to an entry that is added, where no network is named with both signs: by its network's sign in the table that the
--- edit begins with, and by whether it is the first of its network
+-- the answer for an entry that is added, where no network is named with both signs: by its network's sign in the table before the edit, and
+-- by whether it is the first of its network
 abbrev pub told : Option Bool → Bool → Bool → Addition
 told None true sign = Added
 told None false sign = Same
@@ -365,7 +365,7 @@ dels_told (Some t) (Some u) s other named are left at_none at_some = ap (is_sign
       by false true false other = absurd (true≢false other)
       by false false s other = refl
 
--- what an entry that is deleted finds behind those before it
+-- what an entry that is deleted finds after the earlier ones
 pub dels_by_old : (es xs : List PlainEntry) (i : ℕ) (x : PlainEntry) → conflict_in xs ≡ None → i < length xs → x ≡ get_or xs i x →
     has_entry (deleted es (take i xs)) x ≡ (is_none (sign_of x.0 (take i xs)) && is_sign x.1 (sign_of x.0 es))
 dels_by_old es xs i x none lt at =

@@ -1,4 +1,4 @@
--- Of the entries that contain an address the one with the longest front decides.
+-- Of the entries that contain an address the one with the longest prefix decides.
 use Rattle.std.proofs.{Common.{append_assoc, append-nil, ◌≡◌, ◌≢◌, ℕ, zero, suc, ◌-◌, ◌*◌, ◌/◌, ◌^◌, ◌<◌, ◌≤◌, ◌==◌, bit_xor, nat_lt, Bool, true, false, not, cond, ◌&&◌, List, [], ◌∷◌, ◌++◌, length, get_or, map, Option, Some, None, is_some, refl, sym, ap, ◌∙◌, subst, true≢false, arith, ◌⊎◌, inl, inr}, lemmas.{Bool.Decides.{nat_tests, Decides-eqb}, Cmp.{nat_cmp_total, ranked}, Map.Keys.ge_from_not_lt, Nat.shl-shr, List.Elements.{All-contains, Contains-append_left, Contains-append_right, Contains-append_cases}}, Math.Nat.div-mul-le_self}
 use Rattle.std.specs.{List.{Contains, All}, Ordering.{is_eq, is_lt, nat_cmp, ordering_then, ordering_reverse}, Cmp.tied_itself, Int.Count.count_leading_zeros}
 use Rattle.pf_addr.specs.{declared.{addr.Addr.Addr, addr.Family.Family, addr.Family.TheVariants.V4, addr.Family.TheVariants.V6}, Address.{PlainNet, IsNetwork, contains, same_family, family_of, width, number_in, first_bits, network_from}, Spelling.{addr_in, first_addr}, NetForms.first_number}
@@ -75,7 +75,7 @@ at_least f e (Some g) is = by (nat_lt f.0.len g.0.len) refl is where
       let above : g.0.len ≤ f.0.len = grind (arith, nat_tests) in
       (omega (arith, same), λ h other. omega (arith, same, above, ap (λ (z : PlainEntry). z.0.len) (inside g h other)))
 
--- no entry that contains the address has a longer front
+-- no entry that contains the address has a longer prefix
 pub none_longer : (es : List PlainEntry) (a : Addr) (e : PlainEntry) → deciding es a ≡ Some e → (f : PlainEntry) → Contains es f → contains f.0 a ≡ true →
     f.0.len ≤ e.0.len
 unfolding deciding
@@ -108,7 +108,7 @@ one_family V4 V6 e = absurd (true≢false (sym e))
 one_family V6 V4 e = absurd (true≢false (sym e))
 one_family V6 V6 e = refl
 
--- two networks of one length that contain an address are one
+-- two networks of one length that contain an address are equal
 pub one_network : (m n : PlainNet) (a : Addr) → contains m a ≡ true → contains n a ≡ true → m.len ≡ n.len → m ≡ n
 unfolding contains
 one_network m n a of_m of_n same =
@@ -168,18 +168,18 @@ decided es a e is d = by (deciding es a) refl where
       apart g there holds lt = let less : g.0.len < e.0.len =
           d.longest g there holds (λ same. absurd (omega (arith, lt, ap (λ (x : PlainEntry). x.0.len) same))) in absurd (omega (arith, lt, less))
 
--- a network contains addresses of its own family alone
+-- a network contains only addresses of its own family
 pub contains_family : (net : PlainNet) (a : Addr) → contains net a ≡ true → net.family ≡ family_of a
 unfolding contains
 contains_family net a is = one_family net.family (family_of a) (both_true _ _ is).0
 
--- ---- the last entry that isn't behind a network
+-- ---- the last entry that isn't past a network
 
--- an entry is not behind another one: a key comes before it or is it
+-- an entry isn't past a network: the network's key isn't before the entry's
 abbrev up_to : PlainNet → PlainEntry → Bool
 up_to net e = not (is_lt (net_order net e.0))
 
--- where an entry isn't behind a network, it isn't by family, first address and length, in this order
+-- an entry isn't past a network: by family, then first address, then length
 record IsNotBehind (net f : PlainNet) : Type 0 where
   family : rank f.family ≤ rank net.family
   first : rank f.family ≡ rank net.family → first_number f ≤ first_number net
@@ -232,19 +232,19 @@ none_up_to net (e ∷ es) is f there = by (last_where (up_to net) es) refl (is_l
   by None none true here rest (zero, lt, at) = ap (λ (x : PlainEntry). is_lt (net_order net x.0)) (sym at) ∙ here
   by None none true here rest (suc k, lt, at) = rest none f (k, omega arith, at)
 
--- ---- looking for the entry that decides, from the longest front down
+-- ---- looking for the entry that decides, from the longest prefix down
 
--- no entry that contains the address has a longer front than this
+-- no entry that contains the address has a longer prefix than this
 abbrev pub NoneLonger : List PlainEntry → Addr → ℕ → Type 0
 NoneLonger es a len = (f : PlainEntry) → Contains es f → contains f.0 a ≡ true → f.0.len ≤ len
 
--- an entry that isn't behind the network of an address's first bits, and that those that contain the address aren't behind
+-- an entry that isn't past the network of the first bits of the address, and doesn't contain it; those that do aren't past the entry
 pub record Passes (a : Addr) (len : ℕ) (es : List PlainEntry) (e : PlainEntry) : Type 0 where
   pub up_to : is_lt (net_order (network_from a len) e.0) ≡ false
   pub other : contains e.0 a ≡ false
   pub last : (f : PlainEntry) → Contains es f → contains f.0 a ≡ true → is_lt (net_order e.0 f.0) ≡ false
 
--- a network that contains an address is of its family, and its first address is the address cut to its front
+-- a network that contains an address is of its family, and its first address is the address cut to the network's prefix
 record Holds (n : PlainNet) (a : Addr) : Type 0 where
   family : n.family ≡ family_of a
   front : number_in a / 2 ^ (width (family_of a) - n.len) ≡ n.front
@@ -271,7 +271,7 @@ holds_from n a family front =
     own V4 = refl
     own V6 = refl
 
--- an entry that contains the address isn't behind the network of its first bits, if it has no more of them
+-- an entry that contains the address isn't past the network of its first bits, if its prefix isn't longer
 contains_up_to : (n : PlainNet) (a : Addr) (len : ℕ) → contains n a ≡ true → n.len ≤ len → is_lt (net_order (network_from a len) n) ≡ false
 contains_up_to n a len is le =
     let own = holds_of n a is in
@@ -301,7 +301,7 @@ none_left es a len most is = by (deciding es a) refl where
       let (there, holds) = is_there es a e found in
       absurd (true≢false (sym (none_up_to (network_from a len) es is e there) ∙ contains_up_to e.0 a len holds (most e there holds)))
 
--- of two entries that contain the address the one that isn't behind has the shorter front
+-- of two entries that contain the address the earlier one has the shorter prefix
 shorter_front : (es : List PlainEntry) (a : Addr) (e f : PlainEntry) → sorted es → Contains es e → Contains es f → contains e.0 a ≡ true → contains f.0 a ≡ true →
     is_lt (net_order e.0 f.0) ≡ false → f ≢ e → f.0.len < e.0.len
 shorter_front es a e f order at_e at_f holds of_f up_to other = by (nat_lt f.0.len e.0.len) refl where
@@ -321,9 +321,9 @@ shorter_front es a e f order at_e at_f holds of_f up_to other = by (nat_lt f.0.l
       let same : f.0.len ≡ e.0.len = omega (arith, more, parts.len family first) in
       absurd (other (one_entry es f e order at_f at_e (one_network f.0 e.0 a of_f holds same)))
 
--- ---- the page of the last entry that isn't behind a network
+-- ---- the page of the last entry that isn't past a network
 
--- what stands in front isn't behind what comes later
+-- what is in front isn't past what comes later
 in_front : (front page back : List PlainEntry) (e f : PlainEntry) → sorted (front ++ (page ++ back)) → Contains front f → Contains page e → is_lt (net_order e.0 f.0) ≡ false
 in_front [] page back e f order (k, lt, at) at_e = absurd (omega arith)
 in_front (x ∷ front) page back e f order (zero, lt, at) at_e =
@@ -334,7 +334,7 @@ in_front (x ∷ front) page back e f order (zero, lt, at) at_e =
 in_front (x ∷ front) page back e f order (suc k, lt, at) at_e = in_front front page back e f (second_of _ _ order) (k, omega arith, at) at_e
 
 module _ (es page : List PlainEntry) (a : Addr) (len : ℕ) (order : sorted es) (most : NoneLonger es a len) (at : IsUpTo net_order (network_from a len) page es) where
-  -- an entry that contains the address stands in front of the page or in it
+  -- an entry that contains the address is in front of the page or in it
   in_front_or_in : (f : PlainEntry) → Contains es f → contains f.0 a ≡ true → Contains at.front f ⊎ Contains page f
   in_front_or_in f there holds = elim (Contains-append_cases at.front (page ++ at.back) f (subst (λ l. Contains l f) at.around there)) [
     | inl front ↦ inl front
@@ -365,7 +365,7 @@ module _ (es page : List PlainEntry) (a : Addr) (len : ℕ) (order : sorted es) 
     ];
   })
 
-  -- where no entry of the page contains the address, those that do stand in front of its first entry
+  -- if no entry of the page contains the address, those that do come before its first entry
   page_passes : (e : PlainEntry) (rest : List PlainEntry) → page ≡ e ∷ rest → ((f : PlainEntry) → Contains page f → contains f.0 a ≡ false) → Passes a len es e
   page_passes e rest is none = record {
     up_to = subst (λ l. starts_behind net_order (network_from a len) l ≡ false) is at.starts;
@@ -476,7 +476,7 @@ longest_found es a i e found is =
 pub none_found : (es : List PlainEntry) (a : Addr) → FindsLongest (map (λ x. x.0) es) a None → NoneContains es a
 none_found es a none f at_f = All-contains (λ n. contains n a ≡ false) (map (λ x. x.0) es) f.0 none (contains_net es f at_f)
 
--- a page of which the entries behind a front don't contain the address
+-- a page in which the entries after `front` don't contain the address
 pub record Behind (page front : List PlainEntry) (a : Addr) : Type 0 where
   pub back : List PlainEntry
   pub around : page ≡ front ++ back
@@ -533,7 +533,7 @@ pub longest_of_last : (es : List PlainEntry) (a : Addr) (found : Option PlainEnt
 longest_of_last es a None order none = none
 longest_of_last es a (Some e) order last = last_longest es a e order last
 
--- what stands beside a page is of its entries
+-- what is kept beside a page is of its entries
 pub beside_is : (cols : PageColumns) (page : List PlainEntry) → FollowsFrom {E = PlainEntry} {K = PlainNet} {X = Bool} (λ e. e) AreOf cols page → AreOf cols page
 beside_is cols page beside = subst (AreOf cols) (sym (map-id beside.entries) ∙ beside.pairs) beside.follows_from
 
@@ -558,7 +558,7 @@ module _ (es page : List PlainEntry) (a : Addr) (len : ℕ) (key : PlainNet) (or
     begins [] is = absurd (cc (is))
     begins (x ∷ xs) is = ap (λ y. y ∷ xs) (inside x e is)
 
--- where each entry that contains the address has fewer bits than any entry has, there is none
+-- if each entry that contains the address has a prefix shorter than any entry's, there is none
 pub none_so_short : (es : List PlainEntry) (a : Addr) (len n : ℕ) → NoneLonger es a len → NoneShorter n es → len < n → deciding es a ≡ None
 none_so_short es a len n most short lt = by (deciding es a) refl where
   by : (o : Option PlainEntry) → deciding es a ≡ o → o ≡ None

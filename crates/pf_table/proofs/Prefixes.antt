@@ -1,4 +1,4 @@
--- Numbers cut to their first bits, and how many of these two numbers share.
+-- Numbers cut to their first bits, and how many first bits two numbers share.
 use Rattle.std.proofs.{Common.{◌≡◌, ℕ, suc, ◌+◌, ◌-◌, ◌*◌, ◌/◌, ◌%◌, ◌^◌, ◌<◌, ◌≤◌, bit_xor, Bool, true, false, nat_lt, refl, sym, ap, ◌∙◌, subst, arith}, Math.Nat.{div-mul-le_self, div-eq_of_lt, pow-suc, le-mul_of_pos_right, mul_assoc, mul-le-mul_right}, lemmas.Bool.Decides.nat_tests, Math.Pow.shr_mono, lemmas.Nat.{mod_below, le-div, pow_pos, pow-add, shl-shr, shr-shr, shr_split, xor_shr, xor_lt, and_le_l, and_le_r, leading_length}}
 use Rattle.std.specs.Int.{Bits.{xor_self, xor_add_and}, Count.count_leading_zeros}
 
@@ -6,7 +6,7 @@ use Rattle.std.specs.Int.{Bits.{xor_self, xor_add_and}, Count.count_leading_zero
 abbrev pub cut_off : ℕ → ℕ → ℕ
 cut_off k n = n / 2 ^ k * 2 ^ k
 
--- fewer bits cleared leave no less
+-- clearing fewer bits leaves no less
 pub cut_less : (j k n : ℕ) → j ≤ k → cut_off k n ≤ cut_off j n
 cut_less j k n le =
     let split : k - j + j ≡ k = omega arith in
@@ -22,7 +22,7 @@ cut_less j k n le =
     mul_less : (a b c : ℕ) → a ≤ b → a * c ≤ b * c
     mul_less a b c le = mul-le-mul_right c le
 
--- numbers from a cut one on, up to the whole one, have its first bits
+-- numbers from a cut one up to the whole one have the same first bits
 pub between : (k a e : ℕ) → cut_off k a ≤ e → e ≤ a → e / 2 ^ k ≡ a / 2 ^ k
 between k a e low high =
     let up : e / 2 ^ k ≤ a / 2 ^ k = shr_mono k high in
@@ -50,7 +50,7 @@ none_above x k none =
     let whole : 0 * 2 ^ k + x % 2 ^ k ≡ x = subst (λ (q : ℕ). q * 2 ^ k + x % 2 ^ k ≡ x) none (shr_split x k) in
     omega (arith, whole, mod_below x (2 ^ k) (pow_pos k))
 
--- what is before the first set bit of two numbers' difference is what they share, and no more
+-- two numbers share the bits before the first set bit of their difference, and no more
 pub shared_bits : (w a b : ℕ) → a < 2 ^ w → b < 2 ^ w → (n : ℕ) → n ≡ count_leading_zeros w (bit_xor a b) →
     (n ≤ w) × (a / 2 ^ (w - n) ≡ b / 2 ^ (w - n)) × ((m : ℕ) → m ≤ w → a / 2 ^ (w - m) ≡ b / 2 ^ (w - m) → m ≤ n)
 shared_bits w a b lt_a lt_b n is =

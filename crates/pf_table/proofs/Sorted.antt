@@ -6,7 +6,7 @@ use Rattle.pf_table.specs.Entries.{PlainEntry}
 use Rattle.pf_addr.specs.NetOrder.{net_order}
 use Rattle.pf_map.proofs.Tests.{first_of, second_of, less_of}
 
--- ---- what is behind a network
+-- ---- what comes after a network
 
 abbrev pub below : PlainNet → List PlainEntry → Type 0
 below x es = T (below_all net_order x es)

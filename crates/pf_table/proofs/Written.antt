@@ -1,4 +1,4 @@
--- An entry's bytes in few pieces.
+-- An entry's bytes, appended in few pieces.
 use Rattle.std.proofs.{Common.{◌≡◌, ℕ, ◌<◌, List, [], ◌∷◌, ◌++◌, refl, sym, ap, ◌∙◌, append_assoc, arith}}
 use Rattle.pf_form.specs.Bytes.BasicForms.{number_bytes}
 
@@ -11,7 +11,7 @@ pub four_pushed : (out : List ℕ) (a b c : ℕ) → a < 256 → b < 256 → c <
 four_pushed out a b c one two three =
     rw (one_byte a one, one_byte b two, one_byte c three, append_assoc out (a ∷ []) (b ∷ []), append_assoc out (a ∷ b ∷ []) (c ∷ []), append_assoc out (a ∷ b ∷ c ∷ []) (0 ∷ [])) refl
 
--- and an address behind them
+-- the four bytes, then an address
 pub entry_pushed : (out : List ℕ) (a b c : ℕ) (address zeros : List ℕ) → a < 256 → b < 256 → c < 256
     → out ++ (((a ∷ b ∷ c ∷ 0 ∷ []) ++ address) ++ zeros) ≡ (((((out ++ number_bytes 1 a) ++ number_bytes 1 b) ++ number_bytes 1 c) ++ 0 ∷ []) ++ address) ++ zeros
 entry_pushed out a b c address zeros one two three =

@@ -1,4 +1,4 @@
--- Edits of tables (pfctl(8), -T add, delete, replace). What they answer of each entry, and when they refuse, is own.
+-- Edits of tables (pfctl(8), -T add, delete, replace). What they answer for each entry, and when they refuse, is this project's own.
 use Rattle.std.specs.{Prelude.{ℕ, nat_lt, Bool, true, false, not, ◌&&◌, cond, List, [], ◌∷◌, ◌++◌, length, fold, is_some, option_map, Option, Some, None}, Bool.beq, FinMap.put, FinMap.Entries.where_key, List.list_any, Option.{option_map_or, option_or}, Ordering.eq_by_cmp}
 use Rattle.pf_table.specs.{declared.{answer.{Addition.{Addition, TheVariants.{Added, Same, Conflict}}, Deletion.{Deletion, TheVariants.{Deleted, Absent}}}, refusal.TableRefusal.TableRefusal, limits.TheConstants.TABLE_LIMIT}, Entries.PlainEntry, Tables.sign_of}
 use Rattle.pf_addr.specs.NetOrder.{net_order}
@@ -6,7 +6,7 @@ use Rattle.pf_table.specs.declared.refusal.TableRefusal.TheVariants as refusal
 
 -- ---- adding
 
--- An entry is put in where its network has none; else the table stays.
+-- An entry is put in if its network has none; else the table stays.
 abbrev pub with_entry : List PlainEntry → PlainEntry → List PlainEntry
 with_entry es x = cond (is_some (sign_of x.0 es)) es (put net_order x.0 x.1 es)
 
@@ -19,18 +19,18 @@ abbrev pub addition : Option Bool → Bool → Addition
 addition None sign = Added
 addition (Some there) sign = cond (beq sign there) Same Conflict
 
--- the answer to each entry, by the table after those before it
+-- the answer for each entry, by the table after the earlier ones
 unfoldable pub additions : List PlainEntry → List PlainEntry → List Addition
 additions es [] = []
 additions es (x ∷ xs) = addition (sign_of x.0 es) x.1 ∷ additions (with_entry es x) xs
 
--- the table that holds these entries alone
+-- the table of these entries alone
 abbrev pub replaced : List PlainEntry → List PlainEntry
 replaced xs = added [] xs
 
 -- ---- deleting
 
--- whether a network that is there, if it is, has this sign
+-- whether the network is there with this sign
 abbrev pub is_sign : Bool → Option Bool → Bool
 is_sign sign there = option_map_or (beq sign) there false
 
@@ -50,22 +50,22 @@ abbrev pub deletion : Bool → Deletion
 deletion true = Deleted
 deletion false = Absent
 
--- the answer to each entry, by the table after those before it
+-- the answer for each entry, by the table after the earlier ones
 unfoldable pub deletions : List PlainEntry → List PlainEntry → List Deletion
 deletions es [] = []
 deletions es (x ∷ xs) = deletion (has_entry es x) ∷ deletions (without_entry es x) xs
 
 -- ---- refusing
 
--- whether two entries are one network with one sign
+-- whether two entries are one network with the same sign
 abbrev pub same_entry : PlainEntry → PlainEntry → Bool
 same_entry x e = eq_by_cmp net_order x.0 e.0 && beq x.1 e.1
 
--- whether they are one network with both signs
+-- whether they are one network with opposite signs
 abbrev pub is_opposite : PlainEntry → PlainEntry → Bool
 is_opposite x e = same_entry (x.0, not x.1) e
 
--- behind these entries, the place of the first one whose network stood before it with the other sign
+-- the place of the first entry after `before` whose network came earlier with the other sign
 unfoldable pub conflict_behind : List PlainEntry → List PlainEntry → Option ℕ
 conflict_behind before [] = None
 conflict_behind before (x ∷ xs) = cond (list_any (is_opposite x) before) (Some (length before)) (conflict_behind (before ++ x ∷ []) xs)

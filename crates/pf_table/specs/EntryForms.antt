@@ -22,10 +22,10 @@ entry = that (λ e. is_network e.0 e.1.0 e.1.1.1)
 abbrev pub plain_entry : PlainEntry → Value EntryShape
 plain_entry e = (family_byte e.0.family, (e.0.len, (flag_byte e.1, first_number e.0)))
 
--- the entry that these numbers tell
+-- the entry of these values
 abbrev pub entry_of : Value EntryShape → PlainEntry
 entry_of e = (network_at e.0 e.1.0 e.1.1.1, e.1.1.0 == 1)
 
--- in the order of a table's entries, in which no network stands before itself
+-- the order of a table's entries, in which no network comes before itself
 abbrev pub entry_before : Value EntryShape → Value EntryShape → Bool
 entry_before a b = is_lt (net_order (entry_of a).0 (entry_of b).0)

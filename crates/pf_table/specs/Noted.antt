@@ -2,14 +2,14 @@
 use Rattle.std.specs.Prelude.{Bool, List, Option, Some, None}
 use Rattle.pf_table.specs.{Entries.PlainEntry, Edits.with_entry}
 
--- By the signs that a network has in the table that a list is added to, in what is noted, and once it was added: the sign that the list first
--- names it with.
+-- The sign with which the list first names a network, by its signs in the table that the list is added to, in what is noted, and after it
+-- was added.
 abbrev pub first_sign : Option Bool → Option Bool → Option Bool → Option Bool
 first_sign (Some t) noted (Some there) = noted
 first_sign None noted (Some there) = Some there
 first_sign table noted None = None
 
--- a network that is there and that the list didn't name is noted
+-- a network that is there and that the list hasn't named yet is noted
 abbrev pub noted_with : List PlainEntry → Option Bool → Option Bool → PlainEntry → List PlainEntry
 noted_with noted None first x = noted
 noted_with noted (Some there) (Some s) x = noted

@@ -11,31 +11,31 @@ pub record AreEntries (es : List PlainEntry) : Type 0 where
   pub sorted : T (is_sorted net_order es)
   pub few : length es ≤ TABLE_LIMIT
 
--- so with a table, each of them a network
+-- such entries, each of them a network
 pub record IsTable (es : List PlainEntry) : Type 0 where
   pub sorted : T (is_sorted net_order es)
   pub networks : All (λ e. IsNetwork e.0) es
   pub few : length es ≤ TABLE_LIMIT
 
--- a network's sign in a table; in any list, the sign that its first entry there has
+-- a network's sign in a table; in any list, the sign of its first entry there
 abbrev pub sign_of : PlainNet → List PlainEntry → Option Bool
 sign_of net es = find net_order net es
 
 -- ---- the entry that decides
 
--- The entry contains the address, and every other one that does has a shorter front.
+-- The entry contains the address, and every other one that does has a shorter prefix.
 pub record Decides (es : List PlainEntry) (a : Addr) (e : PlainEntry) : Type 0 where
   pub member : Contains es e
   pub holds : contains e.0 a ≡ true
   pub longest : (f : PlainEntry) → Contains es f → contains f.0 a ≡ true → f ≢ e → f.0.len < e.0.len
 
--- of two entries the one with the longer front
+-- of two entries the one with the longer prefix
 abbrev pub longer : Option PlainEntry → Option PlainEntry → Option PlainEntry
 longer None f = f
 longer (Some e) None = Some e
 longer (Some e) (Some f) = cond (nat_lt e.0.len f.0.len) (Some f) (Some e)
 
--- of the entries that contain the address the one with the longest front
+-- of the entries that contain the address the one with the longest prefix
 unfoldable pub deciding : List PlainEntry → Addr → Option PlainEntry
 deciding [] a = None
 deciding (e ∷ es) a = longer (cond (contains e.0 a) (Some e) None) (deciding es a)

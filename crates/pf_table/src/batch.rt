@@ -1,4 +1,4 @@
-//! The entries of an edit, gathered before the table is looked at.
+//! Gathers the entries of an edit before the table is looked at.
 ghost use Rattle.std.specs.Prelude.{◌≡◌, All, IfOk};
 ghost use Rattle.pf_addr.specs.{Address.IsNetwork, Refusing.Refuses};
 ghost use Rattle.pf_table.specs.declared.refusal.TableRefusal.TheVariants.{Memory};
@@ -10,7 +10,7 @@ use crate::entry::Entry;
 use crate::refusal::TableRefusal;
 use std::alloc::Global;
 
-/// The networks that the entries of an edit name, with their signs. The refusals are `Conflict`, and `Memory`.
+/// The networks that the entries of an edit name, with their signs. Refuses with `Conflict` or `Memory`.
 pub(crate) fn gather(alloc: Global, entries: &[Entry]) -> Result<EntryMap, TableRefusal>
     ensures refused { Refuses Memory result (conflict_refusal entries.now) }
     ensures named { IfOk result (λ m. m ≡ replaced entries.now) }

@@ -1,4 +1,4 @@
-//! What edits change, one entry after the other, and what they answer.
+//! What edits change, entry by entry, and what they answer.
 ghost use Rattle.std.specs.Prelude.{◌≡◌, All, IfOk};
 ghost use Rattle.pf_addr.specs.{Address.IsNetwork, Refusing.Refuses};
 ghost use Rattle.pf_table.specs.declared.refusal.TableRefusal.TheVariants.{Memory};
@@ -11,21 +11,21 @@ use crate::refusal::TableRefusal;
 use pf_addr::Net;
 use std::alloc::{AllocError, Global};
 
-/// The sign that a network has among entries.
+/// The sign of a network in a map of entries.
 pub(crate) fn sign_of(entries: &EntryMap, net: Net) -> Option<bool>
     ensures { result ≡ sign_of net entries.now }
 {
     Some(entries.get(&net)?.is_negated())
 }
 
-/// Whether a network that is there, if it is, has this sign.
+/// Whether the network is there with this sign.
 pub(crate) fn is_sign(sign: bool, there: Option<bool>) -> bool
     ensures { result ≡ is_sign sign there }
 {
     there.is_some_and(|there| sign == there)
 }
 
-/// The entries with one more, where its network isn't there; else they stay, and no page is taken.
+/// The entries with one more, if its network isn't there; else they stay as they are, and no page is allocated.
 pub(crate) fn with_entry(
     alloc: Global,
     entries: EntryMap,
@@ -36,7 +36,7 @@ pub(crate) fn with_entry(
     ensures value { IfOk result (λ m. m ≡ with_entry entries entry.now) }
     ensures network { IsNetwork entry.now.0 }
 {
-    // that its network is one is what it tells
+    // its contract says that the network is one
     let _net = entry.net();
     if there.is_some() {
         return Ok(entries);
@@ -44,7 +44,7 @@ pub(crate) fn with_entry(
     entries.with_new(alloc, entry)
 }
 
-// The entries without one of them, where it is there with its sign; else they stay, and no page is taken.
+// The entries without one of them, if it is there with its sign; else they stay as they are, and no page is allocated.
 fn without_entry(
     alloc: Global,
     entries: EntryMap,
@@ -60,7 +60,7 @@ fn without_entry(
     entries.without(alloc, &entry.net())
 }
 
-// The answer to an entry that is added, by the sign that its network has.
+// The answer for an entry that is added, by the sign that its network has so far.
 fn addition(there: Option<bool>, sign: bool) -> Addition
     ensures { result ≡ addition there sign }
 {
@@ -71,8 +71,8 @@ fn addition(there: Option<bool>, sign: bool) -> Addition
     }
 }
 
-// The sign that a network was first named with in a list, by the sign that it has once the list was added to a table: its own,
-// where the table doesn't have it, or else the one that is noted.
+// The sign with which a list first named a network, by the sign that the network has so far: that one, if the table doesn't have the
+// network, else the one that was noted.
 fn first_sign(table: &EntryMap, noted: &EntryMap, there: Option<bool>, net: Net) -> Option<bool>
     ensures { result ≡ first_sign (sign_of net table.now) (sign_of net noted.now) there }
 {
@@ -82,7 +82,7 @@ fn first_sign(table: &EntryMap, noted: &EntryMap, there: Option<bool>, net: Net)
     }
 }
 
-// What is noted of a list that is added to a table: the sign of each network of the table that is named for the first time.
+// What is noted while a list is added to a table: the sign with which each network of the table is first named.
 fn noted_with(
     alloc: Global,
     noted: EntryMap,
@@ -99,10 +99,9 @@ fn noted_with(
     with_entry(alloc, noted, named, entry)
 }
 
-/// The entries of a table with a list of them added in turn, and the answer to each. The refusals are `Conflict`, and `Memory`.
+/// The entries of a table after a list of them was added in turn, and the answer for each. Refuses with `Conflict` or `Memory`.
 ///
-/// A network that neither the table nor the list before it has is looked for once, so that a long list costs little more than its
-/// changes.
+/// A network that is neither in the table nor earlier in the list takes one search, so that a long list costs little more than its changes.
 pub(crate) fn add_all(
     alloc: Global,
     table: &EntryMap,
@@ -130,7 +129,7 @@ pub(crate) fn add_all(
     Ok((after, answers))
 }
 
-// The answer to an entry that is deleted, by whether it is there with its sign.
+// The answer for an entry that is deleted, by whether it is there with its sign.
 fn deletion(is_there: bool) -> Deletion
     ensures { result ≡ deletion is_there }
 {
@@ -141,7 +140,7 @@ fn deletion(is_there: bool) -> Deletion
     }
 }
 
-/// The entries with a list of them deleted in turn, and the answer to each.
+/// The entries after a list of them was deleted in turn, and the answer for each.
 pub(crate) fn delete_all(
     alloc: Global,
     entries: EntryMap,

@@ -8,7 +8,7 @@ use pf_lanes::NetCols;
 use pf_map::{Beside, PageBeside, TreeMap};
 use std::alloc::{AllocError, Global};
 
-/// A page's entries in a list, and their networks in columns.
+/// A page's entries as a list, and their networks in columns.
 #[derive(Drop)]
 pub struct PageColumns {
     pub(crate) entries: Vec<Entry>,
@@ -18,7 +18,7 @@ pub struct PageColumns {
 /// A page of a table.
 pub type TablePage = PageBeside<Net, bool, Entry, PageColumns>;
 
-/// Entries in the order of their networks, each by itself in its page.
+/// Entries in the order of their networks, each in its page.
 pub(crate) type EntryMap = TreeMap<Net, bool, Entry, TablePage>;
 
 // The networks of entries.

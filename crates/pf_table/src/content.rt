@@ -1,4 +1,4 @@
-//! Tables as the values of maps.
+//! Tables as values of maps.
 ghost use Rattle.pf_map.specs.ListMaps.{unless_empty, kept_again};
 
 use crate::table::Table;

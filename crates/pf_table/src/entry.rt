@@ -30,11 +30,11 @@ impl Model for Entry {
 }
 
 impl Entry {
-    /// The network, negated or plain.
+    /// An entry of this network, negated or plain.
     pub fn new(net: Net, is_negated: bool) -> Entry
         ensures { result ≡ (net, is_negated) }
     {
-        // what keeps its network a network is what its family tells
+        // the contract of `family` says that the network is one
         let _family = net.family();
         Entry { net, is_negated }
     }

@@ -10,11 +10,11 @@ use pf_form::bytes::{
 use pf_map::Key;
 use std::alloc::{AllocError, Global};
 
-/// 20 bytes: the family, 4 or 6; how many bits the network's front has; 1 where it is negated, else 0; a zero; and the network's
-/// first address in 16 bytes, big-endian, one of IPv4 in the first four. It is the same in each version.
+/// 20 bytes: the family, 4 or 6; the prefix length; 1 if it is negated, else 0; a zero; and the network's first address in 16 bytes,
+/// big-endian, an IPv4 address in the first four. It is the same in each version.
 ///
-/// Bytes that are no entry's fail where they go wrong; host bits that aren't zero, and a front longer than an address, at the first
-/// byte. No memory is taken.
+/// Bytes that aren't an entry's fail where they go wrong; host bits that aren't zero and a prefix longer than an address fail at the first
+/// byte. It takes no memory.
 impl Layout for Entry {
     ghost use Rattle.pf_table.specs.EntryForms.{EntryShape, entry, plain_entry, entry_before};
 
@@ -54,7 +54,7 @@ impl Layout for Entry {
     }
 }
 
-// Puts three numbers of one byte each behind the bytes, and a zero. At once: a snapshot has tens of thousands of entries.
+// Appends three numbers of one byte each, and a zero, in one push: a snapshot has tens of thousands of entries.
 #[tactic(auto, using(crate::proofs::Written::four_pushed))]
 fn push_front(out: &mut Vec<u8>, family: u8, length: u8, negated: u8) -> Result<(), AllocError>
     ensures { OnOk result (out.new.items
@@ -63,7 +63,7 @@ fn push_front(out: &mut Vec<u8>, family: u8, length: u8, negated: u8) -> Result<
     push_bytes(out, &[family, length, negated, 0])
 }
 
-// An entry of IPv4, at once.
+// Appends an entry of IPv4 in one push.
 #[tactic(auto, unfolding(pf_form::specs::Bytes::BasicForms::number_bytes), using(crate::proofs::Written::entry_pushed))]
 fn push_v4(out: &mut Vec<u8>, length: u8, negated: u8, address: u32) -> Result<(), AllocError>
     ensures { OnOk result (out.new.items ≡ onto (back (number 4) (replicate 12 0)) address
@@ -81,7 +81,7 @@ fn push_v4(out: &mut Vec<u8>, length: u8, negated: u8, address: u32) -> Result<(
 impl Fitting for Entry {
     #[tactic(auto, using(crate::specs::Laws::EntryForms::entry_fits))]
     fn fits(&self, _version: u8) {
-        // what keeps its network a network is what the network tells
+        // the contract of `net` says that the network is one
         let _net = self.net();
     }
 }

@@ -11,30 +11,30 @@ pub fn the_limit_of_entries()
     ensures { TABLE_LIMIT ≡ 65536 }
 {}
 
-/// Networks are in a total order, in which only equal ones tie.
+/// Networks have a total order, in which only equal ones tie.
 #[tactic(auto, using(pf_addr::specs::Laws::NetOrder::net_total, pf_addr::specs::Laws::NetOrder::net_same))]
 pub fn networks_are_in_order()
     ensures total { IsTotalOrder net_order }
     ensures own { IsAntisymmetric net_order }
 {}
 
-/// In a table at most one entry decides about an address: it contains the address, and every other one that does has a shorter
-/// prefix. There is none exactly where no entry contains the address. The table matches the address exactly where an entry decides
-/// that isn't negated. No entry contains an address of the other family.
+/// In a table at most one entry decides about an address: it contains the address, and every other one that does has a shorter prefix.
+/// There is none exactly where no entry contains the address. The table matches the address exactly where the entry that decides isn't
+/// negated. No entry contains an address of the other family.
 pub fn one_entry_decides()
     ensures decides { TableDecides }
     ensures matches { TableMatches }
     ensures family { FamiliesApart }
 {}
 
-/// Two tables in which each network has the same sign are one.
+/// Two tables in which each network has the same sign are equal.
 #[tactic(auto, using(crate::proofs::TableLaws::one_table_law))]
 pub fn one_table()
     ensures { OneTable }
 {}
 
-/// After an edit each network has the sign that the edit gives it, or else its own; one that the edit doesn't name stays as it
-/// is. What is left is a table, if it has few enough entries.
+/// After an edit each network has the sign that the edit gives it, or else keeps its own: an add never changes a sign, and a network that
+/// an add or a delete doesn't name stays as it is. What is left is a table, if it has few enough entries.
 pub fn edits_change_what_they_name()
     ensures adds { AddsWhatIsNamed }
     ensures deletes { DeletesWhatIsNamed }
@@ -43,10 +43,10 @@ pub fn edits_change_what_they_name()
     ensures table { StaysTable }
 {}
 
-/// Each entry of an edit has one answer, in the order of the entries. Where the table has its network before the edit, an entry
-/// that is added is answered by that sign; else the first that names its network is `Added`, and those behind it `Same`. One that is
-/// deleted is `Deleted` where the table has it with its sign and no entry before it names its network, else `Absent`. As many are
-/// answered added or deleted as the table grows or shrinks by. To add or to delete an entry once more changes nothing.
+/// Each entry of an edit has one answer, in the order of the entries. An entry that is added is answered by the sign that the table had for
+/// its network before the edit; without one, the first that names the network is `Added`, and later ones are `Same`. One that is deleted is
+/// `Deleted` if the table had it with its sign and no earlier entry names its network, else `Absent`. As many are answered `Added` or
+/// `Deleted` as the table grows or shrinks by. Adding or deleting an entry once more changes nothing.
 pub fn answers_say_what_changed()
     ensures each { OneAnswerEach }
     ensures entries { AnswersInOrder }
@@ -54,15 +54,15 @@ pub fn answers_say_what_changed()
     ensures repeats { RepeatsChangeNothing }
 {}
 
-/// The conflict that is told is at the first entry whose network stood before it with the other sign; where none is told there is
-/// no such entry.
+/// The conflict that is answered is at the first entry whose network came before it with the other sign; if none is answered, there is no
+/// such entry.
 #[tactic(auto, using(crate::proofs::TableLaws::tells_the_first_conflict))]
 pub fn the_first_conflict_is_told()
     ensures { TellsTheFirstConflict }
 {}
 
-/// Each entry can be written in bytes, and they tell it. So can a table's entries in their order behind their number, and entries that
-/// are read in that order are a table's. An entry takes 20 bytes.
+/// Each entry can be written in bytes, from which it can be read. So can a table's entries in their order, after their number, and entries
+/// that are read in that order are a table's. An entry takes 20 bytes.
 #[tactic(auto, using(crate::specs::Laws::EntryForms::entry_fits, crate::specs::Laws::EntryForms::entry_again, crate::specs::Laws::EntryForms::entry_long, crate::proofs::TableRows::in_order_is))]
 pub fn entries_have_bytes_of_their_own()
     ensures fits { (e : PlainEntry) → IsNetwork e.0 → Fits entry (plain_entry e) }

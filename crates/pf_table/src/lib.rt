@@ -1,15 +1,20 @@
 //! Tables: networks, each plain or negated, and which of them decides about an address (pf.conf(5), TABLES).
 //!
-//! It knows the addresses and networks of pf_addr, the maps of pf_map and the columns of pf_lanes. It doesn't know where a table is, or who
-//! names it.
+//! It knows the addresses and networks of pf_addr, the maps of pf_map and the columns of pf_lanes. It doesn't know where a table is, or
+//! which rules name it.
 //!
-//! A table is the list of its entries in the order of their networks, none of them twice; of those that contain an address the one with
-//! the longest prefix decides. Read first specs/Tables.antt, which says so, and specs/Edits.antt, what an edit leaves and answers;
-//! specs/Laws.antt says the same without the recursion. Callers use `Table`, whose entries stand in a map in the order of their
-//! networks: an edit gathers its list (`batch`) and changes the map entry by entry (`change`), and a look-up takes a few
-//! searches (`lookup`). In bytes an entry is as specs/EntryForms.antt says (`entry_form`).
+//! A table is the list of its entries in the order of their networks, none of them twice; of those that contain an address the one with the
+//! longest prefix decides. Read specs/Tables.antt first, which says so, then specs/Edits.antt, what an edit leaves and answers, then
+//! specs/Laws/Tables.antt, which says both without recursion.
 //!
-//! A table can be a map's value itself (`content`).
+//! Callers use `Table`, whose entries are in a map in the order of their networks. An edit is `batch`, which gathers its list, and
+//! `change`, which changes the map entry by entry; `lookup` finds the entry that decides in a few searches, by what `columns` keeps in a
+//! page. `entry` and `entry_form` are an entry and its bytes (specs/EntryForms.antt), `answer`, `refusal` and `limits` what edits answer
+//! and refuse, and `content` makes a table a map's value.
+//!
+//! Proved: what a look-up finds, what each edit leaves, answers and refuses (the contracts of `Table`); that at most one entry decides,
+//! that equal signs make equal tables, that edits change only what they name, and that entries come back from their bytes (`laws`). Nothing
+//! is only tested here; how many searches a look-up takes isn't stated.
 #![tactic(auto)]
 
 mod answer;

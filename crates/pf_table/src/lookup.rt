@@ -9,7 +9,7 @@ use crate::entry::Entry;
 use pf_addr::{Addr, Net};
 use pf_lanes::longest;
 
-// How many first bits two addresses share. None: they are of different families.
+// How many first bits two addresses share; `None` if they are of different families.
 fn shared_bits(one: Addr, other: Addr) -> Option<u8>
     ensures { MatchOption result (family_of one ≢ family_of other) (Share one other) }
 {
@@ -20,7 +20,7 @@ fn shared_bits(one: Addr, other: Addr) -> Option<u8>
     }
 }
 
-// Of the entries of a page's columns that contain an address a longest one.
+// Of the entries of a page's columns that contain an address, one with the longest prefix.
 fn in_columns(columns: &PageColumns, addr: Addr) -> Option<Entry>
     requires { columns.now.nets ≡ map (λ e. e.0) columns.now.entries.items }
     ensures { MatchOption result (NoneContains columns.now.entries.items addr) (IsLongest columns.now.entries.items addr) }
@@ -29,7 +29,7 @@ fn in_columns(columns: &PageColumns, addr: Addr) -> Option<Entry>
     Some(columns.entries[place])
 }
 
-// Of a page's entries that contain an address the last one.
+// The last of a page's entries that contain an address.
 fn from_the_end(page: &TablePage, addr: Addr) -> Option<Entry>
     ensures { MatchOption result (NoneContains page.now addr) (IsLast page.now addr) }
 {
@@ -44,8 +44,8 @@ fn from_the_end(page: &TablePage, addr: Addr) -> Option<Entry>
     None
 }
 
-// Of a page's entries that contain an address one with the longest prefix, by its columns or else from the end on: of networks that
-// contain an address the longer stands behind.
+// Of a page's entries that contain an address, one with the longest prefix, by its columns or else from its end: of networks that contain
+// an address, the longer comes later.
 fn longest_in(page: &TablePage, addr: Addr) -> Option<Entry>
     requires { T (is_sorted net_order page.now) }
     ensures { MatchOption result (NoneContains page.now addr) (IsLongest page.now addr) }
@@ -58,10 +58,10 @@ fn longest_in(page: &TablePage, addr: Addr) -> Option<Entry>
 
 /// The entry that decides about an address: of those that contain it the one with the longest prefix. It takes no memory.
 ///
-/// The page of the last entry that isn't behind the address decides if an entry of it contains it, since of networks that contain an
-/// address the longer stands behind. If none does, each network that contains the address stands before the page, and so has no more
-/// bits than the first address of the page's first entry shares with it: the search goes on with so many, as long as an entry may
-/// have so few.
+/// If an entry of the page of the last entry that isn't past the address contains it, that page decides, since of networks that contain an
+/// address the longer comes later. If none does, each network that contains the address comes before the page, so its prefix is no longer
+/// than what the address shares with the first address of the page's first entry: the search goes on with that length, down to the shortest
+/// that an entry may have.
 pub(crate) fn decider(entries: &EntryMap, shortest: u8, addr: Addr) -> Option<Entry>
     requires table { IsTable entries.now }
     requires shortest { NoneShorter shortest entries.now }

@@ -7,11 +7,11 @@ use std::alloc::AllocError;
 /// Why a table isn't edited. After each of these it is as before.
 #[derive(Clone, Copy, Debug, PartialEq, Eq)]
 pub enum TableRefusal {
-    /// The first entry of the list, from 0, whose network stands before it with the other sign.
+    /// The entry at `at`, from 0, is the first whose network came earlier in the list with the other sign.
     Conflict { at: usize },
     /// The table would have more than 65,536 entries.
     TableFull,
-    /// A growth of memory was refused.
+    /// Out of memory.
     Memory,
 }
 

@@ -17,8 +17,8 @@ use pf_map::Entries;
 use std::alloc::{AllocError, Global};
 use std::marker::Model;
 
-/// At most 65,536 networks, none of them twice, each plain or negated. Contracts see the list of its entries in order: V4
-/// before V6, then by the first address, then the shorter prefix before the longer.
+/// At most 65,536 networks, none of them twice, each plain or negated. Contracts see the list of its entries in order: IPv4 before IPv6,
+/// then by the first address, then the shorter prefix before the longer.
 pub struct Table {
     entries: EntryMap,
     /// No entry's network has fewer bits.
@@ -47,7 +47,7 @@ impl Model for Table {
     ghost invariant = { λ t. IsTable t.entries × NoneShorter t.shortest t.entries };
 }
 
-// The fewest bits that a network of these entries has. What keeps each of them a network is what its entry tells.
+// The shortest prefix length of these entries. The contract of `net` says that each has a network.
 fn shortest_of(entries: &[Entry]) -> u8
     ensures networks { All (λ e. IsNetwork e.0) entries.now }
     ensures shortest { NoneShorter result entries.now }
@@ -60,7 +60,7 @@ fn shortest_of(entries: &[Entry]) -> u8
 }
 
 impl Table {
-    /// No entries. It takes no memory.
+    /// A table without entries. It takes no memory.
     pub fn empty() -> Table
         ensures { result ≡ [] }
     {
@@ -70,7 +70,7 @@ impl Table {
         }
     }
 
-    /// The table of these entries, which stand in its order, no network twice, and are at most 65,536. `AllocError`: nothing is made.
+    /// The table of these entries, which are in a table's order, no network twice, at most 65,536. `AllocError`: nothing is made.
     pub fn of(alloc: Global, entries: &[Entry]) -> Result<Table, AllocError>
         requires { AreEntries entries.now }
         ensures { IfOk result (λ t. t ≡ entries.now) }
@@ -82,7 +82,7 @@ impl Table {
         })
     }
 
-    /// The same entries, none of them copied. `AllocError`: they can't have another owner.
+    /// The same entries, shared and not copied. `AllocError`: they can't have another owner.
     pub fn shared(&self) -> Result<Table, AllocError>
         ensures { IfOk result (λ t. t ≡ self.now) }
     {
@@ -109,7 +109,7 @@ impl Table {
     /// The entries in order. It takes no memory.
     pub fn entries(&self) -> Entries<'_, Net, bool, Entry, TablePage>
         ensures value { result ≡ self.now }
-        // what each table keeps
+        // the invariant of tables
         ensures table { IsTable self.now }
     {
         self.entries.entries()
@@ -135,11 +135,10 @@ impl Table {
         }
     }
 
-    /// Adds entries in turn; where a network is there already, it stays as it is. Answers of each entry what became of it, in
-    /// the order handed in.
+    /// Adds entries in turn; a network that is there already stays as it is. Answers what became of each entry, in the order handed in.
     ///
-    /// The refusal is the first in this order: [`TableRefusal::Conflict`], [`TableRefusal::TableFull`] by how many entries there
-    /// would be after it; [`TableRefusal::Memory`] may come before any of them. After a refusal the table is as before.
+    /// The refusal is the first in this order: [`TableRefusal::Conflict`], [`TableRefusal::TableFull`] by how many entries there would be;
+    /// [`TableRefusal::Memory`] may come before any of them. After a refusal the table is as before.
     pub fn add(&mut self, alloc: Global, entries: &[Entry]) -> Result<Vec<Addition>, TableRefusal>
         ensures refused { Refuses Memory result (edit_refusal entries.now (added self.old entries.now)) }
         ensures answers { IfOk result (λ v. v.items ≡ additions self.old entries.now) }
@@ -156,10 +155,9 @@ impl Table {
         Ok(answers)
     }
 
-    /// Takes out, in turn, those entries that are there with this sign. Answers of each entry what became of it, in the order
-    /// handed in.
+    /// Takes out, in turn, the entries that are there with their sign. Answers what became of each entry, in the order handed in.
     ///
-    /// The refusals are those of [`Table::add`], and `TableFull` isn't among them. After a refusal the table is as before.
+    /// It refuses as [`Table::add`] does, but never with `TableFull`. After a refusal the table is as before.
     pub fn delete(
         &mut self,
         alloc: Global,
@@ -178,7 +176,7 @@ impl Table {
         Ok(answers)
     }
 
-    /// Has the table hold these entries alone. The refusals are those of [`Table::add`]; after one the table is as before.
+    /// Replaces all entries by these. The refusals are those of [`Table::add`]; after one the table is as before.
     pub fn replace(&mut self, alloc: Global, entries: &[Entry]) -> Result<(), TableRefusal>
         ensures refused { Refuses Memory result (edit_refusal entries.now (replaced entries.now)) }
         ensures after { self.new ≡ cond (is_ok result) (replaced entries.now) self.old }

@@ -1,4 +1,5 @@
--- The valid ticket of a ruleset is the one that the latest mention that touched it gave, and what was added and defined since is offered with it.
+-- The valid ticket of a ruleset is the one that the latest mention that touched it gave, and what was added and defined since then is
+-- offered with it.
 use Rattle.std.proofs.{Common.{◌≡◌, ℕ, Bool, true, false, cond, ◌&&◌, ◌==◌, List, [], ◌∷◌, ◌++◌, refl, sym, ap, ◌∙◌, subst, Option, Some, None, ◌⊎◌, inl, inr, append_assoc, fold}, lemmas.Bool.{eqb-true, and_parts, cond_both}, lemmas.List.append-nil, lemmas.List.Sums.fold-append}
 use Rattle.std.specs.{Prelude.{flat_map, T}, FinMap.{find, is_sorted}, FinMap.Entries.{find-put, is_sorted-put}, Cmp.Lexicographic.nat_list_cmp_total, List.last_or}
 use Rattle.pf_addr.specs.Path.Names.{name_order, same_name as same_table}
@@ -7,7 +8,7 @@ use Rattle.pf_table.specs.{Edits.replaced, Entries.PlainEntry}
 use Rattle.pf_ticket.specs.{declared.{name.RulesetName.RulesetName, ticket.Ticket.Ticket}, Laws.Tickets.{touches, AreQuiet, IsGivenLast, ValidIsGivenLast, GivenLastIsValid, rules_added, OffersTheAdded, tables_defined, OffersTheDefined}, Mentions.{Mention, gave, added, defined, switched, dropped, named_in, moved, after}, Names.{filter_at, table_ruleset_at, same_name, ticket, same_ticket, is_ticket}, Laws.Names.{names_alike, name_is}, NamedTables.PlainDefinedTable, Tickets.{Loaded, nothing, with_rule, with_table, PlainOffer, offer_with, offer_at, PlainTickets, fresh, next_ticket, ticket_in, loaded_in, valid_ticket, loaded, is_valid}}
 use Rattle.pf_ticket.proofs.Moves.{made_by, reads}
 
--- two tickets that are the same are one
+-- two tickets that are the same are equal
 ticket_is : (u w : Ticket) → same_ticket u w ≡ true → u ≡ w
 ticket_is u w h =
     let both : (u.epoch == w.epoch ≡ true) × (u.count == w.count ≡ true) = and_parts (u.epoch == w.epoch) (u.count == w.count) h in
@@ -37,7 +38,7 @@ dropped-stood : (t : PlainTickets) (n : RulesetName) (w u : Ticket) (b : Bool) �
 dropped-stood t n w u true e h = absurd (cc (h))
 dropped-stood t n w u false e h = (h, ap (λ (v : Option Ticket). is_ticket v w) (sym h) ∙ e)
 
--- by the mention's own ruleset
+-- for the mention's own ruleset
 own-stood : (t : PlainTickets) (m : Mention) (ms : List Mention) (u : Ticket) → ticket_in (made_by t m) ≡ Some u → AreQuiet (named_in m) u ms → StoodOrGiven t (m ∷ ms) (named_in m) u
 own-stood t (gave n) ms u h quiet = inr (record { before = []; given = n; behind = ms; all = refl; same = names_alike.refl n; ticket = (let is : Some (next_ticket t) ≡ Some u = h in cc (is)); quiet = quiet })
 own-stood t (added n w r) ms u h quiet = inl (loaded-stood t n w u (with_rule (loaded t n) r) (is_valid t n w) refl h, (refl, quiet))
@@ -86,7 +87,7 @@ loads q u l (dropped n w) = l
 abbrev Has : Ticket → Loaded → Option PlainOffer → Type 0
 Has u l v = (ticket_in v ≡ Some u) × (loaded_in v ≡ l)
 
--- by the mention's own ruleset
+-- for the mention's own ruleset
 own-load : (t : PlainTickets) (n : RulesetName) (w u : Ticket) (l : Loaded) (b : Bool) → is_valid t n w ≡ b → valid_ticket t n ≡ Some u → Has u (cond (same_name n n && same_ticket u w) l (loaded t n)) (cond b (Some (offer_with w l)) (offer_at t.offers n))
 own-load t n w u l true e h =
     let same : same_ticket u w ≡ true = ap (λ (v : Option Ticket). is_ticket v w) (sym h) ∙ e in

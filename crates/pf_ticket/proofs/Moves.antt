@@ -1,4 +1,4 @@
--- What a mention makes of its ruleset's offer, and that it leaves the others: one law for all mentions, and what follows of lists of them.
+-- What a mention makes of its ruleset's offer, and that it leaves the others: one law for all mentions, and what follows for lists of them.
 use Rattle.std.proofs.{Common.{◌≡◌, ℕ, ◌+◌, ◌<◌, Bool, true, false, not, cond, ◌&&◌, ◌||◌, List, [], ◌∷◌, ◌++◌, length, map, take, get_or, refl, sym, ap, ◌∙◌, Option, Some, None, is_some, arith}, lemmas.Bool.{or_parts, or_right, cond_both}, lemmas.List.map-id, lemmas.List.Folds.fold-map, lemmas.List.Sums.{fold-append, fold_more}, lemmas.Simd.map-map}
 use Rattle.std.specs.List.{list_any}
 use Rattle.pf_ticket.specs.{declared.{entry.RulesetTicket.RulesetTicket, name.RulesetName.RulesetName, ticket.Ticket.Ticket}, Laws.Tickets.{StartsWithNothing, LeavesTheOthers, CommitTakesOut, RollbackDropsExactly, GoesOnAgreeing, CountsTheOpen}, Mentions.{Mention, gave, added, defined, switched, dropped, named_in, load, with_offers, take_out, moved, after, opened, gives}, Names.{same_name, is_named, is_ticket}, Laws.Names.name_is, Tickets.{Loaded, nothing, with_rule, with_table, offered_as, PlainOffer, PlainSlots, offer_with, offer_at, with_offer, with_all, given_from, PlainTickets, tickets_with, fresh, next_ticket, ticket_in, loaded_in, loaded, is_valid}}
@@ -17,7 +17,7 @@ made_by t (defined n u name xs) = loaded_by t n u (with_table (loaded t n) name 
 made_by t (switched n) = None
 made_by t (dropped n u) = cond (is_valid t n u) None (offer_at t.offers n)
 
--- where the ticket isn't valid its own offer stays, read by either name
+-- if the ticket isn't valid, its own offer stays, read by either name
 where-valid : (t : PlainTickets) (n q : RulesetName) (b : Bool) (os : PlainSlots) (v : Option PlainOffer) → offer_at os q ≡ cond (same_name n q) v (offer_at t.offers q) → offer_at (cond b (with_offers t os) t).offers q ≡ cond (same_name n q) (cond b v (offer_at t.offers n)) (offer_at t.offers q)
 where-valid t n q true os v h = h
 where-valid t n q false os v h = cond_both (same_name n q) (offer_at t.offers n) (offer_at t.offers q) (λ (w : Option PlainOffer). offer_at t.offers q ≡ w) (λ e. ap (offer_at t.offers) (sym (name_is n q e))) (λ e. refl)
@@ -118,7 +118,7 @@ counts_the_open epoch ms =
 
 -- ---- what a begin leaves
 
--- it mentions what it names
+-- a begin mentions what it names
 pub gives-named : (names : List RulesetName) → map named_in (gives names) ≡ names
 gives-named names = map-map named_in (λ (n : RulesetName). gave n) names ∙ map-id names
 
@@ -132,7 +132,7 @@ starts-from t (n ∷ ns) q h =
 pub starts_with_nothing : StartsWithNothing
 starts_with_nothing t names name named = ap (offered_as name.kind) (starts-from t names name (λ none. let k : true ≡ false = sym named ∙ none in absurd (cc (k))))
 
--- what it offers, all at once
+-- all that it offers at once
 one-given : (t : PlainTickets) (next : ℕ) (os : PlainSlots) → next ≡ t.next → os ≡ t.offers → tickets_with t.epoch next os ≡ t
 one-given t next os e f = λ i. tickets_with t.epoch (e i) (f i)
 
@@ -162,7 +162,7 @@ count-new : (k : ℕ) (b new : Bool) → new ≡ not b → k + cond b 0 1 ≡ k 
 count-new k true new h = ap (λ (c : Bool). k + cond c 1 0) (sym h)
 count-new k false new h = ap (λ (c : Bool). k + cond c 1 0) (sym h)
 
--- one name more counts where it has no offer and stands nowhere before
+-- one more name counts if it has no offer and isn't named before
 pub opened_more : (t : PlainTickets) (names : List RulesetName) (i : ℕ) (name : RulesetName) (new : Bool) → AreInOrder t.offers → i < length names → name ≡ get_or names i name → new ≡ not (is_some (offer_at t.offers name) || is_named (take i names) name) →
     length (after t (gives (take (i + 1) names))).offers ≡ length (after t (gives (take i names))).offers + cond new 1 0
 opened_more t names i name new h l e is =

@@ -1,4 +1,4 @@
--- What is read of a ruleset once its offer was replaced, that offers stay in order, and where one stands.
+-- What is read of a ruleset after its offer was replaced, that offers stay in order, and where one is.
 use Rattle.std.proofs.{Common.{◌≡◌, ℕ, ◌+◌, ◌<◌, ◌≤◌, Bool, true, false, not, cond, T, List, [], ◌∷◌, length, map, set, refl, sym, ap, ◌∙◌, subst, Option, Some, None, arith, is_some}, lemmas.Cmp.{nat_cmp_total, nat_list_cmp_total}, lemmas.List.Sums.{length-filter, count_by-le-length}}
 use Rattle.std.specs.{Cmp.{IsTotalOrder, on_total, then_total}, FinMap.{put, is_sorted, IsAntisymmetric}, FinMap.Entries.{by_order, is_some-find, is_sorted-where_key, length_without, length-put}, List.{HoldsAt, list_any, remove}, List.Sorted.{IsBinarySearchResult, IsSearchInRange}, Ordering.{eq_by_cmp, is_eq}, Prelude.{Result, Ok, Err, IfOk, IfErr}}
 use Rattle.std.specs.declared.cmp.Ordering.TheVariants.{Less, Equal, Greater}
@@ -19,7 +19,7 @@ ties_by a b Filter Table e f = rw (e, f) refl
 ties_by a b Table Filter e f = rw (e, f) refl
 ties_by a b Table Table e f = rw (e, f) refl
 
--- names tie where they are one
+-- names tie if they are of one ruleset
 pub ties : (a b : RulesetName) → eq_by_cmp ruleset_order a b ≡ same_name b a
 ties a b = ties_by a b a.kind b.kind refl refl ∙ names_alike.symm a b
 
@@ -49,14 +49,14 @@ pub stay_sorted : (os new : PlainSlots) → AreInOrder os → AreInOrder (with_a
 stay_sorted os [] h = h
 stay_sorted os (e ∷ new) h = stay_sorted (with_offer os e.0 (Some e.1)) new (stays_sorted os e.0 (Some e.1) h)
 
--- where the ruleset's offer stands
+-- setting the offer at the ruleset's place keeps the order
 pub sorted_set : (os : PlainSlots) (n : RulesetName) (i : ℕ) (o : PlainOffer) → IsPlace n os i → AreInOrder os → AreInOrder (set os i (n, o))
 sorted_set os n i o at h = subst AreInOrder (at.replaced o) (stays_sorted os n (Some o) h)
 
 pub sorted_removed : (os : PlainSlots) (n : RulesetName) (i : ℕ) → IsPlace n os i → AreInOrder os → AreInOrder (remove os i)
 sorted_removed os n i at h = subst AreInOrder at.removed (stays_sorted os n None h)
 
--- no ruleset has two
+-- no ruleset has two offers
 pub distinct : (os : PlainSlots) → AreInOrder os → IsDistinct (names_under os)
 distinct [] h = tt
 distinct (e ∷ os) h = (named_under os e.0 ∙ ap is_some (find_below order_total e.0 os (first_of _ _ h)), distinct os (second_of _ _ h))
@@ -82,7 +82,7 @@ length_less : (n : RulesetName) (os : PlainSlots) → is_some (offer_at os n) �
 length_less n [] h = absurd (cc (h))
 length_less n (e ∷ os) h = less_by n e os (eq_by_cmp ruleset_order n e.0) refl (length_less n os) h
 
--- where the ruleset had an offer there is none more
+-- a ruleset that had an offer adds none
 pub length_replaced : (os : PlainSlots) (n : RulesetName) (o : PlainOffer) → is_some (offer_at os n) ≡ true → length (with_offer os n (Some o)) ≤ length os
 length_replaced os n o h = let left = length_less n os h in let grown = put_grows n o (without ruleset_order os n) in omega (arith, left, grown)
 
@@ -100,7 +100,7 @@ length_with os n o h =
     (length-put ruleset_order order_total n o others (is_sorted-where_key ruleset_order (λ x. not (eq_by_cmp ruleset_order n x)) os h))
     (length_without ruleset_order order_total n os h)
 
--- ---- what a search by halving answers
+-- ---- what a binary search answers
 
 some_at : (n : RulesetName) (os : PlainSlots) (i : ℕ) → AreInOrder os → i < length os → HoldsAt (λ e. e.0 ≡ n) os i → is_some (offer_at os n) ≡ true
 some_at n [] i h lt at = absurd (omega (arith, lt))

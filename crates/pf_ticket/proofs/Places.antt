@@ -1,4 +1,4 @@
--- In a list in the order of its keys: where a key stands, and what is found, replaced or taken out there.
+-- In a list in the order of its keys: where a key is, and what is found, replaced or taken out there.
 use Rattle.std.proofs.{Common.{◌≡◌, ℕ, zero, suc, ◌<◌, ◌≤◌, ◌&&◌, Bool, true, false, not, cond, T, List, [], ◌∷◌, length, get_or, set, add-one, Some, None, refl, sym, ap, ◌∙◌, subst, arith}, lemmas.Cmp.tied_itself, lemmas.List.Sorted.searchable_from_sorted}
 use Rattle.std.specs.{declared.{cmp.Ordering.Ordering, cmp.Ordering.TheVariants.Less, cmp.Ordering.TheVariants.Equal, cmp.Ordering.TheVariants.Greater}, Cmp.IsTotalOrder, FinMap.{find, put, is_sorted}, FinMap.Entries.below_all, List.{HoldsAt, insert, remove}, List.Sorted.{IsNonDecreasingBy, IsPartitionPoint}, Ordering.{is_eq, is_lt, ordering_index, ordering_reverse}}
 use Rattle.pf_map.specs.Maps.{without, with_value}
@@ -40,7 +40,7 @@ module _ {K X : Type 0} {R : K → K → Ordering} (o : IsTotalOrder R) where
   below_at k (e ∷ es) zero d h lt = less_of _ (first_of _ _ h)
   below_at k (e ∷ es) (suc i) d h lt = below_at k es i d (second_of _ _ h) (omega arith)
 
-  -- ---- a key in front of all
+  -- ---- a key before all others
 
   pub find_below : (k : K) (es : List (K × X)) → Below k es → find R k es ≡ None
   find_below k [] h = refl
@@ -54,7 +54,7 @@ module _ {K X : Type 0} {R : K → K → Ordering} (o : IsTotalOrder R) where
   put_below k v [] h = refl
   put_below k v (e ∷ es) h = rw (less_of (R k e.0) (first_of _ _ h)) refl
 
-  -- ---- what a search by halving asks
+  -- ---- what a binary search asks
 
   ordered : (es : List (K × X)) → IsInOrder es → (i : ℕ) (d : K × X) → suc i < length es → is_lt (R (get_or es (suc i) d).0 (get_or es i d).0) ≡ false
   ordered [] h i d lt = absurd (omega arith)

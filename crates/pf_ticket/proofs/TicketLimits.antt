@@ -10,7 +10,7 @@ use Rattle.pf_anchor.specs.declared.limits.TheConstants.{RULE_LIMIT, RULESET_LIM
 use Rattle.pf_ticket.specs.{declared.{entry.RulesetTicket.RulesetTicket, limits.TheConstants.LAST_COUNT, limits.TheConstants.OFFERED_TABLE_LIMIT, name.RulesetKind.RulesetKind, name.RulesetKind.TheVariants.Filter, name.RulesetKind.TheVariants.Table, name.RulesetName.RulesetName, refusal.TicketRefusal.TicketRefusal, refusal.TicketRefusal.TheVariants.BadCount, refusal.TicketRefusal.TheVariants.Conflict, refusal.TicketRefusal.TheVariants.Busy, refusal.TicketRefusal.TheVariants.RulesetFull, refusal.TicketRefusal.TheVariants.TableFull, refusal.TicketRefusal.TheVariants.TooManyRulesets, refusal.TicketRefusal.TheVariants.TooManyTables, refusal.TicketRefusal.TheVariants.TicketsExhausted, ticket.Ticket.Ticket, ticket.TicketRange.TicketRange}, Laws.Tickets.{AreGiven, BeginsGive, TellsWhatIsGiven, IsFew, IsWithin, KeepsTheLimits}, Mentions.{gave, dropped, load, with_offers, take_out, moved, after, gives, switches, drops}, Names.{filter_at, table_ruleset_at, same_name, is_named, is_ticket, tickets_from, tickets_of}, Laws.Names.{names_alike, name_is}, Replies.{bad_count, range, begin_reply}, NamedTables.PlainDefinedTable, Tickets.{Loaded, nothing, with_rule, with_table, offered_as, PlainOffer, PlainSlots, offer_with, offer_at, with_offer, PlainTickets, next_ticket, ticket_in, loaded_in, valid_ticket, loaded, is_valid}}
 use Rattle.pf_ticket.proofs.{NamedTables.put_sorted, Moves.{load-keeps, made_by, reads, leaves_the_others, gives-named}, Offers.{reads_with, length_out, length_replaced}}
 
--- ---- what is kept where offers are taken out
+-- ---- what stays when offers are taken out
 
 switches-keep : (P : PlainTickets → Type 0) → ((t : PlainTickets) (n : RulesetName) → P t → P (take_out t n)) → (t : PlainTickets) (names : List RulesetName) → P t → P (after t (switches names))
 switches-keep P out t [] p = p
@@ -57,7 +57,7 @@ begins_give = record {
   rollback = λ t entries. drops-keep (AreGiven 0 t) (λ s n g. record { epoch = g.epoch; next = g.next }) t entries (none-given t t.offers);
 }
 
--- the ticket at a ruleset's place is its own
+-- the ticket at a ruleset's place is the ruleset's own
 own-ticket : (t : PlainTickets) (before : List RulesetName) (name : RulesetName) (behind : List RulesetName) → is_named behind name ≡ false → valid_ticket (after t (gives (before ++ name ∷ behind))) name ≡ slice_get (tickets_from t.epoch t.next (length (before ++ name ∷ behind))) (length before)
 own-ticket t [] name behind last =
     ap ticket_in (leaves_the_others (moved t (gave name)) (gives behind) name (ap (λ (ns : List RulesetName). is_named ns name) (gives-named behind) ∙ last) ∙ reads t (gave name) name ∙ ap (λ (b : Bool). cond b (made_by t (gave name)) (offer_at t.offers name)) (names_alike.refl name))

@@ -1,11 +1,11 @@
--- The entry that is found is the first of a ruleset named before it; and tickets that are numbered are given once.
+-- The entry that is found is the first of a ruleset named before it; and numbered tickets are given once each.
 use Rattle.std.proofs.{Common.{◌≡◌, ℕ, suc, zero, ◌+◌, ◌<◌, ◌==◌, Bool, false, cond, ◌||◌, List, [], ◌∷◌, ◌++◌, length, map, refl, sym, ap, subst, ◌∙◌, append-nil, append_assoc, Option, Some, None, arith, get_or, take, drop}, Math.Seq.{take-suc, drop-cons}, lemmas.Bool.{eqb-true, or_parts, or_from, and_right, false_from_ne_true, cond_both}, lemmas.List.{get_or-map, length-map, length-take-le, take-map}, lemmas.List.Folds.list_any-append}
 use Rattle.std.specs.List.{list_any}
 use Rattle.pf_ticket.specs.{declared.{entry.RulesetTicket.RulesetTicket, name.RulesetName.RulesetName, ticket.Ticket.Ticket}, Laws.Tickets.{IsFirstAgain, TwiceIsFirstAgain, OtherwiseOnce, GivesEachOnce}, Names.{same_name, is_named, names_of, ticket, same_ticket, tickets_from, IsDistinct}, Laws.Names.names_alike, Replies.twice_behind}
 
--- ---- one name more
+-- ---- one more name
 
--- whether one of these is of the ruleset
+-- whether one of these names the ruleset
 any-of : {A : Type 0} (name_of : A → RulesetName) (xs : List A) (q : RulesetName) → is_named (map name_of xs) q ≡ list_any (λ x. same_name (name_of x) q) xs
 any-of name_of [] q = refl
 any-of name_of (x ∷ xs) q = ap (λ (b : Bool). same_name (name_of x) q || b) (any-of name_of xs q)
@@ -39,7 +39,7 @@ distinct-behind (n ∷ ns) p d h =
     let other : (same_name n p ≡ false) × (is_named ns p ≡ false) = or_parts (same_name n p) (is_named ns p) h in
     (list_any-append (λ m. same_name m n) ns (p ∷ []) ∙ or_from (is_named ns n) (is_named (p ∷ []) n) d.0 (or_from (same_name p n) false (names_alike.symm p n ∙ other.0) refl), distinct-behind ns p d.1 other.1)
 
--- the first that is named again, or none is
+-- the place of the first that is named again, or none is
 abbrev IsFirstTwice : List RulesetName → Option ℕ → Type 0
 IsFirstTwice names None = IsDistinct names
 IsFirstTwice names (Some place) = IsFirstAgain names place

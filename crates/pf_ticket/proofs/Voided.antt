@@ -1,4 +1,4 @@
--- What is valid and offered once the tickets of some rulesets are void.
+-- What is valid and offered after the tickets of some rulesets were voided.
 use Rattle.std.proofs.Common.{◌≡◌, Bool, true, false, ◌&&◌, cond, List, Option, None, refl, ap, ◌∙◌}
 use Rattle.std.specs.Prelude.{not}
 use Rattle.pf_ticket.specs.{declared.{name.RulesetName.RulesetName, ticket.Ticket.Ticket}, Mentions.{switches, after}, Names.{is_named, is_ticket}, Tickets.{PlainOffer, PlainTickets, offer_at, offered_as, nothing_for, ticket_in, loaded_in, content, is_valid}}

@@ -1,5 +1,5 @@
--- What the steps of transactions that were accepted do to the rulesets that they name (pf(4), DIOCXBEGIN to DIOCXROLLBACK, and
--- DIOCRINADEFINE; that a later define of a table takes the place of the earlier is own).
+-- What accepted steps of transactions do to the rulesets that they name (pf(4), DIOCXBEGIN to DIOCXROLLBACK, and DIOCRINADEFINE; that a
+-- later define of a table replaces an earlier one is this project's own).
 use Rattle.std.specs.Prelude.{ℕ, ◌+◌, cond, List, map, fold, Some, None}
 use Rattle.pf_rule.specs.Rules.{PlainRule}
 use Rattle.pf_table.specs.{Entries.PlainEntry, Edits.replaced}
@@ -23,16 +23,16 @@ named_in (dropped n u) = n
 abbrev pub with_offers : PlainTickets → PlainSlots → PlainTickets
 with_offers t os = tickets_with t.epoch t.next os
 
--- its ticket is valid no more, and what was offered with it is gone
+-- its ticket is no longer valid, and what was offered with it is gone
 abbrev pub take_out : PlainTickets → RulesetName → PlainTickets
 take_out t n = with_offers t (with_offer t.offers n None)
 
--- with this loaded for a ruleset, where the ticket is its valid one
+-- with this loaded for a ruleset, if the ticket is its valid one
 abbrev pub load : PlainTickets → RulesetName → Ticket → Loaded → PlainTickets
 load t n u l = cond (is_valid t n u) (with_offers t (with_offer t.offers n (Some (offer_with u l)))) t
 
--- A begin gives the next ticket, with nothing loaded yet. With the valid ticket an add loads one rule more, and a define sets one
--- table. A commit takes what is offered out, and a rollback where it names the valid ticket.
+-- A begin gives the next ticket, with nothing loaded yet. With the valid ticket an add loads one more rule, and a define sets one table. A
+-- commit takes out what is offered; a rollback does if it names the valid ticket.
 abbrev pub moved : PlainTickets → Mention → PlainTickets
 moved t (gave n) = tickets_with t.epoch (t.next + 1) (with_offer t.offers n (Some (offer_with (next_ticket t) nothing)))
 moved t (added n u r) = load t n u (with_rule (loaded t n) r)
@@ -43,7 +43,7 @@ moved t (dropped n u) = cond (is_valid t n u) (take_out t n) t
 abbrev pub after : PlainTickets → List Mention → PlainTickets
 after t ms = fold moved t ms
 
--- what these mentions leave, from an opening's begin on
+-- what these mentions leave, from the start of an opening
 abbrev pub opened : ℕ → List Mention → PlainTickets
 opened epoch ms = after (fresh epoch) ms
 

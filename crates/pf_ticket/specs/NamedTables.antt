@@ -1,4 +1,4 @@
--- Tables under their names (pf.conf(5), TABLES).
+-- Tables with their names (pf.conf(5), TABLES).
 use Rattle.std.specs.Prelude.{ℕ, List}
 use Rattle.pf_table.specs.Entries.{PlainEntry}
 

@@ -1,5 +1,5 @@
 -- Names of rulesets, and tickets (pf(4), DIOCXBEGIN). That a ticket is an epoch and a count, with one counter for all rulesets, and the
--- order of names are own.
+-- order of names are this project's own.
 use Rattle.std.specs.{Prelude.{◌≡◌, ℕ, zero, suc, ◌+◌, ◌==◌, ◌&&◌, Bool, true, false, List, [], ◌∷◌, map, Option, Some, None}, List.list_any, Ordering.{nat_cmp, ordering_then}}
 use Rattle.std.specs.declared.cmp.Ordering.{Ordering}
 use Rattle.pf_addr.specs.Path.Paths.{path_order, same_path}
@@ -42,12 +42,12 @@ ticket epoch count = record { epoch = epoch; count = count }
 abbrev pub same_ticket : Ticket → Ticket → Bool
 same_ticket a b = (a.epoch == b.epoch) && (a.count == b.count)
 
--- whether a ticket is this one
+-- whether there is a ticket and it is this one
 abbrev pub is_ticket : Option Ticket → Ticket → Bool
 is_ticket None t = false
 is_ticket (Some u) t = same_ticket u t
 
--- so many tickets of an epoch, from a count on
+-- n tickets of an epoch, from a count on
 abbrev pub tickets_from : ℕ → ℕ → ℕ → List Ticket
 tickets_from epoch count zero = []
 tickets_from epoch count (suc n) = ticket epoch count ∷ tickets_from epoch (count + 1) n

@@ -1,5 +1,5 @@
--- What each step of a transaction is told, and the order of refusals (pf(4), DIOCXBEGIN to DIOCXROLLBACK). The limits and the order of
--- refusals are own.
+-- What each step of a transaction answers, and the order of refusals (pf(4), DIOCXBEGIN to DIOCXROLLBACK). The limits and the order of
+-- refusals are this project's own.
 use Rattle.std.specs.{Prelude.{ℕ, ◌+◌, ◌-◌, ◌==◌, Bool, not, cond, if◌then◌else◌, ◌||◌, List, [], ◌∷◌, ◌++◌, length, Option, Some, None, Result, Ok, Err, nat_lt, nat_le}, List.position}
 use Rattle.pf_addr.specs.Refusing.{and_then, refused_at}
 use Rattle.pf_anchor.specs.declared.limits.TheConstants.{RULE_LIMIT, RULESET_LIMIT}
@@ -9,26 +9,26 @@ use Rattle.pf_ticket.specs.{declared.{entry.RulesetTicket.RulesetTicket, limits.
 
 -- ---- conditions
 
--- a list has one entry at least, and no more than the limit
+-- whether a list is empty, or has more entries than the limit
 abbrev pub bad_count : ℕ → Bool
 bad_count n = (n == 0) || nat_lt ENTRY_LIMIT n
 
--- the first of these rulesets, behind those, that is named before it
+-- the place of the first of these rulesets, coming after those in `before`, that is named before it
 abbrev pub twice_behind : List RulesetName → List RulesetName → Option ℕ
 twice_behind before [] = None
 twice_behind before (n ∷ ns) = cond (is_named before n) (Some (length before)) (twice_behind (before ++ n ∷ []) ns)
 
--- the first entry that names a ruleset named before it
+-- the place of the first entry that names a ruleset named before it
 abbrev pub twice_in : List RulesetTicket → Option ℕ
 twice_in entries = twice_behind [] (names_of entries)
 
--- the first entry whose ticket isn't valid
+-- the place of the first entry whose ticket isn't valid
 abbrev pub busy_in : PlainTickets → List RulesetTicket → Option ℕ
 busy_in t entries = position (λ e. not (is_valid t e.name e.ticket)) entries
 
 -- ---- one small reply for each step. Each line is one refusal with its condition, in their order
 
--- the next tickets, so many
+-- the next n tickets
 abbrev pub range : PlainTickets → ℕ → TicketRange
 range t n = record { first = next_ticket t; number = n }
 
@@ -45,7 +45,7 @@ add_reply t name u =
     (if nat_le RULE_LIMIT (length (rules_in (content t name))) then Err RulesetFull else
     Ok tt)
 
--- the table that a define's entries make, none where it has more than there may be, by the place of a conflict among them
+-- the table that a define's entries make, `None` if it has more than there may be; `Conflict` if there is a conflict among them
 abbrev pub table_reply : Option ℕ → List PlainEntry → Result (Option (List PlainEntry)) TicketRefusal
 table_reply (Some i) rows = Err (Conflict i)
 table_reply None rows = Ok (if nat_lt TABLE_LIMIT (length rows) then None else Some rows)
@@ -62,6 +62,6 @@ define_reply t n u name xs =
 abbrev pub list_check : List RulesetTicket → Result (Unit {0}) TicketRefusal
 list_check entries = if bad_count (length entries) then Err BadCount else refused_at (λ i. Twice i) (twice_in entries)
 
--- and then with their tickets
+-- then with their tickets
 abbrev pub commit_check : PlainTickets → List RulesetTicket → Result (Unit {0}) TicketRefusal
 commit_check t entries = and_then (list_check entries) (refused_at (λ i. Busy i) (busy_in t entries))

@@ -9,8 +9,8 @@ use Rattle.pf_ticket.specs.{declared.{name.RulesetKind.RulesetKind, name.Ruleset
 
 -- ---- what is offered
 
--- what was loaded into an inactive ruleset: rules in the order of their adds, and tables in the order of their names. What is
--- offered of it are the rules of a filter ruleset, and the tables of a table ruleset
+-- what was loaded into an inactive ruleset: rules in the order of their adds, and tables in the order of their names. Of this a filter
+-- ruleset offers the rules, and a table ruleset the tables
 pub record Loaded : Type 0 where
   pub rules : List PlainRule
   pub tables : List PlainDefinedTable
@@ -21,11 +21,11 @@ loaded_with rs ts = record { rules = rs; tables = ts }
 abbrev pub nothing : Loaded
 nothing = loaded_with [] []
 
--- with a rule behind the others
+-- with one more rule at the end
 abbrev pub with_rule : Loaded → PlainRule → Loaded
 with_rule l r = loaded_with (l.rules ++ r ∷ []) l.tables
 
--- with these entries as the table of that name, whatever was the table before
+-- with these entries as the table of that name, in place of any earlier one
 abbrev pub with_table : Loaded → List ℕ → List PlainEntry → Loaded
 with_table l name rows = loaded_with l.rules (put name_order name rows l.tables)
 
@@ -72,14 +72,14 @@ abbrev pub given_from : ℕ → ℕ → List RulesetName → PlainSlots
 given_from epoch count [] = []
 given_from epoch count (n ∷ ns) = (n, offer_with (ticket epoch count) nothing) ∷ given_from epoch (count + 1) ns
 
--- the ruleset's offer stands at this place
+-- the ruleset's offer is at this place
 pub record IsPlace (name : RulesetName) (os : PlainSlots) (i : ℕ) : Type 0 where
   pub found : (e : RulesetName × PlainOffer) → e ≡ get_or os i e → (e.0 ≡ name) × (offer_at os name ≡ Some e.1)
   pub some : is_some (offer_at os name) ≡ true
   pub replaced : (o : PlainOffer) → with_offer os name (Some o) ≡ set os i (name, o)
   pub removed : with_offer os name None ≡ remove os i
 
--- the ruleset has no offer, and this is where one would stand
+-- the ruleset has no offer, and this is where it would be
 pub record IsGap (name : RulesetName) (os : PlainSlots) (i : ℕ) : Type 0 where
   pub none : offer_at os name ≡ None
   pub inserted : (o : PlainOffer) → with_offer os name (Some o) ≡ insert os i (name, o)
@@ -104,7 +104,7 @@ fresh epoch = tickets_with epoch 1 []
 abbrev pub next_ticket : PlainTickets → Ticket
 next_ticket t = ticket t.epoch t.next
 
--- the rulesets with a valid ticket
+-- the rulesets that have a valid ticket
 abbrev pub open_rulesets : PlainTickets → List RulesetName
 open_rulesets t = map (λ e. e.0) t.offers
 

@@ -46,7 +46,7 @@ impl DefinedTable {
         &self.name
     }
 
-    /// What it is to be: no entries where a commit is to take the table out.
+    /// Its entries; none if a commit is to take the table out.
     pub fn table(&self) -> &Table
         ensures { result.now ≡ self.now.1 }
     {
@@ -94,7 +94,7 @@ impl Model for Defined {
 }
 
 impl Defined {
-    // None. It takes no memory.
+    // No tables. It takes no memory.
     pub(crate) fn none() -> Defined
         ensures { result ≡ [] }
     {
@@ -103,7 +103,7 @@ impl Defined {
         }
     }
 
-    /// These tables, which stand in the order of their names, none of them twice. `AllocError`: nothing is made.
+    /// These tables, in the order of their names, none of them twice. `AllocError`: nothing is made.
     pub fn of(alloc: Global, tables: &[DefinedTable]) -> Result<Defined, AllocError>
         requires { T (is_sorted name_order tables.now) }
         ensures { IfOk result (λ d. d ≡ tables.now) }
@@ -128,7 +128,7 @@ impl Defined {
         self.tables.entries()
     }
 
-    // The same, shared: no table is copied.
+    // The same tables, shared and not copied.
     pub(crate) fn shared(&self) -> Result<Defined, AllocError>
         ensures { IfOk result (λ d. d ≡ self.now) }
     {
@@ -137,7 +137,7 @@ impl Defined {
         })
     }
 
-    // Whether there would be more tables than may be, with one of this name.
+    // Whether there would be more tables than allowed, with one of this name.
     pub(crate) fn is_full_for(&self, name: &TableName) -> bool
         ensures { (rows : List PlainEntry) → result ≡ nat_lt OFFERED_TABLE_LIMIT (length (put name_order name.now rows self.now)) }
     {
@@ -148,7 +148,7 @@ impl Defined {
         self.tables.is_more_than(room)
     }
 
-    // Sets the table of this name. Where memory is refused all is as before.
+    // Sets the table of this name. Out of memory: all is as before.
     pub(crate) fn define(
         &mut self,
         alloc: Global,

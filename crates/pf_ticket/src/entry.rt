@@ -10,7 +10,7 @@ use std::marker::Model;
 pub struct RulesetTicket {
     /// The ruleset that is switched or dropped.
     pub name: RulesetName,
-    /// The ticket that a commit wants to be its valid one. Where it isn't, a rollback lets the ruleset be.
+    /// The ticket that must be its valid one for a commit. If it isn't, a rollback leaves the ruleset alone.
     pub ticket: Ticket,
 }
 

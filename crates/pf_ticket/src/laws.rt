@@ -3,15 +3,14 @@ ghost use Rattle.std.specs.Prelude.{◌≡◌};
 ghost use Rattle.pf_ticket.specs.declared.limits.TheConstants.{ENTRY_LIMIT, OFFERED_TABLE_LIMIT, LAST_COUNT};
 ghost use Rattle.pf_ticket.specs.Laws.Tickets.{ValidIsGivenLast, GivenLastIsValid, StartsWithNothing, OffersTheAdded, OffersTheDefined, LeavesTheOthers, CommitTakesOut, RollbackDropsExactly, GoesOnAgreeing, CountsTheOpen, BeginsGive, TellsWhatIsGiven, GivesEachOnce, KeepsTheLimits, AreApart, TwiceIsFirstAgain, OtherwiseOnce};
 
-/// A list has at most 64 entries, 1,024 tables are offered with a ticket at most, and 4,294,967,295 is the last count.
+/// A list has at most 64 entries, at most 1,024 tables are offered with a ticket, and 4,294,967,295 is the last count.
 pub fn the_limits_of_transactions()
     ensures entries { ENTRY_LIMIT ≡ 64 }
     ensures tables { OFFERED_TABLE_LIMIT ≡ 1024 }
     ensures count { LAST_COUNT ≡ 4294967295 }
 {}
 
-/// A ticket is valid for a ruleset exactly where the latest mention that touched the ruleset is a begin's that gave it
-/// this ticket.
+/// A ticket is valid for a ruleset exactly if the latest mention that touched the ruleset is a begin's that gave it this ticket.
 #[tactic(auto, using(crate::proofs::Latest::valid_is_given_last))]
 pub fn valid_is_given_last()
     ensures found { ValidIsGivenLast }
@@ -24,7 +23,7 @@ pub fn starts_with_nothing()
     ensures { StartsWithNothing }
 {}
 
-/// The rules of the adds with the valid ticket since it was given are offered, in order.
+/// The rules that were added with the valid ticket since it was given are offered, in order.
 pub fn offers_the_added()
     ensures { OffersTheAdded }
 {}
@@ -52,7 +51,7 @@ pub fn a_rollback_drops_exactly()
     ensures { RollbackDropsExactly }
 {}
 
-/// An opening's tickets are what the mentions since it leave: none at first, and so on with each step.
+/// An opening's tickets are what its mentions leave: none at first, and then step by step.
 #[tactic(auto, using(crate::proofs::Moves::goes_on_agreeing))]
 pub fn tickets_agree_with_the_mentions()
     ensures { GoesOnAgreeing }
@@ -64,13 +63,14 @@ pub fn counts_the_open()
     ensures { CountsTheOpen }
 {}
 
-/// A begin's reply tells at each ruleset's place the ticket that is then valid for it, where it isn't named again behind.
+/// For each ruleset that a begin names, its reply gives at that place the ticket that is then valid, unless the ruleset is named again
+/// later.
 #[tactic(auto, using(crate::proofs::TicketLimits::tells_what_is_given))]
 pub fn a_begin_tells_the_valid_tickets()
     ensures { TellsWhatIsGiven }
 {}
 
-/// A begin gives the next tickets, and no other step gives one; and tickets that are numbered are given once each.
+/// A begin gives the next tickets, and no other step gives one; numbered tickets are given once each.
 #[tactic(auto, using(crate::proofs::TicketLimits::begins_give, crate::proofs::Twice::gives_each_once))]
 pub fn gives_each_ticket_once()
     ensures begins { BeginsGive }
@@ -88,7 +88,7 @@ pub fn kinds_are_apart()
     ensures { AreApart }
 {}
 
-/// What a list of entries is refused for as naming a ruleset twice is its first entry of a ruleset named before it.
+/// A list of entries is refused for naming a ruleset twice at the first entry whose ruleset was named before it.
 #[tactic(auto, using(crate::proofs::Twice::twice_is_first_again, crate::proofs::Twice::otherwise_once))]
 pub fn twice_is_the_first_named_again()
     ensures found { TwiceIsFirstAgain }

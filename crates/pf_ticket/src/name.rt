@@ -18,9 +18,9 @@ pub enum RulesetKind {
 /// A ruleset, as a transaction names it (pf(4), DIOCXBEGIN).
 #[derive(Drop)]
 pub struct RulesetName {
-    /// What it has.
+    /// Whether it has rules or tables.
     pub kind: RulesetKind,
-    /// Where it is; the main ruleset's path has no bytes.
+    /// Where it is; the main ruleset's path is empty.
     pub path: Path,
 }
 
@@ -55,14 +55,14 @@ impl RulesetName {
         }
     }
 
-    /// Whether both name one ruleset.
+    /// Whether both name the same ruleset.
     pub fn same(&self, other: &RulesetName) -> bool
         ensures { result ≡ same_name self.now other.now }
     {
         self.kind == other.kind && self.path.same(&other.path)
     }
 
-    // Which of two comes first: filter rulesets before table rulesets, and those of one kind by their paths.
+    // The order of names: filter rulesets before table rulesets, and those of one kind by their paths.
     pub(crate) fn order(&self, other: &RulesetName) -> Ordering
         ensures { result ≡ ruleset_order self.now other.now }
     {

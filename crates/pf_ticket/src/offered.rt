@@ -12,7 +12,7 @@ use std::alloc::Global;
 pub enum Offered {
     /// The rules of a filter ruleset, in order.
     Rules(RuleList),
-    /// The tables of a table ruleset that were defined, in the order of their names.
+    /// The tables that were defined for a table ruleset, in the order of their names.
     Tables(Defined),
 }
 

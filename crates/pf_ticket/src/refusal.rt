@@ -1,21 +1,21 @@
-//! Why nothing was done.
+//! Why a step of a transaction is refused.
 ghost use Rattle.std.specs.Prelude.{◌≡◌};
 ghost use Rattle.pf_ticket.specs.declared.refusal.TicketRefusal.TheVariants.{Memory};
 
 use std::alloc::AllocError;
 
-/// Why nothing was done with tickets. After each of these all is as before.
+/// Why a step of a transaction is refused. After each of these all is as before.
 #[derive(Clone, Copy, Debug, PartialEq, Eq)]
 pub enum TicketRefusal {
-    /// The list of a begin, a commit or a rollback without entries, or with more than 64.
+    /// The list of a begin, a commit or a rollback is empty, or has more than 64 entries.
     BadCount,
-    /// The first entry of a commit or a rollback, from 0, that names a ruleset named before it.
+    /// This entry of a commit or a rollback, from 0, is the first that names a ruleset named before it.
     Twice { at: usize },
-    /// The first of a table's entries, from 0, whose network stood before it with the other sign.
+    /// This entry of a table, from 0, is the first whose network came before it with the other sign.
     Conflict { at: usize },
-    /// The first entry of a commit, from 0, whose ticket isn't valid; 0 for an add and a define.
+    /// This entry of a commit, from 0, is the first whose ticket isn't valid; 0 for an add and a define.
     Busy { at: usize },
-    /// The inactive ruleset has 1,024 rules, and no ruleset may have more.
+    /// The inactive ruleset has 1,024 rules already.
     RulesetFull,
     /// A define names more than 65,536 networks.
     TableFull,
@@ -23,9 +23,9 @@ pub enum TicketRefusal {
     TooManyRulesets,
     /// A define would leave more than 1,024 tables offered with its ticket.
     TooManyTables,
-    /// A begin needs more counts than are left up to 4,294,967,295, the last of an opening. None of them is given.
+    /// A begin needs more counts than are left up to 4,294,967,295, the last of an opening. It gives none of them.
     TicketsExhausted,
-    /// A growth of memory was refused.
+    /// Out of memory.
     Memory,
 }
 

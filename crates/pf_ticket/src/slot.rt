@@ -1,4 +1,4 @@
-//! Where an inactive ruleset's offer is kept.
+//! Slots of inactive rulesets.
 ghost use Rattle.std.specs.Prelude.{◌≡◌, ◌<◌, List, length, nat_lt, IfOk, OnOk, OnErr};
 ghost use Rattle.pf_anchor.specs.declared.limits.TheConstants.{RULE_LIMIT};
 ghost use Rattle.pf_table.specs.Entries.{PlainEntry};
@@ -21,14 +21,14 @@ use std::marker::Model;
 struct Inactive {
     name: RulesetName,
     ticket: Ticket,
-    // Only a filter ruleset has some.
+    // Empty but for a filter ruleset.
     rules: RuleList,
-    // Only a table ruleset has some.
+    // Empty but for a table ruleset.
     tables: Defined,
 }
 
-/// An inactive ruleset with its valid ticket, behind a pointer: where slots make room for another, no more than pointers are
-/// moved. Contracts see the pair of its name and its offer.
+/// An inactive ruleset with its valid ticket, boxed, so that only pointers are moved when slots make room for another. Contracts see the
+/// pair of its name and its offer.
 pub(crate) struct Slot {
     inactive: Box<Inactive>,
 }
@@ -49,7 +49,7 @@ impl Model for Slot {
 }
 
 impl Slot {
-    // A new ticket's, with nothing loaded yet.
+    // The slot of a new ticket, with nothing loaded yet.
     pub(crate) fn new(alloc: Global, name: RulesetName, ticket: Ticket) -> Result<Slot, AllocError>
         ensures { IfOk result (λ s. s ≡ (name, offer_with ticket nothing)) }
     {
@@ -80,21 +80,21 @@ impl Slot {
         self.inactive.ticket
     }
 
-    // How many rules were loaded.
+    // How many rules are loaded.
     pub(crate) fn rule_count(&self) -> usize
         ensures { result ≡ length self.now.1.loaded.rules }
     {
         self.inactive.rules.as_slice().len()
     }
 
-    // Whether there would be more tables than may be, with one of this name.
+    // Whether there would be more tables than allowed, with one of this name.
     pub(crate) fn is_full_for(&self, name: &TableName) -> bool
         ensures { (rows : List PlainEntry) → result ≡ nat_lt OFFERED_TABLE_LIMIT (length (with_table self.now.1.loaded name.now rows).tables) }
     {
         self.inactive.tables.is_full_for(name)
     }
 
-    // Loads a rule behind the others. Where memory is refused all is as before.
+    // Appends a rule. Out of memory: all is as before.
     pub(crate) fn add(&mut self, alloc: Global, rule: Rule) -> Result<(), AllocError>
         requires { length self.old.1.loaded.rules < RULE_LIMIT }
         ensures ok { OnOk result (self.new ≡ (self.old.0, offer_with self.old.1.ticket (with_rule self.old.1.loaded rule))) }
@@ -103,7 +103,7 @@ impl Slot {
         self.inactive.rules.add(alloc, rule)
     }
 
-    // Sets the table of this name. Where memory is refused all is as before.
+    // Sets the table of this name. Out of memory: all is as before.
     pub(crate) fn define(
         &mut self,
         alloc: Global,

@@ -1,4 +1,4 @@
-//! The inactive rulesets in order.
+//! The slots of all inactive rulesets.
 ghost use Rattle.std.specs.{Prelude.{◌≡◌, ◌<◌, ◌≤◌, ◌+◌, ◌^◌, T, [], length, get_or, IfOk, IfErr, OnOk, OnErr, Some, None, vec_len, vec_capacity}, FinMap.is_sorted, List.Sorted.IsSearchInRange};
 ghost use Rattle.pf_anchor.specs.declared.limits.TheConstants.{RULE_LIMIT};
 ghost use Rattle.pf_ticket.specs.Names.{ruleset_order};
@@ -31,7 +31,7 @@ impl Model for Slots {
     ghost invariant = { λ s. T (is_sorted ruleset_order s.slots.items) };
 }
 
-// Where a ruleset's slot is; `Err`: it has none, and this is where it would be.
+// The place of a ruleset's slot; `Err`: it has none, and this is where it would be.
 fn place_of(slots: &[Slot], name: &RulesetName) -> Result<usize, usize>
     requires { T (is_sorted ruleset_order slots.now) }
     ensures known { IfOk result (IsPlace name.now slots.now) }
@@ -41,7 +41,7 @@ fn place_of(slots: &[Slot], name: &RulesetName) -> Result<usize, usize>
     slots.binary_search_by(|slot| slot.name().order(name))
 }
 
-// Puts a slot in place of the one that its ruleset had, or else where it comes.
+// Puts a slot in place of the one that its ruleset had, or inserts it in order.
 fn put(slots: &mut Vec<Slot>, slot: Slot)
     requires order { T (is_sorted ruleset_order slots.old.items) }
     requires room { vec_len slots.old < vec_capacity slots.old }
@@ -52,7 +52,7 @@ fn put(slots: &mut Vec<Slot>, slot: Slot)
     match place_of(slots, slot.name()) {
         Ok(place) => slots[place] = slot,
         Err(place) => {
-            // there is room
+            // the capacity suffices
             let _ = slots.insert(place, slot);
         }
     }
@@ -71,7 +71,7 @@ fn put_each(slots: &mut Vec<Slot>, new: Vec<Slot>)
 }
 
 impl Slots {
-    // None. It takes no memory.
+    // No slots. It takes no memory.
     pub(crate) fn none(alloc: Global) -> Slots
         ensures { result ≡ [] }
     {
@@ -89,7 +89,7 @@ impl Slots {
         self.slots.len()
     }
 
-    // Where a ruleset's slot is; `Err`: it has none, and this is where it would be.
+    // The place of a ruleset's slot; `Err`: it has none, and this is where it would be.
     pub(crate) fn place_of(&self, name: &RulesetName) -> Result<usize, usize>
         ensures known { IfOk result (IsPlace name.now self.now) }
         ensures unknown { IfErr result (IsGap name.now self.now) }
@@ -117,7 +117,7 @@ impl Slots {
         Ok(())
     }
 
-    // Takes a ruleset's slot out. It takes no memory.
+    // Takes out a ruleset's slot, if it has one. It takes no memory.
     #[tactic(auto, using(crate::proofs::Offers::sorted_removed))]
     pub(crate) fn take_out(&mut self, name: &RulesetName)
         ensures { self.new ≡ with_offer self.old name.now None }
@@ -127,7 +127,7 @@ impl Slots {
         }
     }
 
-    // Loads a rule into the ruleset whose slot stands at this place. Where memory is refused all is as before.
+    // Appends a rule to the ruleset whose slot is at this place. Out of memory: all is as before.
     #[tactic(auto, using(crate::proofs::Offers::sorted_set))]
     pub(crate) fn add(
         &mut self,
@@ -146,7 +146,7 @@ impl Slots {
         self.slots[place].add(alloc, rule)
     }
 
-    // Sets a table of the ruleset whose slot stands at this place. Where memory is refused all is as before.
+    // Sets a table of the ruleset whose slot is at this place. Out of memory: all is as before.
     #[tactic(auto, using(crate::proofs::Offers::sorted_set))]
     pub(crate) fn define(
         &mut self,

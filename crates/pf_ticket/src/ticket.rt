@@ -1,6 +1,6 @@
 //! Tickets.
 
-/// What a begin gives and a commit wants (pf(4), DIOCXBEGIN): an opening, and a count within it.
+/// What a begin gives and a commit needs (pf(4), DIOCXBEGIN): an opening, and a count within it.
 #[derive(Clone, Copy, Debug, PartialEq, Eq)]
 pub struct Ticket {
     /// The number of the opening that gave it.
@@ -9,11 +9,11 @@ pub struct Ticket {
     pub count: u32,
 }
 
-/// The tickets of one begin: so many, from the first on, each one greater than the one before.
+/// The tickets of one begin, with counts that follow one another.
 #[derive(Clone, Copy, Debug, PartialEq, Eq)]
 pub struct TicketRange {
     /// The ticket of the ruleset that the begin names first.
     pub first: Ticket,
-    /// How many tickets there are: one for each entry, from 1 to 64. Their counts follow one another.
+    /// How many tickets there are, from 1 to 64: one for each entry.
     pub number: u32,
 }

@@ -1,4 +1,4 @@
-//! The tickets that are valid, and what is offered with them.
+//! The valid tickets, and what is offered with them.
 ghost use Rattle.std.specs.{Prelude.{◌≡◌, ◌<◌, ◌≤◌, ◌+◌, ◌||◌, not, [], IfOk, OnOk, OnErr, IfSome, is_some, length, get_or}, List.list_any};
 ghost use Rattle.pf_anchor.specs.declared.limits.TheConstants.{RULE_LIMIT};
 ghost use Rattle.pf_table.specs.Edits.{conflict_in, replaced};
@@ -22,12 +22,12 @@ use pf_table::{Table, TableRefusal};
 use std::alloc::{AllocError, Global};
 use std::marker::Model;
 
-/// The valid tickets of one opening, and the inactive rulesets. Contracts see it as an `PlainTickets`.
+/// The valid tickets of one opening, and the inactive rulesets. Contracts see a `PlainTickets`.
 #[derive(Drop)]
 pub struct Tickets {
     alloc: Global,
     epoch: u32,
-    // One more than the greatest count once all counts are given.
+    // The count of the next ticket; once all counts are given, one more than the greatest.
     next: u64,
     slots: Slots,
 }
@@ -50,14 +50,14 @@ fn is_bad_count(number: usize) -> bool
     number == 0 || number > ENTRY_LIMIT
 }
 
-// Whether a name stands in a list.
+// Whether a list has a name.
 fn is_named(names: &[RulesetName], name: &RulesetName) -> bool
     ensures { result ≡ is_named names.now name.now }
 {
     names.iter().any(|other| other.same(name))
 }
 
-/// The first of these rulesets, from 0, that is named before it. It takes no memory.
+/// The place of the first of these rulesets, from 0, that is named before it. It takes no memory.
 pub fn named_twice(names: &[RulesetName]) -> Option<usize>
     ensures { result ≡ twice_behind [] names.now }
 {
@@ -76,7 +76,7 @@ fn names_it(entries: &[RulesetTicket], name: &RulesetName) -> bool
     entries.iter().any(|other| other.name.same(name))
 }
 
-// The first entry that names a ruleset named before it.
+// The place of the first entry that names a ruleset named before it.
 fn first_twice(entries: &[RulesetTicket]) -> Option<usize>
     ensures { result ≡ twice_in entries.now }
 {
@@ -88,7 +88,7 @@ fn first_twice(entries: &[RulesetTicket]) -> Option<usize>
     None
 }
 
-// Whether the entries of a commit or a rollback are good by themselves.
+// Whether the entries of a commit or a rollback are good, whatever their tickets.
 fn check_list(entries: &[RulesetTicket]) -> Result<(), TicketRefusal>
     ensures { result ≡ list_check entries.now }
 {
@@ -108,7 +108,7 @@ fn is_new(slots: &Slots, before: &[RulesetName], name: &RulesetName) -> bool
     slots.place_of(name).is_err() && !is_named(before, name)
 }
 
-// The table that entries make, where it has no more than there may be; `Conflict` at the first that contradicts one before it.
+// The table that entries make; `None` if it would have too many. `Conflict` is at the first that contradicts an earlier one.
 fn table_of(alloc: Global, entries: &[pf_table::Entry]) -> Result<Option<Table>, TicketRefusal>
     ensures { OrMemory Memory result (table_reply (conflict_in entries.now) (replaced entries.now)) }
 {
@@ -122,16 +122,15 @@ fn table_of(alloc: Global, entries: &[pf_table::Entry]) -> Result<Option<Table>,
 }
 
 impl Tickets {
-    /// An opening's tickets: none yet. It takes no memory.
+    /// The tickets of an opening: none yet. It takes no memory.
     pub fn new(alloc: Global, epoch: u32) -> Tickets
         ensures { result ≡ fresh epoch }
     {
         Tickets::starting(alloc, epoch, 1)
     }
 
-    /// An opening's tickets, none yet, of which the next has this count, from 1 to 4,294,967,295: so the last counts can be
-    /// reached. With 1 it is `new`, and only then are the tickets what the mentions since the opening leave. It takes no
-    /// memory.
+    /// The tickets of an opening, none yet, the next of which has this count, from 1 to 4,294,967,295, so that the last counts can be
+    /// reached. With 1 it is `new`, and only then are the tickets what the mentions since the opening leave. It takes no memory.
     pub fn starting(alloc: Global, epoch: u32, next_count: u32) -> Tickets
         requires { 0 < next_count }
         ensures { result ≡ tickets_with epoch next_count [] }
@@ -144,7 +143,7 @@ impl Tickets {
         }
     }
 
-    // The place of a ruleset's slot, where this is the ruleset's valid ticket.
+    // The place of a ruleset's slot, if this is the ruleset's valid ticket.
     fn valid_place(&self, name: &RulesetName, ticket: Ticket) -> Option<usize>
         ensures within { IfSome result (λ i. i < length self.now.offers) }
         ensures some { IfSome result (IsPlace name.now self.now.offers) }
@@ -166,7 +165,7 @@ impl Tickets {
         self.valid_place(name, ticket).is_some()
     }
 
-    // The same, once the tickets of other rulesets are void.
+    // The same, after the tickets of these rulesets were voided.
     #[tactic(auto, using(crate::proofs::Voided::valid_behind))]
     fn is_valid_behind(&self, voided: &[RulesetName], name: &RulesetName, ticket: Ticket) -> bool
         ensures { result ≡ is_valid (after self.now (switches voided.now)) name.now ticket }
@@ -181,7 +180,7 @@ impl Tickets {
         entries.iter().position(|entry| !self.is_valid_behind(voided, &entry.name, entry.ticket))
     }
 
-    // How many rulesets have a valid ticket once these are given one too.
+    // How many rulesets have a valid ticket after these get one too.
     fn opened_with(&self, names: &[RulesetName]) -> usize
         ensures { result ≡ length (after self.now (gives names.now)).offers }
     {
@@ -199,7 +198,7 @@ impl Tickets {
         self.slots.take_out(name);
     }
 
-    // Appends a rule to the ruleset's offer, which stands at this place.
+    // Appends a rule to the ruleset's offer, which is at this place.
     fn grow(&mut self, name: &RulesetName, place: usize, rule: Rule) -> Result<(), AllocError>
         requires within { place < length self.old.offers }
         requires stands { IsPlace name.now self.old.offers place }
@@ -211,7 +210,7 @@ impl Tickets {
         self.slots.add(self.alloc, name, place, rule)
     }
 
-    // Sets a table of the ruleset's offer, which stands at this place.
+    // Sets a table of the ruleset's offer, which is at this place.
     fn set_table(
         &mut self,
         name: &RulesetName,
@@ -259,10 +258,10 @@ impl Tickets {
         Ok(())
     }
 
-    /// Gives a new ticket for each ruleset in turn, with nothing offered yet.
+    /// Gives each ruleset in turn a new ticket, with nothing offered yet.
     ///
-    /// The refusal is the first in this order: `BadCount`; `TooManyRulesets`; `TicketsExhausted`. `Memory` may come before any of
-    /// them. After a refusal all is as before.
+    /// The refusal is the first in this order: `BadCount`; `TooManyRulesets`; `TicketsExhausted`. `Memory` may come before any of them.
+    /// After a refusal all is as before.
     pub fn begin(&mut self, names: &[RulesetName]) -> Result<TicketRange, TicketRefusal>
         ensures reply { OrMemory Memory result (begin_reply self.old names.now) }
         ensures ok { OnOk result (self.new ≡ after self.old (gives names.now)) }
@@ -288,8 +287,8 @@ impl Tickets {
 
     /// Appends a rule to the filter ruleset that is offered with a valid ticket.
     ///
-    /// The refusal is the first in this order: `Busy` at 0; `RulesetFull`. `Memory` may come before any of them. After a refusal
-    /// all is as before.
+    /// The refusal is the first in this order: `Busy` at 0; `RulesetFull`. `Memory` may come before any of them. After a refusal all is as
+    /// before.
     pub fn add_rule(&mut self, path: &Path, ticket: Ticket, rule: Rule) -> Result<(), TicketRefusal>
         ensures reply { OrMemory Memory result (add_reply self.old (filter_at path.now) ticket) }
         ensures ok { OnOk result (self.new ≡ moved self.old (added (filter_at path.now) ticket rule)) }
@@ -306,11 +305,11 @@ impl Tickets {
         Ok(())
     }
 
-    /// Sets the entries of one table that is offered with a valid ticket, in place of what was defined under its name before.
-    /// With no entries a commit takes the table out.
+    /// Sets the entries of one table that is offered with a valid ticket, in place of what was defined under its name before. If there are
+    /// none, a commit takes the table out.
     ///
-    /// The refusal is the first in this order: `Conflict`; `Busy` at 0; `TableFull`; `TooManyTables`, where the name is new.
-    /// `Memory` may come before any of them. After a refusal all is as before.
+    /// The refusal is the first in this order: `Conflict`; `Busy` at 0; `TableFull`; `TooManyTables`, if the name is new. `Memory` may come
+    /// before any of them. After a refusal all is as before.
     pub fn define_table(
         &mut self,
         path: &Path,
@@ -345,7 +344,7 @@ impl Tickets {
         self.check_behind(&[], entries)
     }
 
-    /// The same, once the tickets of other rulesets are void.
+    /// The same, after the tickets of these rulesets were voided.
     pub fn check_behind(
         &self,
         voided: &[RulesetName],
@@ -360,8 +359,8 @@ impl Tickets {
         }
     }
 
-    /// What is offered for a ruleset with its valid ticket, shared: nothing where it has none. `AllocError`: memory was refused, or
-    /// what is offered can't have another owner.
+    /// What is offered for a ruleset with its valid ticket, shared; nothing if it has none. `AllocError`: out of memory, or what is offered
+    /// can't have another owner.
     pub fn contents(&self, name: &RulesetName) -> Result<Offered, AllocError>
         ensures { IfOk result (λ o. o ≡ content self.now name.now) }
     {
@@ -371,7 +370,7 @@ impl Tickets {
         }
     }
 
-    /// The same, once the tickets of other rulesets are void.
+    /// The same, after the tickets of these rulesets were voided.
     #[tactic(auto, using(crate::proofs::Voided::content_behind))]
     pub fn contents_behind(
         &self,
@@ -386,7 +385,8 @@ impl Tickets {
         self.contents(name)
     }
 
-    /// Drops each of these rulesets whose ticket is valid. After a refusal all is as before. It takes no memory.
+    /// Drops each of these rulesets whose ticket is valid. The refusal is `BadCount`, else `Twice`; after one all is as before. It takes no
+    /// memory.
     pub fn rollback(&mut self, entries: &[RulesetTicket]) -> Result<(), TicketRefusal>
         ensures reply { result ≡ list_check entries.now }
         ensures ok { OnOk result (self.new ≡ after self.old (drops entries.now)) }

@@ -1,4 +1,4 @@
--- The published copies: what they have in common, what an operation adds to it, and the rule.
+-- The published copies: what both have, what an operation adds to it, and the rule.
 use Rattle.std.specs.Prelude.{◌≡◌, ℕ, List, ◌++◌, fold}
 use mathlib.Core.List.{IsPrefix}
 use mathlib.Core.Option.{some}
@@ -9,7 +9,7 @@ use Rattle.pf_core.specs.Durable.Changes.{PlainDurable, PlainChange, after}
 use Rattle.pf_past.specs.Pasts.{PlainTrace, trace_with, all_acked}
 use Rattle.pf_view.specs.Seers.{PlainShower}
 
--- what a copy is, and what the two have in common: the changes that made it, what is kept after them, and the front that it carries
+-- what a copy is, and what both have: the changes that made it, what is kept after them, and the front that it carries
 pub record PlainShown : Type 0 where
   pub changes : List PlainChange
   pub durable : PlainDurable
@@ -22,15 +22,15 @@ shown_with changes durable m = record { changes = changes; durable = durable; ma
 abbrev pub with_operation : PlainShown → PlainShown → PlainShown
 with_operation x o = shown_with (x.changes ++ o.changes) o.durable o.mark
 
--- a copy with all operations
+-- a copy after all operations
 abbrev pub offered_version : PlainShown → List PlainShown → PlainShown
 offered_version x operations = fold with_operation x operations
 
--- what contracts see of the copy that is shown, of the operations that are pending, and of which copies it is one
+-- what contracts see of the copy that is shown, of the operations that are pending, and which copies these are
 abbrev pub shower_with : PlainShown → List PlainShown → TableId → PlainShower
 shower_with x pending copies = record { shown = x.changes; offered = (offered_version x pending).changes; copies = copies }
 
--- what is kept is what the changes make of the base, and the front is that of the changes in this history, each acknowledged
+-- what is kept is the base after the changes, and the front is that of the changes in this history, each acknowledged
 abbrev pub IsChain : PlainDurable → Book → PlainShown → Type 0
 IsChain base history x = (x.durable ≡ after base x.changes) × (x.mark ≡ trace_with history (all_acked x.changes))
 
@@ -39,11 +39,11 @@ abbrev pub Keeps : PlainDurable → Book → PlainShown → List (List PlainChan
 Keeps base history x views = IsChain base history x
     × ((seat : ℕ) (v : List PlainChange) → get_elem? views seat ≡ some v → IsPrefix v x.changes)
 
--- What a step tells that looks at the copy y, with the view w after it: all changes of the copy were seen now. They begin with all
--- that was seen before, v, what is kept is what they make of the base, and they are a front of the history.
+-- What a step says that looks at the copy y, with the view w after it: all changes of the copy were seen now. They begin with all that was
+-- seen before, v, what is kept is the base after them, and they are a front of the history.
 abbrev pub Sees : PlainDurable → Book → List PlainChange → PlainShown → PlainShown → List PlainChange → Type 0
 Sees base history v x y w = IsPrefix v w × (w ≡ y.changes) × IsChain base history y
 
--- what a shower keeps: what is shown is a chain from the base, and so it is with all that is pending
+-- the invariant of a shower: what is shown is a chain from the base, and so it is with all that is pending
 abbrev pub IsStage : PlainDurable → Book → PlainShown → List PlainShown → Type 0
 IsStage base history x pending = IsChain base history x × IsChain base history (offered_version x pending)

@@ -4,14 +4,14 @@ use mathlib.Core.List.{IsPrefix}
 use Rattle.atomic_table.specs.Seated.{TableId}
 use Rattle.pf_core.specs.Durable.Changes.{PlainChange}
 
--- a seer: the changes of the copy by which it judged last, or what it was told when it was made; the most that it learnt by a token; and
+-- a seer: the changes of the copy by which it judged last, or what it was given when it was made; the most that it learnt by a token; and
 -- the copies at which it sits
 pub record PlainSeer : Type 0 where
   pub seen : List PlainChange
   pub learnt : List PlainChange
   pub copies : TableId
 
--- a shower: the changes that seers are shown, these with all that is offered behind them, and the copies to which it publishes
+-- a shower: the changes that seers are shown, these with all that is offered after them, and the copies that it publishes to
 pub record PlainShower : Type 0 where
   pub shown : List PlainChange
   pub offered : List PlainChange
@@ -29,8 +29,8 @@ SitsAt copies s = s.copies ≡ copies
 abbrev pub IsNewShower : PlainShower → Type 0
 IsNewShower s = (s.shown ≡ []) × (s.offered ≡ [])
 
--- what a seer keeps that saw these changes, and whose place has the view v: what begins with v and with all that it learnt begins with
--- them
+-- the invariant of a seer that saw these changes, and whose place has the view v: what begins with v and with all that it learnt begins
+-- with them
 abbrev pub HoldsSight : List PlainChange → List PlainChange → List PlainChange → Type 0
 HoldsSight v learnt saw = (changes : List PlainChange) → IsPrefix v changes → IsPrefix learnt changes → IsPrefix saw changes
 
@@ -38,6 +38,6 @@ HoldsSight v learnt saw = (changes : List PlainChange) → IsPrefix v changes �
 abbrev pub longer : List PlainChange → List PlainChange → List PlainChange
 longer xs ys = if nat_lt (length xs) (length ys) then ys else xs
 
--- what a seer knows that has learnt these
+-- what a seer knows after it learnt these
 abbrev pub learns : List PlainChange → PlainSeer → PlainSeer
 learns token known = record known { learnt = longer known.learnt token }

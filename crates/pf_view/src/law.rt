@@ -6,10 +6,10 @@ use pf_past::Naming;
 use std::collections::LinkedList;
 use std::marker::PhantomData;
 
-/// What a seer or the shower knows: the changes that it saw. It exists in proofs alone: no value of it is made.
+/// What a seer or the shower knows: the changes that it saw. It exists in proofs alone: no value of it is ever made.
 pub type Sight = LinkedList<Change>;
 
-/// The rule: what the copy that is shown is, and that each view is a front of its changes.
+/// The rule: the copy that is shown is what its changes make of the base, and each view is a front of these.
 pub struct Law<J> {
     of: PhantomData<J>,
 }
@@ -23,7 +23,7 @@ impl<J: Naming> Protocol<Shown, Sight> for Law<J> {
     ghost first = { [] };
 }
 
-/// What a step tells that looks at the copy: the shower publishes, or a seer enters.
+/// What a step says that looks at the copy: the shower publishes, or a seer enters.
 pub struct Seeing<J> {
     of: PhantomData<J>,
 }

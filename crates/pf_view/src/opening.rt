@@ -19,10 +19,10 @@ use std::sync::{Arc, Wait};
 /// Why there are no copies. Nothing is left of them.
 #[derive(Clone, Copy, Debug, PartialEq, Eq)]
 pub enum ViewFault {
-    /// A growth of memory was refused.
+    /// Out of memory.
     Memory,
-    /// A seer was given no place among the readers of the copies, and no growth of memory was refused. Each seer has a place made for
-    /// it, so no run is known to meet this; no contract says that none does.
+    /// A seer got no place among the readers of the copies, though not out of memory. Each seer has a place made for it, so no run is known
+    /// to meet this, but no contract rules it out.
     Places,
 }
 
@@ -34,8 +34,8 @@ impl From<AllocError> for ViewFault {
     }
 }
 
-/// The copies of what an opening gave, with no change, whose front is a start of the history, and so many seers, 1 to 64, at the copies to
-/// which the shower publishes. The shower keeps the handle. On an `Err` nothing is left.
+/// Makes the copies of what an opening gave, without changes, whose front is the start of the history: their shower, and this many seers of
+/// them, 1 to 64. The shower keeps the handle. On an `Err` nothing is left.
 pub fn views<J: Naming, R: Wait + Drop>(
     rt: R,
     alloc: Global,
@@ -61,7 +61,7 @@ pub fn views<J: Naming, R: Wait + Drop>(
     }
 }
 
-// Two copies with no change, and places for so many seers.
+// Two copies without changes, and places for this many seers.
 fn two_copies<J: Naming>(
     alloc: Global,
     base: &Arc<Durable>,
@@ -81,7 +81,7 @@ fn two_copies<J: Naming>(
     Ok(Writer::new(alloc, first, second, seers)?)
 }
 
-// A copy with no change.
+// A copy without changes.
 fn copy_of<J: Naming>(
     alloc: Global,
     base: &Arc<Durable>,
@@ -97,7 +97,7 @@ fn copy_of<J: Naming>(
     })
 }
 
-// So many seers that saw nothing.
+// This many seers that saw nothing.
 fn seated<J: Naming>(
     alloc: Global,
     factory: &Factory<Shown, Sight, Law<J>>,
@@ -111,7 +111,7 @@ fn seated<J: Naming>(
 {
     let mut all = Vec::with_capacity(alloc, seers)?;
     for _ in 0..seers {
-        // a reader is made without memory
+        // making a reader takes no memory
         let Ok(reader) = factory.reader() else {
             return Err(ViewFault::Places);
         };

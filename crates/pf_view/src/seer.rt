@@ -16,18 +16,18 @@ use pf_past::{Front, Naming};
 use pf_rule::Packet;
 use std::marker::Model;
 
-/// The published copies gave no entry, as after their shower was dropped, or one with fewer changes than the seer had learnt.
+/// The published copies gave no entry, for example after their shower was dropped, or one with fewer changes than the seer had learnt.
 #[derive(Clone, Copy, Debug, PartialEq, Eq)]
 pub struct Gone;
 
 pub(crate) type CopyReader<J> = Reader<Shown, Sight, Law<J>>;
 
 /// A worker's own way into the published copies. Contracts see what it saw and what it learnt, both of them fronts of the history whose
-/// changes were all acknowledged, and at which copies it sits (`PlainSeer`).
+/// changes were all acknowledged, and which copies it sits at (`PlainSeer`).
 #[derive(Drop)]
 pub struct Seer<J: Naming> {
     reader: CopyReader<J>,
-    // the changes of the copy by which it judged last, which are the most that it saw, or else what it was told when it was made
+    // the changes of the copy by which it judged last, which are the most that it saw, or else what it was given when it was made
     saw: Front<J>,
     // the most that it learnt
     learnt: Token<J>,
@@ -46,7 +46,7 @@ impl<J: Naming> Model for Seer<J> {
 }
 
 impl<J: Naming> Seer<J> {
-    // One that was told this token: that is all that it saw, and all that it learnt.
+    // A seer that was given this token: that is all that it saw, and all that it learnt.
     pub(crate) fn told(reader: CopyReader<J>, token: Token<J>) -> Seer<J>
         ensures seen { result.seen ≡ token }
         ensures learnt { result.learnt ≡ token }
@@ -60,8 +60,8 @@ impl<J: Naming> Seer<J> {
     }
 
     /// What happens to a packet by the copy that is shown: what the opening gave after a front of the history. This front begins with all
-    /// that this seer saw and with all that it learnt, and each change of it is acknowledged. It takes no lock, no memory and no handle, and
-    /// waits for nobody. `Gone`: it judged nothing, and what it saw and learnt stays.
+    /// that this seer saw and with all that it learnt, and each change of it is acknowledged. It takes no lock, no memory and no handle,
+    /// and waits for nobody. `Gone`: it judged nothing, and what it saw and learnt stays.
     pub fn judge(&mut self, packet: &Packet) -> Result<Verdict, Gone>
         ensures verdict { IfOk result (λ v. v ≡ verdict (after J.base self.new.seen) packet.now) }
         ensures seen { IsPrefix self.old.seen self.new.seen }
@@ -111,7 +111,7 @@ impl<J: Naming> Seer<J> {
     }
 }
 
-// Judges within one entry, which gives the front that it sees. `None`: it got no copy, or one with too few changes.
+// Judges by the copy of one entry, and returns the front that it saw. `None`: it got no copy, or one with too few changes.
 fn judged<J: Naming>(
     reader: CopyReader<J>,
     floor: usize,
@@ -132,7 +132,7 @@ fn judged<J: Naming>(
     }
 }
 
-// What a copy says, if it has so many changes.
+// The verdict of a copy, if it has this many changes.
 fn judged_by(shown: &Shown, floor: usize, packet: &Packet) -> Option<Verdict>
     ensures { MatchOption result (length shown.now.changes < floor)
         (λ v. (v ≡ verdict shown.now.durable packet.now) × (floor ≤ length shown.now.changes)) }

@@ -18,9 +18,9 @@ use std::sync::{Arc, Wait};
 
 pub(crate) type CopyWriter<J> = Writer<Shown, Operation, Sight, Law<J>>;
 
-/// Shows changes to all seers at once. Contracts see what is shown, what is offered, and to which copies it publishes (`PlainShower`).
+/// Shows changes to all seers at once. Contracts see what is shown, what is offered, and which copies it publishes to (`PlainShower`).
 ///
-/// It keeps a handle on the runtime, since [`Shower::show`] and its drop wait for the seers that are judging. After its drop they answer
+/// It keeps a handle on the runtime, since [`Shower::show`] and its drop wait for the seers that are judging. After its drop they return
 /// `Gone`.
 pub struct Shower<J: Naming, R: Wait + Drop> {
     writer: CopyWriter<J>,
@@ -47,7 +47,7 @@ impl<J: Naming, R: Wait + Drop> Model for Shower<J, R> {
 }
 
 impl<J: Naming, R: Wait + Drop> Shower<J, R> {
-    // Nothing is offered at a new writer.
+    // A shower over a new writer, at which nothing is offered.
     pub(crate) fn new(writer: CopyWriter<J>, rt: R) -> Shower<J, R>
         requires base { IsChain J.base J.history writer.desk.shown.value }
         requires nothing_shown { writer.desk.shown.value.changes ≡ [] }
@@ -58,8 +58,8 @@ impl<J: Naming, R: Wait + Drop> Shower<J, R> {
         Shower { writer, rt }
     }
 
-    /// Offers changes, one or more, and what is kept after them, which follow all that was offered before, and the front of the history that
-    /// all of them are, each acknowledged. No seer sees them yet. `AllocError`: nothing was offered, and the changes may be offered again
+    /// Offers changes, one or more, and what is kept after them, which follow all that was offered before, and the front of the history
+    /// with all of them, each acknowledged. No seer sees them yet. `AllocError`: nothing was offered, and the changes may be offered again
     /// with those that follow.
     pub fn offer(
         &mut self,
@@ -86,8 +86,8 @@ impl<J: Naming, R: Wait + Drop> Shower<J, R> {
         }
     }
 
-    /// Shows all that was offered, at once. It waits for each seer that still judges by the copy that isn't shown.
-    /// `AllocError`: seers see what they saw, and what was offered can be shown by a later call.
+    /// Shows all that was offered, at once. It waits for each seer that still judges by the copy that isn't shown. `AllocError`: seers see
+    /// what they saw before, and a later call can show what was offered.
     pub fn show(&mut self) -> Result<(), AllocError>
         ensures ok { OnOk result (self.new.shown ≡ self.old.offered) }
         ensures err { OnErr result (self.new.shown ≡ self.old.shown) }
@@ -98,9 +98,8 @@ impl<J: Naming, R: Wait + Drop> Shower<J, R> {
         })
     }
 
-    /// One more seer, at the copies to which this shower publishes, that was told all that is shown: each of its verdicts is by no less.
-    /// `None`: each place is in use. There are as many places as [`views`](crate::views) made seers, and one that is dropped leaves its
-    /// place.
+    /// One more seer, at the copies that this shower publishes to, that was given all that is shown: each of its verdicts is by no less.
+    /// `None`: all places are in use. There are as many places as [`views`](crate::views) made seers, and a dropped seer frees its place.
     pub fn told_seer(&self) -> Option<Seer<J>>
         ensures seen { IfSome result (λ s. s.seen ≡ self.now.shown) }
         ensures learnt { IfSome result (λ s. s.learnt ≡ self.now.shown) }
@@ -110,7 +109,7 @@ impl<J: Naming, R: Wait + Drop> Shower<J, R> {
         Some(Seer::told(reader, self.token()))
     }
 
-    /// What seers are shown.
+    /// What is kept after all changes that are shown.
     pub fn durable(&self) -> &Durable
         ensures { result.now ≡ after J.base self.now.shown }
     {

@@ -9,7 +9,7 @@ use std::alloc::AllocError;
 use std::marker::Model;
 use std::sync::Arc;
 
-/// Changes, in order, what is kept after them, and the front of a history that they are. Contracts see it as a `PlainShown`.
+/// Changes, in order, what is kept after them, and the front of a history with these changes. Contracts see it as a `PlainShown`.
 #[derive(Drop)]
 pub struct Shown {
     pub changes: Vec<Arc<Change>>,
@@ -26,7 +26,7 @@ impl Model for Shown {
     ghost view = { λ s. shown_with (changes_of s.changes.items) (arc_value s.durable) s.front };
 }
 
-/// Changes behind those that a copy has, what is kept after all, and the front of a history that all of them are. Contracts see it as a
+/// Changes to add to those of a copy, what is kept after all, and the front of a history with all of them. Contracts see it as a
 /// `PlainShown`, which has its own changes alone.
 #[derive(Drop)]
 pub struct Operation {
@@ -62,7 +62,7 @@ impl Absorb<Operation> for Shown {
     }
 }
 
-// Puts the changes behind a list, shared, or none of them.
+// Appends the changes to a list, shared; on an error the list is as before.
 fn push_shared(list: &mut Vec<Arc<Change>>, changes: &[Arc<Change>]) -> Result<(), AllocError>
     ensures { MatchResult result
         (λ _. changes_of list.new.items ≡ changes_of list.old.items ++ changes_of changes.now)

@@ -1,4 +1,4 @@
-//! What a shower gives for a seer to learn.
+//! What a shower gives a seer to learn.
 ghost use Rattle.std.specs.Prelude.{◌≡◌, ◌≤◌, length};
 ghost use mathlib.Core.List.{IsPrefix};
 ghost use Rattle.pf_past.specs.Pasts.{all_acked};
@@ -26,7 +26,7 @@ impl<J: Naming> Model for Token<J> {
 }
 
 impl<J: Naming> Token<J> {
-    // A token of this front, which has so many changes.
+    // A token of this front, which has this many changes.
     pub(crate) fn new(front: Front<J>, count: usize) -> Token<J>
         requires count { count ≡ length front.front }
         requires acked { front ≡ all_acked front.front }
@@ -35,7 +35,7 @@ impl<J: Naming> Token<J> {
         Token { front, count }
     }
 
-    // The same once more.
+    // The same token once more.
     pub(crate) fn again(&self) -> Token<J>
         ensures { result ≡ self.now }
     {
@@ -45,7 +45,7 @@ impl<J: Naming> Token<J> {
         }
     }
 
-    // It begins a front with no fewer changes.
+    // The token begins each front that has no fewer changes.
     pub(crate) fn begins(&self, front: &Front<J>)
         requires { length self.now ≤ length front.now.front }
         ensures { IsPrefix self.now front.now.front }
@@ -60,7 +60,7 @@ impl<J: Naming> Token<J> {
         self.count
     }
 
-    /// The front that it is.
+    /// The token's front.
     pub fn front(&self) -> Front<J>
         ensures { result ≡ all_acked self.now }
     {

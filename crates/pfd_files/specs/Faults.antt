@@ -1,4 +1,4 @@
--- What the program tells of what failed below it.
+-- The program's fault for each fault of the crates below.
 use Rattle.pf_disk.specs.declared.file.FileFault.{FileFault}
 use Rattle.pf_disk.specs.declared.file.FileFault.TheVariants as file
 use Rattle.pf_store.specs.declared.store.fault.OpenFault.{OpenFault}

@@ -1,4 +1,4 @@
--- What is told of a disk, and what it tells.
+-- What is shown of a disk, and why it may not be.
 use Rattle.std.specs.{Prelude.{◌≡◌, ◌≢◌, ◌⊎◌, ℕ, Bool, true, false, List, [], ◌∷◌, ◌++◌, codes, decimal, length, Option, Result, Ok, Err}, Io.KnownBytes.{Appends, Keeps}}
 use Rattle.pf_addr.specs.Writing.{WritesFront}
 use Rattle.pf_core.specs.Durable.Changes.{PlainDurable, main_sum}
@@ -13,7 +13,7 @@ use Rattle.pfd_files.specs.Faults.{told_of_opening}
 abbrev pub number_line : List ℕ → ℕ → List ℕ
 number_line word n = word ++ (decimal n ++ 10 ∷ [])
 
--- a checksum, as the line `sum` is answered
+-- a checksum, after the word and as the line `sum` is answered
 abbrev pub sum_line : List ℕ → List ℕ
 sum_line sum = codes "sum " ++ reply_text (Answer (Sum sum))
 
@@ -26,14 +26,14 @@ shown_text d =
     ++ (number_line (codes "tables ") (length d.config.tables)
     ++ number_line (codes "states ") (length d.states))))
 
--- why a disk that is read and not opened can't be told of
+-- why a disk that is read but not opened can't be shown
 pub record IsUnread (why : OpenFault) (seen : List ℕ) : Type 0 where
   pub refused : IsUnopened why seen
   pub epochs : why ≢ EpochsExhausted
   pub room : why ≢ Full
 
--- It was told what a disk with these bytes holds. Or nothing was, since nothing was read that can be kept: the fault says why. Or a
--- write failed behind some front of the text.
+-- What a disk with these bytes holds was written. Or nothing was, since nothing was read that can be kept: the fault says why. Or a write
+-- failed after some front of the text.
 abbrev pub IsShown : Result (Unit {0}) Fault → List ℕ → Option (List ℕ) → Option (List ℕ) → Type 0
 IsShown (Ok u) seen held held' = (d : PlainDurable) × Holds seen d × Appends held held' (shown_text d)
 IsShown (Err fault) seen held held' =
@@ -51,7 +51,7 @@ is_device_fault (Err fault) = is_device fault
 
 -- ---- files
 
--- why a file can't be had as a disk
+-- why a file can't be used as a disk
 abbrev pub IsOfFile : Fault → Type 0
 IsOfFile Input = Unit {0}
 IsOfFile BadSize = Unit {0}
@@ -59,7 +59,7 @@ IsOfFile Device = Unit {0}
 IsOfFile Memory = Unit {0}
 IsOfFile fault = ⊥
 
--- It was told what some disk holds; or the file couldn't be had as one, and nothing was written.
+-- Some disk was shown, as `IsShown` says; or the file couldn't be used as one, and nothing was written.
 abbrev pub ShownOfFile : {F : Type 0} → (F → List ℕ) → Result (Unit {0}) Fault → Option (List ℕ) → Option (List ℕ) → Type 0
 ShownOfFile {F = F} seen result held held' =
     ((disk : F) × IsShown result (seen disk) held held')

@@ -1,4 +1,4 @@
-//! What the program does with a disk, whatever it lies on.
+//! What the program does with a disk, whatever kind of disk it is.
 ghost use Rattle.std.specs.Prelude.{◌≡◌, ◌≤◌, ◌<◌, ◌^◌, ◌↔◌, ◌+◌, if◌then◌else◌, ℕ, List, length, IfErr, IfOk, IsErrOf, OnOk};
 ghost use Rattle.pf_addr.specs.Writing.{Continues, Writes};
 ghost use Rattle.pf_disk.specs.Disk.{IsImage};
@@ -17,7 +17,7 @@ use pf_store::{Store, format};
 use std::alloc::Global;
 use std::io::{self, Write};
 
-/// Makes a disk hold nothing but the epoch 0, whatever it held. `BadSize` and `Memory`: the disk is as before. `Fault`: a call of it
+/// Makes a disk hold nothing but the epoch 0, whatever it held. `BadSize` and `Memory`: the disk is as before. `Device`: a call of it
 /// failed, and it may hold what it held, or nothing but the epoch 0, or have no bank.
 pub fn format_on<D: Disk>(alloc: Global, disk: &mut D) -> Result<(), Fault>
     requires few { D.fault_count disk.old < 2 ^ 63 }
@@ -32,11 +32,11 @@ pub fn format_on<D: Disk>(alloc: Global, disk: &mut D) -> Result<(), Fault>
     Ok(())
 }
 
-/// Tells what a disk holds, as it reads, in five lines: `epoch E`, `sum S` in 32 hexadecimal digits, `rulesets N`, `tables N`, `states N`.
+/// Writes what a disk holds, as it reads, in five lines: `epoch E`, `sum S` in 32 hexadecimal digits, `rulesets N`, `tables N`, `states N`.
 /// The disk is neither written nor synced.
 ///
-/// `Output`: a write or a flush failed, and some front of the text is out. Each other fault says why what the disk holds can't be told, and
-/// nothing is written.
+/// `Output`: a write or a flush failed, after some front of the text was written. Each other fault says why what the disk holds can't be
+/// shown, and nothing is written.
 pub fn show_on<D: Disk, W: Write>(alloc: Global, disk: &mut D, writer: &mut W) -> Result<(), Fault>
     requires few { D.fault_count disk.old < 2 ^ 63 }
     ensures shown { IsShown result (D.seen disk.old) (W.contents writer.old) (W.contents writer.new) }
@@ -89,7 +89,7 @@ fn number_of_tables(config: &Config) -> u64
     number
 }
 
-// Each of these writes a line behind what was written so far.
+// Each of these writes a line after what was written so far, unless that failed already.
 
 fn write_number<W: Write>(
     out: &mut W,
@@ -104,7 +104,7 @@ fn write_number<W: Write>(
     write_more(out, so_far, b"\n")
 }
 
-// As the line `sum` is answered.
+// Writes the checksum as the line `sum` is answered.
 fn write_sum<W: Write>(out: &mut W, so_far: io::Result<()>, sum: [u8; 16]) -> io::Result<()>
     ensures { Continues so_far (W.contents out.old) result (W.contents out.new) (sum_line sum) }
 {

@@ -15,7 +15,7 @@ pub enum Fault {
     /// The disk has no open bank.
     #[error("no bank")]
     NoBank,
-    /// What begins at this place of the disk is nothing that is left there.
+    /// What begins at this place of the disk is nothing that could have been left there.
     #[error("corrupt at {at}")]
     Corrupt { at: usize },
     /// A call of the disk failed.
@@ -27,13 +27,13 @@ pub enum Fault {
     /// The disk has no room for the record of an opening.
     #[error("full")]
     Full,
-    /// Memory was refused.
+    /// Out of memory.
     #[error("memory")]
     Memory,
     /// There is no place for a reader of what is published.
     #[error("places")]
     Places,
-    /// A read of the input failed, or the file can't be opened, made or brought to its length, or is locked. Of an address: it can't be
+    /// A read of the input failed; or the file can't be opened, made or brought to its length, or is locked; or an address can't be
     /// listened on, an accept failed, or nobody answers there.
     #[error("input")]
     Input,

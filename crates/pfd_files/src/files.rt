@@ -1,4 +1,4 @@
-//! Disks that lie on files. What a file holds no clause can say, so this is only tested.
+//! Disks in files. What a file holds no contract can say, so that is only tested.
 ghost use Rattle.std.specs.Prelude.{◌≡◌, ◌⊎◌, Err, Ok, IfErr, IfOk, IsErrOf};
 ghost use Rattle.pf_store.specs.Banks.{IsSize};
 ghost use Rattle.pfd_files.specs.Showing.{IsOfFile, ShownOfFile};
@@ -11,11 +11,11 @@ use std::alloc::Global;
 use std::fs::{File, Files, OpenOptions, TryLockError};
 use std::io::Write;
 
-/// Makes the file so many bytes long, whether it was there or not, and a disk that holds nothing.
+/// Makes the file `size` bytes long, whether it was there or not, and a disk that holds nothing.
 ///
-/// What is wrong comes in this order. `Input`: the file can't be opened or made, or is locked, whatever the size is. `BadSize`: no disk has so
-/// many bytes; the file's length isn't set, so that one that was there is as it was, and one that wasn't is there and empty. `Input`: it can't be
-/// brought to its length. Then the faults of [`FileDisk::of`] and [`format_on`]: the file has its new length, and may hold what it held.
+/// The faults come in this order. `Input`: the file can't be opened or made, or is locked, whatever the size is. `BadSize`: no disk has
+/// `size` bytes; a file that was there is as it was, and one that wasn't is there now, empty. `Input`: the file can't be brought to its
+/// length. Then the faults of [`FileDisk::of`] and [`format_on`]: the file has its new length, and may hold what it held.
 pub fn format_file<S: Files<File = File>>(
     alloc: Global,
     files: &S,
@@ -33,7 +33,7 @@ pub fn format_file<S: Files<File = File>>(
     format_on(alloc, &mut disk)
 }
 
-/// The disk that lies on a file, which is locked until the disk is dropped. The file has to have so many bytes where a number is there.
+/// Opens the disk in a file, which is locked until the disk is dropped. The file must have `size` bytes, if a size is given.
 pub fn open_file<S: Files<File = File>>(
     alloc: Global,
     files: &S,
@@ -52,7 +52,7 @@ pub fn open_file<S: Files<File = File>>(
     Ok(disk)
 }
 
-/// Tells what the disk holds that lies on a file. The file is open for reading alone.
+/// Writes what the disk in a file holds, as [`show_on`] does. The file is opened for reading only.
 pub fn show_file<S: Files<File = File>, W: Write>(
     alloc: Global,
     files: &S,
@@ -72,7 +72,7 @@ pub fn show_file<S: Files<File = File>, W: Write>(
     show_on(alloc, &mut disk, writer)
 }
 
-// The file, made where it is missing and may be made, and locked until it is closed. It may be another's disk: then it isn't opened.
+// Opens a file, made if it is missing and may be made, and locks it until it is closed. A file that another has locked isn't opened.
 fn open_to_write<S: Files<File = File>>(
     files: &S,
     path: &str,
@@ -90,12 +90,12 @@ fn open_to_write<S: Files<File = File>>(
     };
     match file.try_lock() {
         Err(TryLockError::WouldBlock) => Err(Fault::Input),
-        // where files have no locks it goes without
+        // where files can't be locked it goes on without a lock
         _ => Ok(file),
     }
 }
 
-// The file, once it may be given so many bytes: what kept it from being opened comes before what is wrong with the size.
+// The opened file, if a disk may have `size` bytes. A fault of the opening comes before a bad size.
 fn of_size(opened: Result<File, Fault>, size: usize) -> Result<File, Fault>
     ensures unopened { IfErr opened (λ fault. result ≡ Err fault) }
     ensures given { IsSize size → result ≡ opened }
@@ -114,7 +114,7 @@ fn length_of(file: &File) -> Result<usize, Fault>
     ensures { IfErr result (λ fault. fault ≡ Fault.Input) }
 {
     match file.metadata() {
-        // a folder can be opened, and not read
+        // a directory can be opened but not read
         Ok(metadata) if !metadata.is_dir() => Ok(metadata.len() as usize),
         _ => Err(Fault::Input),
     }

@@ -1,10 +1,19 @@
-//! Plays tables of rows, each of which says what has to come of it. Of each table it tells how many rows it has, and then each row that
-//! came to something else. Its input, `stdin`, says in its head how rows are written.
+//! A program of tests: it plays tables of rows, each of which says what has to come of it. For each table it writes how many rows it has,
+//! and then each row that came to something else. The head of its input, `stdin`, says how rows are written; `stdout` is what it has to
+//! write.
+//!
+//! It uses `pfd` as any other program would, and knows how rows are spelled. It doesn't know what a right reply is: that is in the rows,
+//! which were worked out by hand. The modules:
 //!
 //! - `playing`: lines and their replies, over Books.
 //! - `starting`: starts of the program, by its words.
 //! - `sharing`: sessions and peers' streams over a Book that callers may share.
-//! - `table` and `spelling`: how tables and rows are read. `tally`: what a table came to. `streams`: readers and writers that fail.
+//! - `table` and `spelling`: how tables and rows are read.
+//! - `tally`: what a table came to.
+//! - `streams`: readers and writers that follow a script, faults included.
+//!
+//! One thing is proved: if a row of lines differs in nothing, a session over the Book came to its end and wrote just the wanted bytes for
+//! the row's input (`written_instead` in `playing`). All else that the rows show is tested.
 #![tactic(auto)]
 
 mod playing;
@@ -29,7 +38,7 @@ fn main(rt: HostRuntime) -> io::Result<()> {
     let alloc = rt.alloc();
     let text = io::read_to_string(alloc, rt.stdin())?;
     let mut out = BufWriter::new(alloc, rt.stdout())?;
-    // What stands before the first table says how rows are written.
+    // The text before the first table says how rows are written.
     for table in text.as_str().split("\n== ").skip(1) {
         let table = Table::read(alloc, table)?;
         let tally = play(&rt, &rt, &table)?;

@@ -14,14 +14,14 @@ use std::sync::Wait;
 /// The most changes that a history may have.
 const MOST_HISTORY: usize = 1_048_576;
 
-/// How many calls of a disk are made at most until it is opened.
+/// The most calls of a disk that an opening may make.
 const MOST_CALLS: u64 = 100;
 
 /// A disk in memory that may fail.
 pub(crate) type Device = FuseDisk<MemDisk>;
 
-// What is written for an input, where that isn't what is wanted. There is nothing to tell only where a session over the
-// input came to its end and wrote just the wanted bytes.
+// What is written for an input, if that isn't what is wanted. It is `None` only if a session over the input came to its end and wrote just
+// the wanted bytes.
 fn written_instead<J: Chapter, H: Wait + Drop>(
     alloc: Global,
     book: &mut Book<Device, J, H>,
@@ -40,7 +40,7 @@ fn written_instead<J: Chapter, H: Wait + Drop>(
     }
 }
 
-// Plays a line, and tells where the reply differs.
+// Plays a line, and notes it if the reply differs.
 fn play_line<J: Chapter, H: Wait + Drop>(
     alloc: Global,
     table: &Table,
@@ -61,7 +61,7 @@ fn play_line<J: Chapter, H: Wait + Drop>(
     Ok(())
 }
 
-// Plays rows in turn, with the fields in their places.
+// Plays rows in turn, with the fields put into their places.
 fn play_rows<J: Chapter, H: Wait + Drop>(
     alloc: Global,
     table: &Table,
@@ -79,14 +79,14 @@ fn play_rows<J: Chapter, H: Wait + Drop>(
     Ok(())
 }
 
-// A fresh disk of a table, opened, of whose calls so many pass.
+// A fresh disk of a table, opened, whose calls fail after the first `calls`; or none if it can't be opened so.
 fn opened(alloc: Global, table: &Table, calls: u64) -> Result<Option<Opening<Device>>, AllocError> {
     let bytes = Vec::from_elem(alloc, 0, table.size)?;
     let disk = FuseDisk::after(MemDisk::of(alloc, bytes)?, calls);
     Ok(open_fresh(alloc, disk).ok())
 }
 
-/// A fresh disk of a table, opened, of whose calls as many pass as an opening makes and the table says.
+/// A fresh disk of a table, opened, whose calls fail after those of the opening and as many more as the table says.
 pub(crate) fn opening_of(alloc: Global, table: &Table) -> Result<Opening<Device>, AllocError> {
     let Some(more) = table.fails else {
         return opened(alloc, table, u64::MAX)?.ok_or(AllocError);

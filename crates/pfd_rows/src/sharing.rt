@@ -1,4 +1,4 @@
-//! Sessions and peers' streams over a Book that callers may share, each over one of its own.
+//! Sessions and peers' streams over a Book that callers may share, each with a Book of its own.
 ghost use Rattle.std.specs.Prelude.{◌≤◌};
 ghost use Rattle.pf_book.specs.Books.{IsNamed};
 
@@ -16,7 +16,7 @@ use std::sync::atomic::{AtomicBool, AtomicU32, Ordering};
 /// The number of each session.
 const SESSION: u32 = 7;
 
-/// A gate that says whether the lines of one session came to it in their order.
+/// A gate that notes whether the lines of one session came to it in order.
 #[derive(Drop)]
 struct Counting {
     last: AtomicU32,
@@ -32,7 +32,7 @@ impl Gate for Counting {
     }
 }
 
-// How a stream ended, in a word, and a number; and whether the lines were out of their order.
+// How a stream ended, in a word; a number; and whether the lines were out of order.
 fn end_of(
     alloc: Global,
     ended: Result<(), EngineFault>,
@@ -49,7 +49,7 @@ fn end_of(
     format!(in alloc; "{word} {number}{order}\n")
 }
 
-// One session, and how many lines passed its gate.
+// Plays one session. Its end says how many lines passed its gate.
 fn run_session<J: Chapter, R: Wait>(
     rt: &R,
     alloc: Global,
@@ -83,7 +83,7 @@ fn run_session<J: Chapter, R: Wait>(
     Ok(Outcome { end, written })
 }
 
-// A peer's stream, and how many changes the Book then has.
+// Plays a peer's stream. Its end says how many changes the Book then has.
 fn follow<J: Chapter, R: Wait>(
     rt: &R,
     alloc: Global,
@@ -98,7 +98,7 @@ fn follow<J: Chapter, R: Wait>(
     Ok(Outcome { end, written })
 }
 
-// Plays a case over what was opened.
+// Plays a case over an opening.
 fn share<J: Chapter, R: Wait>(
     rt: &R,
     alloc: Global,

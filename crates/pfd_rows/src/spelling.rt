@@ -1,7 +1,7 @@
-//! How rows are spelled: choices, shapes, repeats and bytes. `stdin` says in its head what each of them means.
+//! How rows are spelled: choices, shapes, repeats and bytes. The head of `stdin` says what each of them means.
 use std::alloc::{AllocError, Global};
 
-/// The text with its choices taken as the number says, and what is left of the number: 0 where there are so many ways.
+/// The text with its choices taken as the number says, and what is left of the number: 0 if the text has such a way.
 pub(crate) fn choose(
     alloc: Global,
     text: &str,
@@ -24,7 +24,7 @@ pub(crate) fn choose(
     Ok((chosen, left))
 }
 
-/// A shape with the fields in the places of `$1`, `$2` and so on.
+/// A shape with the fields in place of `$1`, `$2` and so on.
 pub(crate) fn fill(alloc: Global, shape: &str, fields: &[String]) -> Result<String, AllocError> {
     let mut filled = String::new(alloc);
     for (place, piece) in shape.split('$').enumerate() {
@@ -54,7 +54,7 @@ pub(crate) fn push_bytes(bytes: &mut Vec<u8>, text: &str) -> Result<(), AllocErr
     Ok(())
 }
 
-// A text with a number in the place of each `#`.
+// Appends a text with a number in place of each `#`.
 fn push_numbered(
     alloc: Global,
     bytes: &mut Vec<u8>,
@@ -70,7 +70,7 @@ fn push_numbered(
     Ok(())
 }
 
-// What stands in braces: FIRST..LAST:TEXT, where the last number may be the lesser one. With no numbers it is nothing.
+// Appends what is in braces: FIRST..LAST:TEXT, where the last number may be the lesser one. Without numbers it is nothing.
 fn push_repeated(alloc: Global, bytes: &mut Vec<u8>, repeat: &str) -> Result<(), AllocError> {
     let (range, text) = repeat.split_once(':').unwrap_or((repeat, ""));
     let Some((first, last)) = range.split_once("..") else {
@@ -90,7 +90,7 @@ fn push_repeated(alloc: Global, bytes: &mut Vec<u8>, repeat: &str) -> Result<(),
     Ok(())
 }
 
-// Appends the bytes of a line.
+// Appends the bytes of a line, with its repeats.
 fn push_line(alloc: Global, bytes: &mut Vec<u8>, text: &str) -> Result<(), AllocError> {
     for (place, piece) in text.split('{').enumerate() {
         match piece.split_once('}') {
@@ -129,7 +129,7 @@ pub(crate) fn is_reply(alloc: Global, bytes: &[u8], text: &str) -> Result<bool, 
         return Ok(bytes == reply_bytes(alloc, text)?.as_slice());
     };
     let mut wanted = reply_bytes(alloc, front)?;
-    // The newline of its last line may stand behind more.
+    // More may come before the newline of its last line.
     wanted.pop();
     Ok(bytes.starts_with(wanted.as_slice()))
 }

@@ -1,4 +1,4 @@
-//! Starts of the program: its words and what it reads, its status, what it says of its faults, and what it writes.
+//! Starts of the program: its words and its input, its status, what it says of its faults, and its output.
 
 use crate::spelling::{line_bytes, push_bytes};
 use crate::streams::{Script, Tight};
@@ -13,7 +13,7 @@ use std::sync::Wait;
 use std::sync::atomic::{AtomicBool, Ordering};
 use std::thread::Threads;
 
-// The file of a table, made anew and open; locked where the table says so.
+// The file of a table, made anew and open; locked if the table says so.
 fn made(rt: &HostRuntime, table: &Table) -> io::Result<Option<File>> {
     let Some(file) = table.file else {
         return Ok(None);
@@ -40,7 +40,7 @@ fn words_of(alloc: Global, line: &str) -> Result<Vec<String>, AllocError> {
     Ok(words)
 }
 
-// The status, and behind it what the faults are told.
+// The status, followed by what was written of faults.
 fn end_of(alloc: Global, status: u8, told: &[u8]) -> Result<String, AllocError> {
     let told = std::str::from_utf8(told).unwrap_or("no text");
     if told.is_empty() {
@@ -50,7 +50,7 @@ fn end_of(alloc: Global, status: u8, told: &[u8]) -> Result<String, AllocError> 
     }
 }
 
-// Starts with the words of a case.
+// Starts the program with the words of a case.
 fn started<N: Wait + Threads + Net<Listener = TcpListener, Stream = TcpStream> + Sync>(
     machine: &N,
     rt: &HostRuntime,

@@ -1,11 +1,11 @@
-//! Readers and writers that do what they are told.
+//! Readers and writers that follow a script.
 
 use std::io::{self, ErrorKind, Read, Write};
 use std::str::Split;
 use std::sync::atomic::{AtomicBool, Ordering};
 
-/// A reader whose reads each give the next piece, and then are at the end. A piece `~` is an interruption, and `!` a
-/// fault. It fails where replies wait to be flushed.
+/// A reader whose reads each give the next piece, and after the last one are at the end. A piece `~` is an interruption, and `!` a fault. A
+/// read also fails while replies wait to be flushed.
 #[derive(Drop)]
 pub(crate) struct Script<'a> {
     pieces: Split<'a, char>,
@@ -13,7 +13,7 @@ pub(crate) struct Script<'a> {
 }
 
 impl<'a> Script<'a> {
-    /// The reader of a text, in which `|` stands between pieces.
+    /// The reader of a text with `|` between its pieces.
     pub(crate) fn new(text: &'a [u8], waiting: &'a AtomicBool) -> Script<'a> {
         Script {
             pieces: std::str::from_utf8(text).unwrap_or("").split('|'),
@@ -35,7 +35,7 @@ impl Read for Script<'_> {
     }
 }
 
-/// A writer with room for so many bytes, which is interrupted so often at first, and flushed so often at most.
+/// A writer with room for `room` bytes, whose first `interruptions` writes are interrupted, and which can be flushed `flushes` times.
 #[derive(Drop)]
 pub(crate) struct Tight<'a> {
     text: &'a mut Vec<u8>,
@@ -46,7 +46,7 @@ pub(crate) struct Tight<'a> {
 }
 
 impl<'a> Tight<'a> {
-    /// A writer with these limits, as `stdin` spells them. A limit that isn't named is none.
+    /// A writer with these limits, as `stdin` spells them. What isn't named has no limit.
     pub(crate) fn new(text: &'a mut Vec<u8>, limits: &str, waiting: &'a AtomicBool) -> Tight<'a> {
         let mut writer = Tight {
             text,
@@ -61,7 +61,7 @@ impl<'a> Tight<'a> {
         writer
     }
 
-    // One limit: a word and its number.
+    // Sets one limit: a word and its number.
     fn limit(&mut self, limit: &str) {
         let (word, number) = limit.split_once(' ').unwrap_or((limit, ""));
         let number = number.parse::<u32>().unwrap_or(0);

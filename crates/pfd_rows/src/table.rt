@@ -5,10 +5,10 @@ use crate::tally::Case;
 use pfd::HISTORY_LIMIT;
 use std::alloc::{AllocError, Global};
 
-/// How many bytes the disk of a Book has where the heading says no other number.
+/// How many bytes the disk of a Book has by default.
 const DISK_SIZE: usize = 8_192;
 
-/// In how many ways a row is read at most.
+/// The most ways in which a row is read.
 const MOST_WAYS: usize = 100_000;
 
 /// What the rows of a table are.
@@ -25,7 +25,7 @@ pub(crate) enum Kind {
 }
 
 impl Kind {
-    /// How a row of this kind is played where the heading says nothing of it.
+    /// How a row of this kind is played by default.
     fn shape(self) -> &'static str {
         match self {
             Kind::Lines => "$1 -> $2",
@@ -34,21 +34,21 @@ impl Kind {
     }
 }
 
-/// A table, and how its rows are played. `stdin` says in its head what its settings are.
+/// A table, and how its rows are played. The head of `stdin` says what its settings mean.
 #[derive(Drop)]
 pub(crate) struct Table<'a> {
     /// What the table shows.
     pub(crate) name: &'a str,
     pub(crate) kind: Kind,
-    /// How many changes the history of a Book may have, the session's limit where the heading names no other number.
+    /// How many changes the history of a Book may have; by default the limit of a session.
     pub(crate) history: usize,
     /// How many bytes the disk of a Book has.
     pub(crate) size: usize,
-    /// Behind how many calls more than the opening's every call of the disk fails, if it does.
+    /// After how many calls more than the opening's every call of the disk fails; none if no call fails.
     pub(crate) fails: Option<u64>,
-    /// All rows are played on one Book, and not each on its own.
+    /// All rows are played in turn on one Book, and not each on its own.
     pub(crate) in_turn: bool,
-    /// A row's line is a whole input, which no newline ends but its own.
+    /// A row's line is a whole input: no newline is appended to it.
     pub(crate) as_input: bool,
     /// The file that is made first, if there is one: its name, its length, and the bytes with which it begins.
     pub(crate) file: Option<&'a str>,
@@ -56,9 +56,9 @@ pub(crate) struct Table<'a> {
     pub(crate) is_locked: bool,
     /// The rows that are played first on a Book.
     pub(crate) before: Vec<&'a str>,
-    /// The rows that are played for each row, which has the fields for their places.
+    /// The rows that are played for each row, with its fields in their places.
     pub(crate) shapes: Vec<&'a str>,
-    /// The fields of each row, in each way that it is read.
+    /// The fields of each row, once for each way that it is read.
     pub(crate) rows: Vec<Vec<String>>,
 }
 
@@ -80,7 +80,7 @@ impl<'a> Table<'a> {
         }
     }
 
-    // One line of the heading, of one word or more.
+    // Takes one line of the heading, of one word or more.
     fn set(&mut self, setting: &'a str) -> Result<(), AllocError> {
         let (word, rest) = setting.split_once(' ').unwrap_or((setting, ""));
         match word {
@@ -101,7 +101,7 @@ impl<'a> Table<'a> {
         Ok(())
     }
 
-    /// The table of a text whose first line is the name.
+    /// Reads a table from a text whose first line is its name.
     pub(crate) fn read(alloc: Global, text: &'a str) -> Result<Table<'a>, AllocError> {
         let (name, lines) = text.split_once('\n').unwrap_or((text, ""));
         let mut table = Table::named(alloc, name);
@@ -119,7 +119,7 @@ impl<'a> Table<'a> {
         Ok(table)
     }
 
-    /// The cases of a table whose rows are no lines.
+    /// The cases of a table whose rows aren't lines.
     pub(crate) fn cases(&self, alloc: Global) -> Result<Vec<Case>, AllocError> {
         let mut cases = Vec::new(alloc);
         for fields in &self.rows {
@@ -129,7 +129,7 @@ impl<'a> Table<'a> {
     }
 }
 
-// The fields of a row, read in the way of this number, where there are so many ways.
+// The fields of a row, read in the way with this number, or none if there are fewer ways.
 fn fields_of(alloc: Global, row: &str, way: usize) -> Result<Option<Vec<String>>, AllocError> {
     let mut fields = Vec::new(alloc);
     for field in row.split(" -> ") {
@@ -142,7 +142,7 @@ fn fields_of(alloc: Global, row: &str, way: usize) -> Result<Option<Vec<String>>
     Ok(Some(fields))
 }
 
-// Appends the fields of a row, in each way that it is read.
+// Appends the fields of a row, once for each way that it is read.
 fn push_ways(alloc: Global, rows: &mut Vec<Vec<String>>, row: &str) -> Result<(), AllocError> {
     for way in 0..MOST_WAYS {
         match fields_of(alloc, row, way)? {
@@ -153,7 +153,7 @@ fn push_ways(alloc: Global, rows: &mut Vec<Vec<String>>, row: &str) -> Result<()
     Ok(())
 }
 
-// Appends the case of each shape, with the fields in their places.
+// Appends a case for each shape, with the fields in their places.
 fn push_cases(
     alloc: Global,
     cases: &mut Vec<Case>,

@@ -1,9 +1,9 @@
-//! What tables come to.
+//! What a table came to.
 
 use crate::spelling::is_reply;
 use std::alloc::{AllocError, Global};
 
-/// A row that is no line: what is played, how it has to end, and what has to be written.
+/// A row that isn't a line: what is played, how it has to end, and what has to be written.
 #[derive(Drop)]
 pub(crate) struct Case {
     pub(crate) line: String,
@@ -26,7 +26,7 @@ pub(crate) struct Tally {
 }
 
 impl Tally {
-    /// Of no row.
+    /// A tally of no rows.
     pub(crate) fn none(alloc: Global) -> Tally {
         Tally {
             rows: 0,
@@ -34,7 +34,7 @@ impl Tally {
         }
     }
 
-    /// Counts a case, and tells what it came to where that isn't what is wanted.
+    /// Counts a case, and notes what it came to if that isn't what is wanted.
     pub(crate) fn note(
         &mut self,
         alloc: Global,

@@ -1,4 +1,4 @@
-//! Public calls that no line comes to, each once with ample memory, and that values cross threads.
+//! Public calls that no line comes to, each once and with enough memory; and that values cross threads.
 use pf_addr::path::TableName;
 use pf_addr::{Addr, Net, write_addr, write_net};
 use pf_anchor::{Config, Path, RuleList};
@@ -10,7 +10,7 @@ use pf_ticket::{RulesetName, Ticket, TicketRange, TicketRefusal, Tickets};
 use std::alloc::Global;
 use std::test::*;
 
-// Texts that are read and written by themselves, and not as a part of a line.
+// Texts that are read and written by themselves, not as part of a line.
 #[test]
 fn texts_are_read_and_written(rt: HostRuntime) -> Result<(), Fail> {
     let packet = Packet::parse(rt.alloc(), "in em0 tcp 10.0.0.1 1234 10.0.0.2 80")?;
@@ -28,7 +28,7 @@ fn texts_are_read_and_written(rt: HostRuntime) -> Result<(), Fail> {
     Ok(())
 }
 
-/// With a rule at `a/b/c` alone, and with the table `web` at `a/b`.
+/// A config with rules at `a/b/c` alone, and with the table `web` at `a/b`.
 fn nested(alloc: Global) -> Result<Config, Fail> {
     let mut rules = RuleList::none();
     rules.add(alloc, Rule::parse(alloc, "pass all")?)?;
@@ -41,7 +41,7 @@ fn nested(alloc: Global) -> Result<Config, Fail> {
     Ok(ruled.with_table(alloc, &Path::from_ascii(b"a/b")?, &name, &table)?)
 }
 
-/// The children of a path, each with a space behind it.
+/// The children of a path, each followed by a space.
 fn children(alloc: Global, config: &Config, path: &str) -> Result<Vec<u8>, Fail> {
     let path = Path::from_ascii(path.as_bytes())?;
     let mut text = Vec::new(alloc);
@@ -55,7 +55,7 @@ fn children(alloc: Global, config: &Config, path: &str) -> Result<Vec<u8>, Fail>
 #[test]
 fn rules_and_tables_are_put_at_their_paths(rt: HostRuntime) -> Result<(), Fail> {
     let config = nested(rt.alloc())?;
-    // A child has one component more.
+    // A child has one component more than its parent.
     for (path, wanted) in [("a", ""), ("a/b", "a/b/c "), ("a/b/c", "")] {
         let found = children(rt.alloc(), &config, path)?;
         assert!(rt; found.as_slice() == wanted.as_bytes(), "at {path}");
@@ -70,7 +70,7 @@ fn rules_and_tables_are_put_at_their_paths(rt: HostRuntime) -> Result<(), Fail> 
     Ok(())
 }
 
-/// An insert of a state of this packet.
+/// An insert of a state for this packet.
 fn insert(alloc: Global, id: u64, packet: &str) -> Result<Step, Fail> {
     let packet = Packet::parse(alloc, packet)?;
     let held = Held {
@@ -107,7 +107,7 @@ fn the_last_ticket_is_given_once(rt: HostRuntime) -> Result<(), Fail> {
     let names = [main.copied(), web];
     let two = names.as_slice();
     let mut tickets = Tickets::starting(rt.alloc(), LAST.epoch, LAST.count);
-    // Of two tickets not even the one that is left is given.
+    // Asked for two tickets, it doesn't even give the one that is left.
     let refused = tickets.begin(two);
     assert!(rt; refused == Err(TicketRefusal::TicketsExhausted));
     let given = tickets.begin(&two[..1]);

@@ -3,7 +3,7 @@ use pfd::{Fault, run_process, without_words};
 use std::io::{self, ErrorKind};
 use std::test::*;
 
-/// Each fault, and its text.
+/// Each fault with its text.
 const TEXTS: &[(Fault, &str)] = &[
     (Fault::BadSize, "bad size"),
     (Fault::NoBank, "no bank"),
@@ -36,8 +36,8 @@ fn says_why_it_has_no_words(rt: HostRuntime) {
     assert!(rt; told.as_slice() == b"pfd: memory\npfd: a word isn't text\n".as_slice());
 }
 
-// The words that it takes are those that the test runner itself was started with. These aren't the program's, so its
-// parser refuses them, says so on standard error, and nothing is read.
+// It takes the words that the test runner itself was started with. These aren't the program's, so its parser refuses them and says so on
+// standard error, and nothing is read.
 #[test]
 fn takes_the_words_of_its_process(rt: HostRuntime) {
     assert!(rt; run_process(&rt, &rt) == 2);

@@ -3,7 +3,7 @@ use pfd_files::{Fault, format_file};
 use std::fs;
 use std::test::*;
 
-/// The file, where the tests run, and what stands in it.
+/// The file, in the directory where the tests run, and what is in it.
 const PATH: &str = "refused";
 
 const BYTES: &[u8] = b"whatever stood there";

@@ -1,6 +1,14 @@
-//! Tests of what no line, no program's words and no stream shows: commands whose lists no line can carry, public calls that no line comes
-//! to, that values cross threads, the texts of all faults, the bytes of a file that isn't formatted. What lines are answered, what the program does as its words say, and what
-//! sessions and peers are told stands in the tables of `pfd_rows`; what threads and connections show, in `server_tests`.
+//! Tests of what no line, no start of the program and no stream shows.
+//!
+//! - `calls`: public calls that no line comes to, and that values cross threads.
+//! - `tables`: commands whose lists no line can carry.
+//! - `faults`: the texts of all faults, and the words of a process.
+//! - `files`: the bytes of a file that isn't formatted.
+//!
+//! It knows the public items of the crates below, and nothing depends on it. The replies to lines, what the program does by its words, and
+//! what sessions and peers are answered are in the tables of `pfd_rows`; what threads and connections show is in `server_tests`.
+//!
+//! Nothing is proved here but that the tests keep the contracts of what they call.
 #![tactic(auto)]
 
 #[cfg(test)]

@@ -16,13 +16,13 @@ use std::process::Abort;
 use std::sync::Wait;
 use std::test::*;
 
-/// How many bytes a disk has: room for two changes of a whole table.
+/// How many bytes a disk has: enough for two changes of a whole table.
 const DISK_SIZE: usize = 1 << 23;
 
-/// What is done with some entries, at the main ruleset's table `banned`.
+/// What is done with some entries, on the main ruleset's table `banned`.
 #[derive(Clone, Copy)]
 enum Deed {
-    /// Gives the first ticket, with which they can be offered.
+    /// Gives the first ticket, under which they can be offered.
     Begin,
     Define,
     Set,
@@ -30,11 +30,11 @@ enum Deed {
     Delete,
 }
 
-/// A deed with the networks of the first so many addresses, one each, and its reply.
+/// A deed, with how many addresses, from the first on, each as a network of its own; and its reply.
 type Row = (Deed, usize, &'static str);
 
 const WITHOUT_ENTRIES: &[Row] = &[
-    // Nothing is added to a table that isn't there, and it isn't there after it.
+    // Nothing is added to a table that isn't there, and it still isn't there afterwards.
     (Deed::Add, 0, "applied 1 added 0 same 0 conflict 0\n"),
     (Deed::Delete, 0, "err absent\n"),
     (Deed::Set, 1, "applied 2\n"),
@@ -111,7 +111,7 @@ fn command_of(alloc: Global, deed: Deed, count: usize) -> Result<Command, Fail> 
     Ok(command(deed, name, entries, tables))
 }
 
-// It borrows the Book, so that it has not to let go of it wherever it may fail.
+// It borrows the Book, so that it needn't drop it wherever it may fail.
 fn play_on<J: Chapter, R: Wait + Abort>(
     rt: &R,
     alloc: Global,

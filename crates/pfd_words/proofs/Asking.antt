@@ -1,4 +1,4 @@
--- What words ask.
+-- Lemmas on what the words ask for.
 use Rattle.std.proofs.Common.{◌≡◌, ◌∙◌, ◌<◌, ap, ap₂, arith, lit<, refl, sym, ℕ, true, List, [], ◌∷◌, Option, Some, None, Result, Ok, Err, codes, slice_index, subst, Bor}
 use Rattle.std.specs.{Prelude.{option_map, unwrap_or}, Str.Parse.ParsesUnsigned}
 use Rattle.clap.specs.Words.{ReadsOne, Row, Text, is_simple, subcommand_of, takes}
@@ -23,7 +23,7 @@ pub met : (name : Text) → subcommand_of program_words (run_alone name) ≡ Som
 unfolding clap_on_literals
 met name = refl
 
--- a word that begins otherwise is another
+-- a word with another first byte is another word; 114 is the r of `run`
 first_bytes : (word : Text) → Some (codes "run") ≡ Some word → 114 ≡ slice_index word 0
 first_bytes word is = ap (λ (o : Option Text). slice_index (unwrap_or o []) 0) is
 
@@ -48,18 +48,18 @@ alone words task is asked =
 
 -- ---- options
 
--- a subcommand with these options has some name
+-- a subcommand that was found with these options has some name
 pub named : (met : Option (Text × List Row)) (rows : List Row) → Some rows ≡ option_map (λ m. m.1) met → (name : Text) × (met ≡ Some (name, rows))
 named None rows is = absurd (cc (is))
 named (Some (name, others)) rows is = let e : others ≡ rows = cc (is) in (name, ap (λ (r : List Row). Some (name, r)) e)
 
--- the path that a text is
+-- a path is the option's text, or empty without one
 pub path_read : (o : Option (Bor Text)) (d : Bor Text) (v : Option Text) → d.now ≡ [] → option_map (λ s. s.now) o ≡ v
     → (unwrap_or o d).now ≡ unwrap_or v []
 path_read None d v empty is = empty ∙ ap (λ (x : Option Text). unwrap_or x []) is
 path_read (Some s) d v empty is = ap (λ (x : Option Text). unwrap_or x []) is
 
--- the number, if any, that a text is read as
+-- a number is what the option's text spells, or none without one
 pub number_if_read : {E : Type 0} (gives : Text → Result ℕ E → Type 0) → ((t : Text) (x : Result ℕ E) → gives t x → ParsesUnsigned 64 10 t x)
     → (o : Option Text) (r : Option ℕ) → (o ≡ None → r ≡ None) → ((t : Text) → o ≡ Some t → ReadsOne gives t r)
     → MaySayNumber 0 18446744073709551615 o r

@@ -1,12 +1,12 @@
--- The words that the program takes, as clap reads them, and what they ask.
+-- The program's command line, as clap reads it, and what it asks for.
 use Rattle.std.specs.{Prelude.{◌≡◌, ◌≤◌, ℕ, true, List, [], ◌∷◌, Option, Some, None, codes, option_and_then, option_map, pos, unwrap_or}, Str.Parse.{IsNumeral, digits_value, without_leading_plus}}
 use Rattle.clap.specs.{Simple.on_top, Words.{App, Row, Rule, Text, new_app, new_rule, one_of, first_of, with_rule, with_subcommand}}
 use Rattle.clap.specs.declared.builder.value_parser.ValueParser.TheVariants.{Signed}
 use Rattle.pfd_words.specs.declared.words.{Service.Service, Task.Task, Task.TheVariants.{Run, RunOn, Format, Show, Serve, Connect}, TheConstants.{MEMORY_SIZE, HISTORY_LIMIT, MOST_HISTORY, WORKERS, MOST_WORKERS}}
 
--- ---- what there is
+-- ---- the subcommands and their options
 
--- an option with a number, from the one to the other
+-- an option with a number from `least` to `most`
 abbrev pub number_rule : Text → ℕ → ℕ → Rule
 number_rule name least most =
     record (new_rule name) { long = Some name; value_names = 1; parser = Some (Signed (pos least) (pos most)) }
@@ -29,7 +29,7 @@ workers_rule = number_rule (codes "workers") 1 64
 abbrev pub sessions_rule : Rule
 sessions_rule = number_rule (codes "sessions") 0 4294967295
 
--- the subcommands with their options
+-- the subcommands, each with its options
 abbrev pub run_words : App
 run_words = with_rule (with_rule (with_rule (new_app (codes "run")) disk_rule) size_rule) history_rule
 
@@ -51,31 +51,31 @@ serve_words = with_rule (with_rule server_words history_rule) sessions_rule
 abbrev pub connect_words : App
 connect_words = with_rule (new_app (codes "connect")) (record (new_rule (codes "address")) { value_names = 1; required = true })
 
--- one of the five has to be there; help and the version may be asked for
+-- One of the five subcommands must be there. Help and the version may be asked for.
 abbrev pub program_words : App
 program_words =
     with_subcommand (with_subcommand (with_subcommand (with_subcommand (with_subcommand
     (on_top (λ s. record s { has_version = true; subcommand_required = true }) (new_app (codes "pfd")))
     run_words.top) format_words.top) show_words.top) serve_words.top) connect_words.top
 
--- ---- what they ask
+-- ---- what a command line asks for. `met` is the subcommand that clap found, with its options
 
--- the text that an option of the subcommand has
+-- the text of an option of the subcommand
 abbrev pub text_in : Text → Option (Text × List Row) → Option Text
 text_in id met = option_and_then (λ m. first_of id m.1) met
 
--- and the digits
+-- the text that an option's number is read from
 abbrev pub digits_in : Text → Option (Text × List Row) → Option Text
 digits_in id met = option_and_then (λ m. one_of id m.1) met
 
--- The number that an option says in decimal digits, where it is from the one to the other; and none where the option isn't there.
+-- The number that an option has in decimal digits, if it is from `least` to `most`; or none if the option isn't there.
 abbrev pub MaySayNumber : ℕ → ℕ → Option Text → Option ℕ → Type 0
 MaySayNumber least most None n = n ≡ None
 MaySayNumber least most (Some text) n =
     let digits = without_leading_plus text in
     IsNumeral 10 digits → least ≤ digits_value 10 digits → digits_value 10 digits ≤ most → n ≡ Some (digits_value 10 digits)
 
--- the same, and this one where it isn't there
+-- the same, but `default` if the option isn't there
 abbrev pub SaysNumber : ℕ → ℕ → ℕ → Option Text → ℕ → Type 0
 SaysNumber least most default None n = n ≡ default
 SaysNumber least most default (Some text) n =
@@ -91,7 +91,7 @@ MaySaySize met n = MaySayNumber 0 4294967295 (digits_in (codes "size") met) n
 abbrev pub SaysHistory : Option (Text × List Row) → ℕ → Type 0
 SaysHistory met n = SaysNumber 1 MOST_HISTORY HISTORY_LIMIT (digits_in (codes "history") met) n
 
--- the text of an option that has to be there
+-- the text of an option that must be there
 abbrev pub SaysText : Text → Option (Text × List Row) → Text → Type 0
 SaysText id met text = text ≡ unwrap_or (text_in id met) []
 
@@ -104,7 +104,7 @@ SaysWorkers met n = SaysNumber 1 MOST_WORKERS WORKERS (digits_in (codes "workers
 abbrev pub SaysSessions : Option (Text × List Row) → ℕ → Type 0
 SaysSessions met n = SaysNumber 0 4294967295 0 (digits_in (codes "sessions") met) n
 
--- what is asked of a server
+-- what `serve` asks for
 pub record AsksService (met : Option (Text × List Row)) (service : Service) : Type 0 where
   pub address : SaysText (codes "listen") met service.address.now
   pub path : SaysPath met service.path.now
@@ -113,7 +113,7 @@ pub record AsksService (met : Option (Text × List Row)) (service : Service) : T
   pub history : SaysHistory met service.history
   pub sessions : SaysSessions met service.sessions
 
--- It is what the subcommand asks that was met, with its options. A session is over memory where no file is named.
+-- The task is what the subcommand and its options ask for. Without `--disk` a session is in memory.
 abbrev pub IsAsked : Option (Text × List Row) → Task → Type 0
 IsAsked met (Run size history) = (text_in (codes "disk") met ≡ None) × SaysSize met MEMORY_SIZE size × SaysHistory met history
 IsAsked met (RunOn path size history) = (text_in (codes "disk") met ≡ Some path.now) × MaySaySize met size × SaysHistory met history
@@ -122,30 +122,30 @@ IsAsked met (Show path) = (option_map (λ m. m.0) met ≡ Some (codes "show")) �
 IsAsked met (Serve service) = (option_map (λ m. m.0) met ≡ Some (codes "serve")) × AsksService met service
 IsAsked met (Connect address) = (option_map (λ m. m.0) met ≡ Some (codes "connect")) × SaysText (codes "address") met address.now
 
--- the program's name, whatever it is, and `run`
+-- the words are the program's name, whatever it is, and `run`
 abbrev pub IsPlainRun : List Text → Type 0
 IsPlainRun words = (name : Text) × (words ≡ name ∷ codes "run" ∷ [])
 
--- which ask for this: a session over memory, with what the words don't say
+-- what these words ask for: a session in memory, with the defaults
 abbrev pub plain_run : Task
 plain_run = Run MEMORY_SIZE HISTORY_LIMIT
 
--- a history may have so many changes
+-- `limit` is allowed as the most changes of a history
 pub record IsHistory (limit : ℕ) : Type 0 where
   pub least : 1 ≤ limit
   pub most : limit ≤ MOST_HISTORY
 
--- there may be so many workers
+-- `n` is allowed as the number of workers
 pub record IsWorkers (n : ℕ) : Type 0 where
   pub least : 1 ≤ n
   pub most : n ≤ MOST_WORKERS
 
--- a server's history may have so many changes, and there may be so many workers
+-- a server's numbers of changes and of workers are allowed
 pub record CanServe (service : Service) : Type 0 where
   pub history : IsHistory service.history
   pub workers : IsWorkers service.workers
 
--- a session's history may, and a server's workers
+-- the numbers of changes and of workers that a task has are allowed
 abbrev pub HasHistory : Task → Type 0
 HasHistory (Run size history) = IsHistory history
 HasHistory (RunOn path size history) = IsHistory history

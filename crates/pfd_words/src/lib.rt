@@ -1,6 +1,17 @@
-//! The program's words: which there are, as `clap` reads them, and what they ask. It knows no disk, no file and no session.
+//! The program's command line: its subcommands and options, as `clap` reads them, and what they ask for.
 //!
-//! Read `specs/Words.antt` first. [`read_words`] carries the promise: what it gives is what the words ask.
+//! It knows `clap` alone, and no disk, no file, no address and no session: a path and an address are only texts here, for `pfd` and
+//! `pfd_main` to use. The module:
+//!
+//! - `words`: the five subcommands `run`, `format`, `show`, `serve` and `connect` as clap's commands, and [`read_words`], which reads a
+//!   command line into a [`Task`].
+//!
+//! Read `specs/Words.antt` first: it has the subcommands with their options, and `IsAsked`, what a command line asks for by clap's own
+//! rules. Proved, by the contracts of [`read_words`]: the task is what the words ask for (`asked`); the numbers of changes and of workers
+//! are within their bounds (`history`); the word `run` alone is refused only when out of memory (`run`), and asks for a session in memory
+//! with the default size and history (`alone`).
+//!
+//! Not proved: the texts that clap writes (help, version, what is wrong with the words). This crate has no tests.
 #![tactic(auto)]
 
 mod words;

@@ -1,4 +1,4 @@
-//! What there is, as clap reads it, and what is read.
+//! The subcommands with their options, as clap's commands, and the task that a command line asks for.
 ghost use Rattle.std.specs.Prelude.{◌≡◌, ◌≤◌, IfErr, IfOk, List, ℕ, Some, [], codes, false, map, option_map, string_bytes, unwrap_or};
 ghost use Rattle.clap.specs.Words.{app_of, found_of, kind_of, one_of, first_of, rows_of, rule_of, subcommand_of, subcommand_rows_of};
 ghost use Rattle.clap.specs.declared.builder.command.Command.TheViews.{out-Command};
@@ -8,70 +8,70 @@ use clap::error::ErrorKind;
 use clap::{Arg, ArgMatches, Command, Error, value_parser};
 use std::alloc::{AllocError, Global};
 
-/// How many bytes the memory disk of a session has where the words don't say. Definitions cite it.
+/// How many bytes a session's memory disk has by default. Definitions cite it.
 pub const MEMORY_SIZE: usize = 1_048_576;
 
-/// How many changes the history of a session may have where the words don't say. Definitions cite it.
+/// How many changes a history may have by default. Definitions cite it.
 pub const HISTORY_LIMIT: usize = 65_536;
 
-/// How many changes a history may have at most.
+/// The most changes that a history may have. Definitions cite it.
 pub const MOST_HISTORY: usize = 1_048_576;
 
-/// How many workers a server has where the words don't say. Definitions cite it.
+/// How many workers a server has by default. Definitions cite it.
 pub const WORKERS: usize = 4;
 
-/// How many workers a server may have at most.
+/// The most workers that a server may have. Definitions cite it.
 pub const MOST_WORKERS: usize = 64;
 
-// The greatest number of connections after which a server can be told to end.
+// The greatest number of connections that `--sessions` can say.
 const MOST_SESSIONS: usize = 4_294_967_295;
 
-/// The program's version, which `pfd --version` tells behind its name.
+/// The program's version, which `pfd --version` writes after its name.
 const VERSION: &str = "0.1.0";
 
-/// A server: the address that it listens on; the file that its disk lies on, which has to have so many bytes; how many connections it serves
-/// at once; how many changes its history may have; and after how many connections it ends, or never where that is 0.
+/// What `serve` asks for: a server, with its address, its disk and its limits.
 #[derive(Clone, Copy, Debug, PartialEq, Eq)]
 pub struct Service<'a> {
-    /// As it was said: it may be no address.
+    /// The address to listen on, as it was typed: it may not be one.
     pub address: &'a str,
-    /// The file's.
+    /// The path of the file that is the disk.
     pub path: &'a str,
-    /// In bytes, any number up to 4,294,967,295.
+    /// How many bytes the file must have, any number up to 4,294,967,295.
     pub size: usize,
-    /// 1 to 64.
+    /// How many connections are served at once, 1 to 64.
     pub workers: usize,
-    /// 1 to 1,048,576.
+    /// How many changes the history may have, 1 to 1,048,576.
     pub history: usize,
+    /// After how many connections the server ends; 0 means never.
     pub sessions: u32,
 }
 
-/// What the words ask. A history has 1 to 1,048,576 changes; a size is in bytes, and any number up to 4,294,967,295.
+/// What a command line asks for. A `history` is 1 to 1,048,576 changes; a `size` is in bytes, any number up to 4,294,967,295.
 #[derive(Clone, Copy, Debug, PartialEq, Eq)]
 pub enum Task<'a> {
-    /// A session over a memory disk of so many bytes, whose history may have so many changes.
+    /// A session on a disk in memory of `size` bytes, whose history may have `history` changes.
     Run {
         size: usize,
         history: usize,
     },
-    /// The same over the disk that lies on a file, which has to have so many bytes where a number is there.
+    /// A session on the disk in a file, which must have `size` bytes if a size is given.
     RunOn {
         path: &'a str,
         size: Option<usize>,
         history: usize,
     },
-    /// The file is made so many bytes long and formatted.
+    /// Makes the file `size` bytes long and formats it.
     Format {
         path: &'a str,
         size: usize,
     },
-    /// It is told what the file holds.
+    /// Shows what the file's disk holds.
     Show {
         path: &'a str,
     },
-    /// Connections are served over the disk that lies on a file.
+    /// Serves connections over the disk in a file.
     Serve(Service<'a>),
-    /// What is read goes to the server at the address, and what that answers is written.
+    /// Sends standard input to the server at the address, and writes its replies.
     Connect {
         address: &'a str,
     },
@@ -177,7 +177,7 @@ fn show_words<'a>(alloc: Global) -> Result<Command<'a>, AllocError>
         .arg(disk(alloc).required(true))
 }
 
-// A server's words, two by two.
+// The options of `serve`, added two at a time by the next three functions.
 
 fn place_words<'a>(alloc: Global) -> Result<Command<'a>, AllocError>
     ensures app { IfOk result (λ c. app_of c ≡ place_words) }
@@ -234,8 +234,8 @@ fn program_words<'a>(alloc: Global) -> Result<Command<'a>, AllocError>
         .subcommand(connect_words(alloc)?)
 }
 
-/// What the words ask, the program's own name first among them; or the text for who started it, which is help, the version or why the
-/// words are refused, or that memory was. The word `run` alone is refused for want of memory alone.
+/// Reads a command line, which begins with the program's own name. The error has the text for the user: help, the version, what is wrong
+/// with the words, or that memory ran out. The word `run` alone is refused only when out of memory.
 pub fn read_words<'a>(alloc: Global, words: &'a [String]) -> Result<Task<'a>, Error>
     ensures asked { IfOk result (λ task. IsAsked (subcommand_of program_words (map string_bytes words.entry.now)) task) }
     ensures history { IfOk result HasHistory }
@@ -248,7 +248,7 @@ pub fn read_words<'a>(alloc: Global, words: &'a [String]) -> Result<Task<'a>, Er
     }
 }
 
-// The subcommand that was met. There is one, and it has the options that are required.
+// The task of the subcommand that clap found. There always is one, with its required options.
 fn task_of<'a>(matches: &ArgMatches<'a>) -> Task<'a>
     ensures asked { IsAsked (subcommand_rows_of matches.now) result }
     ensures history { HasHistory result }
@@ -273,7 +273,7 @@ fn task_of<'a>(matches: &ArgMatches<'a>) -> Task<'a>
     }
 }
 
-// A session over the file that is named, else over memory.
+// A session on the file that `--disk` names, or in memory without one.
 fn session_in<'a>(found: &ArgMatches<'a>) -> Task<'a>
     ensures asked { (name : List ℕ) → IsAsked (Some (name, rows_of (found_of found.now))) result }
     ensures history { HasHistory result }
@@ -292,7 +292,7 @@ fn session_in<'a>(found: &ArgMatches<'a>) -> Task<'a>
     }
 }
 
-// A server on the file.
+// The task of `serve`.
 fn server_in<'a>(found: &ArgMatches<'a>) -> Task<'a>
     ensures asked { IsAsked (Some (codes "serve", rows_of (found_of found.now))) result }
     ensures history { HasHistory result }
@@ -308,7 +308,7 @@ fn server_in<'a>(found: &ArgMatches<'a>) -> Task<'a>
     })
 }
 
-// The text of an option that is there.
+// The text of an option that must be there.
 fn text_in<'a>(found: &ArgMatches<'a>, option: &str) -> &'a str
     ensures { result.now ≡ unwrap_or (first_of option.now (rows_of (found_of found.now))) [] }
 {
@@ -321,14 +321,14 @@ fn disk_in<'a>(found: &ArgMatches<'a>) -> Option<&'a str>
     found.get_str("disk")
 }
 
-// The number of an option, where it is there.
+// An option's number, or none if the option isn't there.
 fn number_if_any(found: &ArgMatches<'_>, option: &str) -> Option<usize>
     ensures { MaySayNumber 0 18446744073709551615 (one_of option.now (rows_of (found_of found.now))) result }
 {
     found.get_one::<usize>(option)
 }
 
-// The number of an option, or this one where it isn't there.
+// An option's number, or `default` if the option isn't there.
 fn number_in(found: &ArgMatches<'_>, option: &str, default: usize) -> usize
     ensures { SaysNumber 0 18446744073709551615 default (one_of option.now (rows_of (found_of found.now))) result }
 {

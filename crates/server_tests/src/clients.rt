@@ -1,4 +1,4 @@
-//! The program's own server and client: what connections give them.
+//! The program's own server and client, over real connections.
 use pfd::start;
 use std::alloc::Global;
 use std::fs::{File, Files};
@@ -15,7 +15,7 @@ use std::thread::Threads;
 #[derive(Drop)]
 enum Input<'a> {
     Text(&'a [u8]),
-    /// Newlines without an end.
+    /// Newlines that never end.
     Endless,
     /// Each read fails.
     Broken,
@@ -34,7 +34,7 @@ impl Read for Input<'_> {
     }
 }
 
-/// A writer that says which port a server has told it, once that is flushed.
+/// A writer that stores the port that a server writes, once that is flushed.
 #[derive(Drop)]
 struct Output<'a> {
     text: Vec<u8>,
@@ -65,7 +65,7 @@ fn words_of(alloc: Global, line: &str) -> io::Result<Vec<String>> {
     Ok(words)
 }
 
-/// Starts with such words: the status, and what is told of faults or, without any, written. A server's port is stored.
+/// Starts the program with these words: its status, and what it writes of faults followed by its output. A server's port is stored.
 fn started<
     R: Files<File = File> + Wait + Threads + Net<Listener = TcpListener, Stream = TcpStream> + Sync,
 >(
@@ -87,7 +87,7 @@ fn started<
     Ok((status, told))
 }
 
-/// Starts with such words, with this status, and with this told of faults or written.
+/// Starts the program with these words: it has to end with this status, and with this text of faults and output.
 fn ends<
     R: Abort
         + Files<File = File>
@@ -102,10 +102,10 @@ fn ends<
     Ok(())
 }
 
-/// How often a client gives way to other threads at most, until a server listens.
+/// The most times that a client yields to other threads until a server listens.
 const MOST_TURNS: u32 = 10_000_000;
 
-// A client of a server, once its port is told.
+// Runs a client of a server, once the server's port is known.
 fn connect_to<
     R: Abort
         + Files<File = File>
@@ -127,14 +127,14 @@ fn connect_to<
     ends(rt, alloc, line.as_str(), input, (0, written))
 }
 
-/// Makes the disk that is served, serves one connection over it, and tells what it then holds.
+/// Formats the disk that is served, serves one connection over it, and shows what it then holds.
 const SERVED: [&str; 3] = [
     "pfd format --disk served --size 4096",
     "pfd serve --listen 127.0.0.1:0 --disk served --size 4096 --sessions 1",
     "pfd show --disk served",
 ];
 
-/// What is told of the disk that was served.
+/// What is shown of the disk that was served.
 const HOLDS: &str =
     "epoch 1\nsum d41d8cd98f00b204e9800998ecf8427e\nrulesets 0\ntables 1\nstates 0\n";
 
@@ -157,7 +157,7 @@ fn a_client_is_served(rt: HostRuntime) -> Result<(), Fail> {
     Ok(())
 }
 
-// Hangs up on a first client at once, and on a second one at the end of what it sends.
+// Hangs up on a first client at once, and on a second one after a read from it.
 fn hang_up(listener: &TcpListener) -> io::Result<()> {
     let (first, _) = listener.accept()?;
     drop(first);
@@ -167,7 +167,7 @@ fn hang_up(listener: &TcpListener) -> io::Result<()> {
     Ok(())
 }
 
-// A client that never ends its input, and one whose input can't be read.
+// Runs a client whose input never ends, and one whose input can't be read.
 fn call_twice<
     R: Abort
         + Files<File = File>

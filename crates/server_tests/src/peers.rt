@@ -1,10 +1,10 @@
-//! A peer's stream in pieces, which no line has.
+//! A peer's stream in pieces, which no line can show.
 use pf_state::peer::{FeedError, Group, Message, PeerFault, PeerReader};
 use std::alloc::Global;
 use std::process::Abort;
 use std::test::*;
 
-/// A message with one insert, of a state of the checksum of no rules.
+/// A message with the checksum of no rules and one insert of a state.
 pub(crate) const MESSAGE: [u8; 88] = [
     0x05, 0x00, 0x00, 0x58, 0xd4, 0x1d, 0x8c, 0xd9, 0x8f, 0x00, 0xb2, 0x04, 0xe9, 0x80, 0x09, 0x98,
     0xec, 0xf8, 0x42, 0x7e, 0x01, 0x00, 0x00, 0x01, 0x00, 0x00, 0x00, 0x00, 0x00, 0x00, 0x00, 0x01,
@@ -14,7 +14,7 @@ pub(crate) const MESSAGE: [u8; 88] = [
     0x00, 0x00, 0x00, 0x00, 0xff, 0xff, 0xff, 0xff,
 ];
 
-/// Whether it is that message.
+/// Whether this is that message.
 fn is_the_message(message: &Message) -> bool {
     match message.groups.as_slice() {
         [Group::Inserts(inserts)] => match inserts.as_slice() {
@@ -30,7 +30,7 @@ fn is_the_message(message: &Message) -> bool {
     }
 }
 
-/// How many messages a piece completes, each of them that message, if there is no fault.
+/// How many messages a piece completes, if there is no fault and each of them is that message.
 fn completed(alloc: Global, reader: &mut PeerReader, piece: &[u8]) -> Option<usize> {
     let fed = reader.feed(alloc, piece).ok()?;
     let all = fed.messages.iter().all(is_the_message);
@@ -70,7 +70,7 @@ fn reads_it_cut_anywhere(rt: HostRuntime) -> Result<(), Fail> {
     Ok(())
 }
 
-/// What the next piece brings, without messages: its fault, if it has one.
+/// The fault of the next piece, if it has one.
 fn fault_of(
     alloc: Global,
     reader: &mut PeerReader,

@@ -1,4 +1,4 @@
-//! What is shown of a Book that is shared, each over a fresh disk in memory.
+//! What a shared Book is tested with, each time over a fresh disk in memory.
 ghost use Rattle.pfd_words.specs.declared.words.TheConstants.{HISTORY_LIMIT};
 ghost use Rattle.pf_book.specs.Books.{IsNamed};
 
@@ -18,9 +18,9 @@ use std::thread::Threads;
 enum Scene {
     /// One caller.
     Answers,
-    /// Two callers, each in a thread of its own.
+    /// Two callers that commit, each in a thread of its own.
     Commits,
-    /// Two seers, each in a thread of its own.
+    /// Two seers that judge, each in a thread of its own.
     Judges,
     /// The clients of a listener.
     Serves(Answering),

@@ -1,4 +1,4 @@
-//! A listener, its sessions and its peers.
+//! A listener with its sessions and its peers.
 use crate::peers::MESSAGE;
 use pfd::{Chapter, Gate, MemDisk, Seer, Shared, serve_listener};
 use std::alloc::Global;
@@ -11,19 +11,19 @@ use std::test::*;
 use std::thread;
 use std::thread::Threads;
 
-/// What clients a listener has.
+/// Which clients a listener has.
 #[derive(Clone, Copy, PartialEq, Eq)]
 pub(crate) enum Answering {
-    /// Two, with a worker each: the first is held at its first line until the second was answered.
+    /// Two, with a worker each: the first is held at its first line until the second is answered.
     TwoAtOnce,
     /// Nine, with one worker.
     OneByOne,
 }
 
-/// How often a session gives way to other threads at most.
+/// The most times that a session yields to other threads.
 const MOST_TURNS: u32 = 10_000_000;
 
-/// A gate that holds session 1 at its first line until another session was answered, and that one until session 1 has come, for a limited
+/// A gate that holds session 1 at its first line until another session is answered, and that one until session 1 has come, for a limited
 /// number of turns.
 #[derive(Drop)]
 struct Holding {
@@ -33,7 +33,7 @@ struct Holding {
 }
 
 impl Holding {
-    // A gate that holds no session is open from the first.
+    // A gate that is to hold no session is open from the start.
     fn new(is_open: bool) -> Holding {
         Holding {
             has_come: AtomicBool::new(is_open),
@@ -64,7 +64,7 @@ impl Gate for Holding {
     }
 }
 
-/// What session 1 sends, and what it is told.
+/// What session 1 sends, and the replies.
 const COMMIT: (&[u8], &str) = (
     b"tset - t 10/8\nbegin filter -\nadd - 1.1 block in all\ncommit filter - 1.1\n",
     "applied 1\nok 1.1\nok\napplied 2\n",
@@ -73,7 +73,7 @@ const COMMIT: (&[u8], &str) = (
 /// What session 2 asks of a packet.
 const JUDGE: &[u8] = b"judge in em0 tcp 10.0.0.1 1 10.0.0.2 2\n";
 
-// Whether a session is told this.
+// Sends a line, and says whether this is the reply.
 fn is_told(alloc: Global, session: &mut TcpStream, line: &[u8], wanted: &[u8]) -> io::Result<bool> {
     session.write_all(line)?;
     let mut told = vec![in alloc; 0u8; wanted.len()]?;
@@ -81,8 +81,8 @@ fn is_told(alloc: Global, session: &mut TcpStream, line: &[u8], wanted: &[u8]) -
     Ok(told.as_slice() == wanted)
 }
 
-// The client of session 1 is told nothing until that of session 2 is, which sees nothing of the line at which session 1 is held. Session 2
-// goes on, and its packets are judged by what session 1 was told is applied.
+// The client of session 1 gets no reply until that of session 2 has its own, which show nothing of the line at which session 1 is held.
+// Session 2 goes on, and its packets are judged by what was `applied` in session 1.
 fn ask_in_turn<N: Net<Listener = TcpListener, Stream = TcpStream> + Abort>(
     net: &N,
     alloc: Global,
@@ -107,12 +107,12 @@ fn ask_in_turn<N: Net<Listener = TcpListener, Stream = TcpStream> + Abort>(
     Ok(())
 }
 
-/// What clients send, one after the other, and what each is told.
+/// What clients send, one after the other, and what each is answered.
 const ASKED: &[(&[u8], &str)] = &[
     (b"tset - t 10/8\n", "applied 1\n"),
-    // It ends within a line.
+    // It ends in the middle of a line.
     (b"test - t 10.0.0.1", "match 10.0.0.0/8\n"),
-    // A peer that ends within a message, and one that sends a whole one.
+    // A peer that ends in the middle of a message, and one that sends a whole one.
     (b"\x05\x00\x00\x58\xd4", "err peer ended\n"),
     (
         &MESSAGE,
@@ -139,8 +139,8 @@ fn asked<N: Net<Listener = TcpListener, Stream = TcpStream>>(
     Ok(text)
 }
 
-// One worker, which serves these, a peer that sends much behind a fault, a client that closes with replies unread, which resets its
-// connection, and one that says nothing.
+// One worker serves these, a peer that sends much after a fault, a client that closes with replies unread, which resets its connection, one
+// that says nothing, and a last one that finds all well.
 fn ask_one_by_one<N: Net<Listener = TcpListener, Stream = TcpStream> + Abort>(
     net: &N,
     alloc: Global,
@@ -189,7 +189,7 @@ pub(crate) fn serve_clients<
     answering: Answering,
 ) -> Result<(), Fail> {
     let is_one_by_one = answering == Answering::OneByOne;
-    // A worker for each seer that is left.
+    // There is a worker for each seer that is left.
     if is_one_by_one {
         seers.pop();
     }

@@ -1,4 +1,4 @@
-//! Callers that share a Book, in threads of their own: their receipts, and what is judged beside them.
+//! Callers that share a Book, each in a thread of its own: their receipts, and what is judged beside them.
 use pf_line::{parse_line, write_judged, write_reply};
 use pf_rule::Packet;
 use pfd::{Book, Chapter, MemDisk, Receipt, Seer, Shared};
@@ -13,7 +13,7 @@ use std::thread::Threads;
 /// How many commits each caller makes.
 const COMMITS: usize = 50;
 
-/// One call: the text of its reply. The caller hands in its last receipt, and keeps this one behind it.
+/// One call: the text of its reply. The caller hands in its last receipt, and keeps the new one after it.
 fn call<J: Chapter, R: Wait>(
     rt: &R,
     alloc: Global,
@@ -34,7 +34,7 @@ fn call<J: Chapter, R: Wait>(
     }
 }
 
-/// The receipts of lines that have to be answered so.
+/// Plays lines that have to be answered so: their receipts.
 fn call_all<J: Chapter, R: Wait + Abort>(
     rt: &R,
     alloc: Global,
@@ -49,7 +49,7 @@ fn call_all<J: Chapter, R: Wait + Abort>(
     Ok(receipts)
 }
 
-/// One commit of a ruleset of one rule.
+/// Commits a ruleset of one rule.
 fn commit<J: Chapter, R: Wait + Abort>(
     rt: &R,
     alloc: Global,
@@ -71,7 +71,7 @@ fn commit<J: Chapter, R: Wait + Abort>(
     Ok(())
 }
 
-/// The receipts of a caller's commits.
+/// Makes a caller's commits: their receipts.
 fn commits<J: Chapter, R: Wait + Abort>(
     rt: &R,
     alloc: Global,
@@ -85,7 +85,7 @@ fn commits<J: Chapter, R: Wait + Abort>(
     Ok(receipts)
 }
 
-/// The Book confirms each receipt. The numbers of those that have a change are added to these.
+/// The Book has to confirm each receipt. The numbers of those that have a change are appended to `numbers`.
 fn confirm_all<J: Chapter, R: Wait + Abort>(
     rt: &R,
     book: &mut Book<MemDisk, J, &R>,
@@ -101,7 +101,7 @@ fn confirm_all<J: Chapter, R: Wait + Abort>(
     Ok(())
 }
 
-/// Two callers commit in threads of their own: each change has a number of its own, and the Book confirms each receipt.
+/// Two callers commit, each in a thread of its own. Each change has its own number, and the Book confirms each receipt.
 pub(crate) fn commit_at_once<J: Chapter + Send + Sync, R: Wait + Threads + Abort + Sync>(
     rt: &R,
     alloc: Global,
@@ -136,7 +136,7 @@ const ANSWERED: &[(&str, &str)] = &[
     ("tkill - none", "err absent\n"),
 ];
 
-/// A caller is answered by what it did before, and its receipts say so.
+/// A caller is answered by what it did before, and its receipts say the same.
 pub(crate) fn answer_one<J: Chapter, R: Wait + Abort>(
     rt: &R,
     alloc: Global,
@@ -160,7 +160,7 @@ const BLOCKING: &[(&str, &str)] = &[
     ("commit filter - 1.1", "applied 1\n"),
 ];
 
-/// What a seer says of a packet, as a line that asks is answered; `gone` where it sees nothing any more.
+/// A seer's verdict on a packet, as the reply to a line that asks for it; `gone` if it sees nothing any more.
 fn judged<J: Chapter>(alloc: Global, seer: &mut Seer<J>) -> io::Result<Vec<u8>> {
     let Ok(packet) = Packet::parse(alloc, "in em0 tcp 10.0.0.1 1234 10.0.0.2 80") else {
         return Err(io::Error::from(ErrorKind::InvalidData));
@@ -173,7 +173,7 @@ fn judged<J: Chapter>(alloc: Global, seer: &mut Seer<J>) -> io::Result<Vec<u8>> 
     Ok(text)
 }
 
-// One seer learns of a commit, and another isn't told; both judge by it in threads of their own. The receipts of the commit's lines.
+// One seer learns of a commit, another doesn't; both judge by it, each in a thread of its own. Returns the receipts of the commit's lines.
 fn see_commit<J: Chapter + Send + Sync, R: Wait + Threads + Abort + Sync>(
     rt: &R,
     alloc: Global,
@@ -197,7 +197,7 @@ fn see_commit<J: Chapter + Send + Sync, R: Wait + Threads + Abort + Sync>(
     Ok(receipts)
 }
 
-/// Two seers judge beside a Book by what it shows, and by nothing once it is dropped.
+/// Two seers judge beside a Book by what it shows, and no more once it is dropped.
 pub(crate) fn judge_beside<J: Chapter + Send + Sync, R: Wait + Threads + Abort + Sync>(
     rt: &R,
     alloc: Global,

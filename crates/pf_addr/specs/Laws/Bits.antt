@@ -26,7 +26,7 @@ front_below size len n le lt =
     let sum : len + (size - len) ≡ size = omega arith in
     shr_below n len (size - len) (rw sum lt)
 
--- two numbers of so many bits that agree in each bit are one
+-- two numbers of so many bits that agree in each bit are the same
 same_by_bits : (size a b : ℕ) → a < 2 ^ size → b < 2 ^ size → ((i : ℕ) → i < size → bit size i a ≡ bit size i b) → a ≡ b
 same_by_bits size a b p q same = same_from_bits_below size a b p q (λ i lt.
     let turned : size - 1 - (size - 1 - i) ≡ i = omega arith in

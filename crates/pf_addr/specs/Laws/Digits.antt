@@ -3,7 +3,7 @@ use Rattle.std.proofs.{Common.{◌≡◌, ℕ, ◌<◌, ◌≤◌, ◌==◌, fal
 use Rattle.std.specs.{Char.digit_value, List.{All, position}, Str.Parse.AllDigits}
 use Rattle.pf_addr.specs.{Laws.Places.{without, first_none, none_first}, Grammar.is_other}
 
--- a byte that is no digit stands nowhere in digits
+-- a byte that isn't a digit is in no digits
 pub none_in_digits : (radix c : ℕ) (text : List ℕ) → radix ≤ digit_value c → AllDigits radix text → without c text
 none_in_digits radix c [] le all = All-nil (λ b. (b == c) ≡ false)
 none_in_digits radix c (b ∷ bs) le all =

@@ -7,7 +7,7 @@ later_twice : (m n : ℕ) (o : Option ℕ) → later m (later n o) ≡ later (m 
 later_twice m n (Some i) = ap (λ (k : ℕ). Some k) (omega arith)
 later_twice m n None = refl
 
--- whether `::` stands there
+-- whether `::` is there
 abbrev pub colons : List ℕ → ℕ → Bool
 colons text i = (get_or text i 0 == 58) && (get_or text (i + 1) 0 == 58)
 
@@ -17,7 +17,7 @@ begins_there text i lt = rw (drop-cons text i 0) refl
 cut_off : (text : List ℕ) (i : ℕ) → i < length text → drop i text ≡ get_or text i 0 ∷ drop (i + 1) text
 cut_off text i lt = rw add-one (drop-cons text i 0 lt)
 
--- ---- a text of which the front has no `::`
+-- ---- a text whose front has no `::`
 
 pub found_at : (text : List ℕ) (i : ℕ) → gap text ≡ later i (gap (drop i text)) → i + 1 < length text → colons text i ≡ true → gap text ≡ Some i
 unfolding gap
@@ -42,7 +42,7 @@ one_left (b ∷ c ∷ rest) le = absurd (omega arith)
 pub none_left : (text : List ℕ) (i : ℕ) → gap text ≡ later i (gap (drop i text)) → length text ≤ i + 1 → gap text ≡ None
 none_left text i so le = so ∙ rw (one_left (drop i text) (omega (arith, length-drop i text))) refl
 
--- ---- a text whose pieces between colons are none of them empty
+-- ---- a text with no empty piece between colons
 
 pub record Clean (piece : List ℕ) : Type 0 where
   pub some : 0 < length piece
@@ -95,7 +95,7 @@ gap_after front back clean =
     let all = past_pieces (pieces 58 front) (58 ∷ 58 ∷ back) clean in
     rw (joined_back front) at all ∙ ap (λ (k : ℕ). Some k) (omega arith)
 
--- ---- a text is what stands before its first `::`, this, and what stands behind it
+-- ---- a text is what comes before its first `::`, the `::`, and what comes after it
 
 one_less : (o : Option ℕ) (i : ℕ) → later 1 o ≡ Some i → (j : ℕ) × (o ≡ Some j) × (i ≡ 1 + j)
 one_less (Some j) i e = let is : 1 + j ≡ i = cc in (j, refl, sym is)

@@ -1,4 +1,4 @@
--- Each network can be written in bytes, and they tell it.
+-- Each network can be written in bytes, and is read back from them.
 use Rattle.std.proofs.{Common.{◌≡◌, ℕ, ◌+◌, ◌-◌, ◌*◌, ◌/◌, ◌^◌, ◌<◌, ◌≤◌, true, refl, ap, arith}, lemmas.Bool.{eq-eqb, le-leb}, lemmas.Nat.{shl_below, shl-shr}}
 use Rattle.pf_addr.specs.declared.addr.{Family.Family, Family.TheVariants.{V4, V6}}
 use Rattle.pf_addr.specs.{Address.{PlainNet, IsNetwork, width}, NetForms.{family_byte, family, address_in, first_number, is_network, ends_in_zeros, network_at}}

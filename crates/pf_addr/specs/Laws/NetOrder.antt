@@ -1,4 +1,4 @@
--- Networks are in a total order, and no two of them tie.
+-- Networks are totally ordered, and no two of them tie.
 use Rattle.std.proofs.{Common.{◌≡◌, ℕ, ◌*◌, ◌-◌, ◌/◌, ◌^◌, ◌<◌, ◌≤◌, Bool, true, false, nat_lt, refl, sym, ap, ◌∙◌, true≢false, arith}, Math.Nat.mul-div_cancel, Math.Pow.shr_mono, lemmas.Bool.Decides.nat_tests, lemmas.Nat.pow_pos, lemmas.Cmp.nat_cmp_total}
 use Rattle.std.specs.{Cmp.{IsTotalOrder, on_total, then_total, nat_cmp_is}, FinMap.{IsAntisymmetric, nat_cmp-IsAntisymmetric}, Ordering.{ordering_then, is_eq, nat_cmp}, declared.{cmp.Ordering.Ordering, cmp.Ordering.TheVariants.Less, cmp.Ordering.TheVariants.Equal, cmp.Ordering.TheVariants.Greater}}
 use Rattle.pf_addr.specs.{declared.{addr.Family.Family, addr.Family.TheVariants.V4, addr.Family.TheVariants.V6}, Address.{PlainNet, width}, NetForms.first_number}
@@ -50,7 +50,7 @@ more_of_front m n lt = by (nat_lt m n) refl where
   by false more = let le : n ≤ m = grind (arith, nat_tests) in let back : n / 2 ^ 65 ≤ m / 2 ^ 65 = shr_mono 65 le in
       absurd (omega (arith, back, lt))
 
--- where one hint is less than another, its network comes first
+-- a network with a lesser hint comes first
 pub net_rises : RisesWith net_order net_hint
 unfolding net_order
 net_rises x y less = by x.family y.family less where

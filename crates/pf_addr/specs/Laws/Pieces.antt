@@ -4,7 +4,7 @@ use Rattle.std.specs.List.{All, AllZip, position}
 use Rattle.pf_addr.specs.{Grammar.pieces, Laws.Places.{first_none, split_none}, Reading.{One, Last, single, pieces_at, has}}
 use Rattle.pf_form.specs.{Form.Forms.◌>>=◌, Laws.Form.Decided.bind_ok}
 
--- what a piece has to be for a number, and the last for some
+-- what a piece must be to be read as a number, and the last one as some numbers
 abbrev pub OfNumber : Type 1
 OfNumber = List ℕ → ℕ → Type 0
 
@@ -109,7 +109,7 @@ unfolding pieces_at
 all_found R one finds at [] ns e = let none : [] ≡ ns = cc in subst (AllZip R []) none tt
 all_found R one finds at (p ∷ ps) ns e = run_alone R (p ∷ ps) ns (run_found R (Alone R) one (single one) finds (alone_found R one finds) at p ps ns e)
 
--- ---- a text that is cut somewhere has the byte
+-- ---- a text that is cut somewhere contains the byte
 
 pub has_between : (c : ℕ) (text : List ℕ) → 1 < length (pieces c text) → has c text ≡ true
 has_between c [] lt = absurd (omega arith)

@@ -1,4 +1,4 @@
--- Laws of the first byte that passes a test, and of a text that is cut there.
+-- Laws of the first byte that passes a test, and of a text cut there.
 use Rattle.std.proofs.{Common.{◌≡◌, ℕ, ◌+◌, ◌<◌, ◌≤◌, ◌==◌, Bool, true, false, List, [], ◌∷◌, ◌++◌, length, take, drop, Some, None, refl, ap, ◌∙◌, subst, arith, get_or}, lemmas.Bool.Decides.nat_tests, lemmas.List.{length-append, get_or_append_left, get_or_at}, lemmas.List.Elements.All-from_get_or, lemmas.List.Splits.{slice_split_first, slice_split_none}, lemmas.List.Sums.{prefix_len-le-length, position_or_len_is, split_at_first, fails_before_first, passes_at_first}, lemmas.Str.Parse.digit_at}
 use Rattle.std.specs.{List.{position, position_or_len, slice_split, All}, Str.Parse.AllDigits}
 
@@ -18,7 +18,7 @@ split_some p text i e =
 pub split_none : (p : ℕ → Bool) (text : List ℕ) → position p text ≡ None → slice_split p text ≡ text ∷ []
 split_none p text e = slice_split_none p text (first_none p text e)
 
--- a text is what stands before the byte's first place, the byte, and what stands behind it
+-- a text is what comes before the byte's first place, the byte, and what comes after it
 pub cut_there : (c : ℕ) (text : List ℕ) (i : ℕ) → position (λ b. b == c) text ≡ Some i → text ≡ take i text ++ c ∷ drop (i + 1) text
 cut_there c text i e =
     let at = first_some (λ b. b == c) text i e in
@@ -27,7 +27,7 @@ cut_there c text i e =
     let byte : get_or text place 0 ≡ c = grind (arith, nat_tests) in
     subst (λ (k : ℕ). text ≡ take k text ++ c ∷ drop (k + 1) text) at.1 (split_at_first (λ b. b == c) text 0 at.0 ∙ ap (λ (b : ℕ). take place text ++ b ∷ drop (place + 1) text) byte)
 
--- ---- a byte that stands nowhere in a text
+-- ---- a byte that isn't in a text
 
 abbrev pub without : ℕ → List ℕ → Type 0
 without c = All (λ b. (b == c) ≡ false)

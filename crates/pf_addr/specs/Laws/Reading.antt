@@ -1,4 +1,4 @@
--- A text is read as an address or a network exactly where it spells it.
+-- A text is read as an address or a network exactly where it spells one.
 use Rattle.std.proofs.{Common.{◌≡◌, ℕ, ◌+◌, ◌-◌, ◌<◌, ◌≤◌, ◌==◌, Bool, true, false, List, [], ◌∷◌, ◌++◌, length, take, drop, replicate, Option, Some, None, Result, Ok, Err, inl, inr, refl, sym, ap, ◌∙◌, subst, arith, append_assoc, eq-eqb}, lemmas.Bool.le-leb, lemmas.Bool.Decides.{leb_tells, eqb_tells, nat_tests}, lemmas.List.{length-append, length-replicate, take_at, drop_at}, lemmas.List.Elements.{All-nil, All-cons, All-append, All-head, All-tail}, lemmas.List.Splits.join_with_byte-slice_split}
 use Rattle.std.specs.{Prelude.{◌⊎◌, IfOk}, Char.digit_value, List.{position, join_with_byte, All}, Option.ok_or, Str.Parse.{AllDigits, digits_value}}
 use Rattle.pf_addr.specs.{Address.{PlainNet, width, family_of, network_from, network_of}, Grammar.{is_other, is_short, pieces, IsNumber, Dotted, v4_number, SpellsV4, IsGroup, Grouped, two_groups, EndGrouped, Shortened, v6_number, SpellsV6, Spells, SpellsAddr, SpellsFront, SpellsNet}, Reading.{kept_to, small_number, part_fault, part_at, piece_by, group_at, single, pieces_at, parts_at, v4_of, v4_at, has, end_at, groups_at, v6_of, v6_around, gap, v6_by, v6_at, family_at, address_at, addr_at, is_slash, length_at, front_at, cut_at, net_at}, Laws.{Places.{without, no_place, place_after, cut_there}, Digits.{none_in_digits, all_digits, digits_all}, Gaps.{Clean, no_gap, gap_after, gap_cut}, Pieces.{Alone, zip_length, zip_all, all_read, run_read, run_found, alone_found, run_alone, all_found, has_between, has_there}}}
@@ -55,7 +55,7 @@ group_found at p n e = by (position (is_other 16) p) refl e where
     ]
   ]
 
--- ---- the bytes of a text are those of its pieces and what stands between
+-- ---- the bytes of a text are those of its pieces and of what is between them
 
 pub joined_bytes : (P : ℕ → Type 0) (c : ℕ) (ps : List (List ℕ)) → P c → All (All P) ps → All P (join_with_byte c ps)
 joined_bytes P c [] sep all = All-nil P
@@ -147,7 +147,7 @@ ended_found at text groups e = by (pieces 58 text) refl e where
         | inr v4 ↦ inr (record { front = run.front; last = run.last; before = run.before; number = v4.0; cut = h ∙ run.cut; grouped = run.zip; v4 = v4.1; value = run.value ∙ ap (λ (l : List ℕ). run.before ++ l) v4.2 })
       ]
 
--- what holds of groups and of V4 addresses holds of each piece
+-- what is true of groups and of V4 addresses is true of each piece
 ended_all : (P : List ℕ → Type 0) → ((p : List ℕ) (n : ℕ) → IsGroup p n → P p) → ((p : List ℕ) (n : ℕ) → SpellsV4 4 p n → P p) → (text groups : List ℕ) → EndGrouped groups text → All P (pieces 58 text)
 ended_all P group v4 text groups (inl is) = zip_all IsGroup P (pieces 58 text) groups group is
 ended_all P group v4 text groups (inr is) = rw is.cut (All-append P is.front (is.last ∷ []) (zip_all IsGroup P is.front is.before group is.grouped) (All-cons P is.last [] (v4 is.last is.number is.v4) (All-nil P)))
@@ -157,7 +157,7 @@ ended_clean = ended_all Clean
     (λ p n is. record { some = is.digits.0; without_colon = none_in_digits 16 58 p (omega arith) is.digits.1 })
     (λ p n is. record { some = v4_some 4 p n (omega arith) is; without_colon = v4_without 58 4 p n refl (omega arith) is })
 
--- a byte that is no digit of a group, and that stands between no two pieces
+-- a byte that is no digit of a group and doesn't separate pieces
 pub record Outside (c : ℕ) : Type 0 where
   pub digit : 16 ≤ digit_value c
   pub dot : (46 == c) ≡ false
@@ -166,7 +166,7 @@ pub record Outside (c : ℕ) : Type 0 where
 ended_without : (c : ℕ) (text groups : List ℕ) → Outside c → EndGrouped groups text → without c text
 ended_without c text groups out is = pieces_bytes (λ b. (b == c) ≡ false) 58 text out.colon (ended_all (without c) (λ p n group. none_in_digits 16 c p out.digit group.digits.1) (λ p n v4. v4_without c 4 p n out.dot (omega (arith, out.digit)) v4) text groups is)
 
--- what stands behind a text and so many bytes more
+-- what comes after a text and so many bytes more
 abbrev at_gap : List ℕ → List ℕ → List ℕ
 at_gap front back = front ++ 58 ∷ 58 ∷ back
 
@@ -287,7 +287,7 @@ addr_without c fewest text (addr.V6 n) out is = by is.spelled where
 pub no_slash : (fewest : ℕ) (text : List ℕ) (a : Addr) → Spells fewest text a → without 47 text
 no_slash fewest text a is = addr_without 47 fewest text a (record { digit = omega arith; dot = refl; colon = refl }) is
 
--- a byte that stands in no network's text
+-- a byte that is in no network's text
 pub net_without : (c : ℕ) (text : List ℕ) (net : PlainNet) → Outside c → ((47 == c) ≡ false) → SpellsNet text net → without c text
 unfolding SpellsNet SpellsAddr
 net_without c text net out slash (inl (a, spelled, is)) = addr_without c 4 text a out spelled
@@ -326,7 +326,7 @@ pub net_if_ok : (text : List ℕ) (r : Result PlainNet AddrFault) → r ≡ net_
 net_if_ok text (Ok n) e = net_found text n (sym e)
 net_if_ok text (Err f) e = tt
 
--- what stands behind a text and one byte more
+-- what comes after a text and one byte more
 pub behind : (front digits : List ℕ) → drop (length front + 1) (front ++ 47 ∷ digits) ≡ digits
 behind front digits = ap (drop (length front + 1)) (sym (append_assoc front (47 ∷ []) digits)) ∙ drop_at (front ++ 47 ∷ []) digits (length front + 1) (length-append front (47 ∷ []))
 

@@ -65,7 +65,7 @@ groups_in n = map (λ k. n / 2 ^ k % 2 ^ 16) (112 ∷ 96 ∷ 80 ∷ 64 ∷ 48 �
 low_group : (n k : ℕ) → n / 2 ^ k % 2 ^ 16 < 2 ^ 16
 low_group n k = mod_below (n / 2 ^ k) (2 ^ 16) (omega arith)
 
--- The digits are those of the number, and the ones that are left out are 0.
+-- The digits are the number's, and those that are left out are 0.
 hex_is : (n : ℕ) → n < 2 ^ 16 → IsNumeral 16 (hex n) × (length (hex n) ≤ 4) × (digits_value 16 (hex n) ≡ n)
 unfolding hex
 hex_is n fits =
@@ -147,13 +147,13 @@ v6_below text n is =
 
 -- ---- an address
 
--- an address is read again from the text that it is written as
+-- an address is read again from its text
 pub addr_text_spells : (a : Addr) → IsAddr a → SpellsAddr (addr_text a) a
 unfolding SpellsAddr
 addr_text_spells (addr.V4 n) is = v4_spelled n is
 addr_text_spells (addr.V6 n) is = v6_spelled n is
 
--- two addresses that are written as one text are one
+-- two addresses with the same text are the same
 pub own_addr_text : (a b : Addr) → IsAddr a → IsAddr b → addr_text a ≡ addr_text b → a ≡ b
 own_addr_text a b p q e =
     let first = addr_only (addr_text a) a (addr_text_spells a p) in
@@ -198,7 +198,7 @@ width_small : (f : Family) → width f ≤ 128
 width_small V4 = omega arith
 width_small V6 = omega arith
 
--- a network is read again from the text that it is written as
+-- a network is read again from its text
 pub net_text_spells : (net : PlainNet) → IsNetwork net → SpellsNet (net_text net) net
 unfolding SpellsNet SpellsAddr
 net_text_spells net is =
@@ -215,7 +215,7 @@ net_text_spells net is =
           rw short.0 (inr (record { front = addr_text a; digits = decimal net.len; first = a; len = net.len; address = fewer (addr_text a) a spelled; number = number; cut = refl; value = same }))
     ]
 
--- two networks that are written as one text are one
+-- two networks with the same text are the same
 pub own_net_text : (a b : PlainNet) → IsNetwork a → IsNetwork b → net_text a ≡ net_text b → a ≡ b
 own_net_text a b p q e =
     let first = net_only (net_text a) a (net_text_spells a p) in
@@ -238,7 +238,7 @@ IsNetwork-spelled text net (inr is) = rw is.value (from_addr is.first is.len (be
 abbrev pub IsNetByte : ℕ → Type 0
 IsNetByte b = ((46 ≤ b) × (b ≤ 58)) ⊎ ((97 ≤ b) × (b ≤ 102))
 
--- some such bytes: so it is one word, of at most so many bytes
+-- at least one such byte and at most so many: so it is one word
 pub record IsNetWord (most : ℕ) (text : List ℕ) : Type 0 where
   pub some : 0 < length text
   pub few : length text ≤ most

@@ -1,4 +1,4 @@
--- The first bytes of a text as a number, which rises with the texts as their bytes order them.
+-- The first bytes of a text as a number, which rises with the order of the texts by their bytes.
 use Rattle.std.specs.{Prelude.{◌≡◌, ℕ, zero, suc, ◌+◌, ◌-◌, ◌*◌, ◌^◌, ◌<◌, ◌≤◌, nat_lt, cond, Bool, true, false, List, [], ◌∷◌}, Ordering.{nat_cmp, ordering_then}, Cmp.Lexicographic.slice_cmp}
 use Rattle.std.specs.declared.{cmp.Ordering.Ordering, cmp.Ordering.TheVariants.Less}
 use Rattle.std.proofs.Common.{arith, refl}
@@ -6,7 +6,8 @@ use Rattle.std.proofs.Math.Nat.{mul-le-mul_right}
 use Rattle.std.specs.Cmp.{nat_cmp_total}
 use Rattle.std.proofs.lemmas.{Bool.{Decides.nat_tests, lt-ltb}, Cmp.tied_itself}
 
--- The first n bytes, the first one highest, with zeros behind a shorter text. What is no byte counts as more than any that follow it.
+-- The first n bytes, the first one highest; a shorter text is padded with zeros. From the first value that is no byte on, it is the
+-- greatest.
 abbrev pub front_number : ℕ → List ℕ → ℕ
 front_number zero bs = 0
 front_number (suc n) [] = 0
@@ -31,7 +32,7 @@ first_less : (b c : ℕ) (r : Ordering) → b < c → ordering_then (nat_cmp b c
 first_less b c r less = let is : nat_lt b c ≡ true = lt-ltb b c less in rw is refl
 
 module _ (n : ℕ) (b c f g : ℕ) (f_less : f < 256 ^ n) (g_less : g < 256 ^ n) where
-  -- of numbers with one digit before the others that digit decides
+  -- the first digit decides between two numbers
   digit_first : b * 256 ^ n + f < c * 256 ^ n + g → b ≤ c
   digit_first less = by (nat_lt c b) refl where
     by : (is : Bool) → nat_lt c b ≡ is → b ≤ c
@@ -41,7 +42,7 @@ module _ (n : ℕ) (b c f g : ℕ) (f_less : f < 256 ^ n) (g_less : g < 256 ^ n)
         absurd (omega (arith, most, less, f_less, g_less))
     by false is = grind (arith, nat_tests, is)
 
--- where the digit before the others is the same, the others decide
+-- if the first digits are the same, the others decide
 same_digit : (n b c f g : ℕ) → c ≤ b → b ≤ c → b * 256 ^ n + f < c * 256 ^ n + g → f < g
 same_digit n b c f g from to less = let is : b ≡ c = omega arith in
     let same : b * 256 ^ n ≡ c * 256 ^ n = rw is refl in

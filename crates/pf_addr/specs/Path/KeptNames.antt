@@ -1,4 +1,4 @@
--- How a name is kept: its bytes, then zeros up to the limit.
+-- How a name is stored: its bytes, then zeros up to the limit.
 use Rattle.std.specs.Prelude.{◌≡◌, ℕ, ◌-◌, ◌≤◌, ◌++◌, List, take, length, replicate}
 use Rattle.std.proofs.{Common.{ap, ◌∙◌, sym, arith}, lemmas.List.length-take-le}
 use Rattle.pf_addr.specs.declared.path.name.Name.TheInside.{Inside}

@@ -1,4 +1,4 @@
--- How a reference is kept: its names, then zeros up to the limit.
+-- How a reference is stored: its names, then zeros up to the limit.
 use Rattle.std.specs.Prelude.{◌≡◌, ℕ, ◌-◌, ◌≤◌, ◌++◌, Bool, List, take, length, replicate}
 use Rattle.std.proofs.{Common.{ap, ◌∙◌, sym, arith}, lemmas.List.length-take-le}
 use Rattle.pf_addr.specs.declared.{path.reference.Reference.TheInside.Inside, path.limits.TheConstants.REFERENCE_LIMIT}

@@ -25,6 +25,6 @@ pub record IsPathText (w : Word) : Type 0 where
   pub names : IsNames w
   pub short : length w ≤ PATH_LIMIT
 
--- "-" spells the main ruleset's path, and each other path spells itself
+-- "-" spells the main ruleset's path, and every other path spells itself
 abbrev pub SpellsPath : Word → List ℕ → Type 0
 SpellsPath w p = ((w ≡ codes "-") × (p ≡ main)) ⊎ (IsPathText w × (p ≡ w))

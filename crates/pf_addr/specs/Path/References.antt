@@ -1,12 +1,12 @@
--- References to rulesets (pf.conf(5), ANCHORS): names of a path, "/*" behind them where the rulesets attached to it are meant, and
--- perhaps quotes round all. The limit of bytes is own.
+-- References to rulesets (pf.conf(5), ANCHORS): names of a path, followed by "/*" if the rulesets attached to it are meant, and perhaps
+-- quotes around it all. The limit of bytes is this project's own.
 use Rattle.std.specs.{Prelude.{ℕ, ◌-◌, ◌++◌, Bool, true, false, if◌then◌else◌, List, [], length, take, drop, codes, Option, Some, None, Result, Ok, Err}, Option.{option_and_then, option_map_or}, Str.bytes_eq}
 use Rattle.pf_addr.specs.declared.path.limits.TheConstants.{REFERENCE_LIMIT}
 use Rattle.pf_form.specs.declared.form.fault.Kind.{Kind}
 use Rattle.pf_addr.specs.Path.Paths.{fault_within}
 use Rattle.pf_form.specs.Form.Words.{Word}
 
--- the names of a path, and whether the rulesets attached to it are meant, in place of its own
+-- the names of a path, and whether they mean the rulesets attached to it instead of its own
 pub record PlainReference : Type 0 where
   pub names : List ℕ
   pub wildcard : Bool
@@ -20,15 +20,15 @@ quote = codes "\""
 abbrev pub ending : Word
 ending = codes "/*"
 
--- what stands behind this front of a text
+-- what comes after this front of a text
 abbrev pub behind : Word → Word → Option Word
 behind front text = if bytes_eq (take (length front) text) front then Some (drop (length front) text) else None
 
--- what stands before this end of a text
+-- what comes before this end of a text
 abbrev pub before : Word → Word → Option Word
 before end text = if bytes_eq (drop (length text - length end) text) end then Some (take (length text - length end) text) else None
 
--- what stands between two quotes, or else the word
+-- what is between two quotes, or else the word
 abbrev pub unquoted : Word → Word
 unquoted w = option_map_or (λ text. text) (option_and_then (before quote) (behind quote w)) w
 
@@ -36,7 +36,7 @@ unquoted w = option_map_or (λ text. text) (option_and_then (before quote) (behi
 abbrev pub split_wildcard : Word → PlainReference
 split_wildcard text = option_map_or (λ names. refers names true) (before ending text) (refers text false)
 
--- why a text is no reference: its whole length first, then its names as a path's
+-- why a text isn't a reference: first its whole length, then its names as a path's
 abbrev pub reference_fault : Word → Option Kind
 reference_fault text = fault_within REFERENCE_LIMIT text (split_wildcard text).names
 
@@ -47,7 +47,7 @@ reference_in text = option_map_or (λ k. Err k) (reference_fault text) (Ok (spli
 abbrev pub reference_of : Word → Result PlainReference Kind
 reference_of w = reference_in (unquoted w)
 
--- a reference as it is written, without quotes and in quotes
+-- a reference as it is written, without quotes or with them
 abbrev pub reference_text : PlainReference → Word
 reference_text r = r.names ++ (if r.wildcard then ending else [])
 

@@ -8,14 +8,14 @@ use crate::path::path::Path;
 use pf_map::Key;
 use std::cmp::Ordering;
 
-// The byte at a place; zero behind the end.
+// The byte at a place; zero past the end.
 fn byte_at(bytes: &[u8], place: usize) -> u8
     ensures { result ≡ get_or bytes.now place 0 }
 {
     if place < bytes.len() { bytes[place] } else { 0 }
 }
 
-// The first eight bytes, the first one highest, with zeros behind a shorter text.
+// The first eight bytes as a number, the first one highest; a shorter text is padded with zeros.
 fn front_number(bytes: &[u8]) -> u64
     ensures { result ≡ front_number 8 bytes.now }
 {

@@ -1,4 +1,4 @@
-//! What follows from the definitions that contracts cite: functions that do nothing, whose contracts are the laws.
+//! Laws that follow from the definitions in contracts. Each function's contract is the law; its body does nothing.
 ghost use Rattle.std.specs.Prelude.{◌≡◌, ◌≤◌, ℕ, true, List};
 ghost use Rattle.pf_addr.specs.declared.path.limits.TheConstants.{PATH_LIMIT, COMPONENT_LIMIT, DEPTH_LIMIT, REFERENCE_LIMIT, TABLE_NAME_LIMIT};
 ghost use Rattle.pf_addr.specs.{Path.{FaultCases.{IsNameFault, IsPathFault, IsReferenceFault}, Names.{name_of, IsName, IsTableName}, Paths.{path_of, is_path}, References.{reference_of, PlainReference}, ReferenceGrammar.IsReference, PathForms.{path_form, table_name_form, name_field, reference_form, plain_reference, reference_of_plain}}, Laws.Path.{Names.{ReadsANameAlone, ReadsEachName}, Paths.{ReadsWhatIsSpelled, ReadsAllThatIsSpelled, WritesWhatWasRead, ReadsWhatIsWritten, SamePathIsEqual}, References.{ReferenceIsSpelled, SpelledReferenceIsRead}, Nested.{NoDeeper, LeadsDeeper, ChildHasOneMore, EachIsAChild}}};
@@ -18,8 +18,7 @@ pub fn paths_are_read_as_spelled()
     ensures spelled { ReadsAllThatIsSpelled }
 {}
 
-/// A path that was read is written as the word that it was read from, and each path is read again from what it is
-/// written as.
+/// A path that was read is written as the word that it was read from, and each path is read again from what it is written as.
 #[tactic(auto, using(crate::proofs::PathsRead::read_again))]
 pub fn paths_are_read_again()
     ensures written { WritesWhatWasRead }
@@ -38,7 +37,7 @@ pub fn references_are_read_as_spelled()
     ensures spelled { SpelledReferenceIsRead }
 {}
 
-/// No path has more than 16 components, and names lead to a deeper path. The children of a path are the paths that have one
+/// No path has more than 16 components, and joining names to a path gives a deeper one. The children of a path are the paths with one
 /// component more.
 pub fn paths_stand_within_one_another()
     ensures limit { NoDeeper }
@@ -47,7 +46,7 @@ pub fn paths_stand_within_one_another()
     ensures each { EachIsAChild }
 {}
 
-/// A word that is refused as a name, as a path or as a reference is refused for the one fault that it has, by cases on the word.
+/// A word that isn't a name, a path or a reference is refused for the one fault that it has, by cases on the word.
 #[tactic(auto, using(crate::proofs::NameFaultsTold::all_told))]
 pub fn faults_of_names_are_told()
     ensures names { (limit : ℕ) → TellsFaults (name_of limit) (IsNameFault limit) }
@@ -55,8 +54,8 @@ pub fn faults_of_names_are_told()
     ensures references { TellsFaults reference_of IsReferenceFault }
 {}
 
-/// Each path, each name of a table, each name in a field and each reference can be written in bytes. A name is told by its field, and a
-/// reference by its bytes; a path and a table's name are their own bytes.
+/// Each path, each name of a table, each name in a field and each reference can be written in bytes. A name can be read back from its
+/// field, and a reference from its bytes; a path and a table's name are their own bytes.
 #[tactic(auto, using(crate::proofs::PathBytes::path_fits, crate::proofs::PathBytes::table_name_fits, crate::proofs::PathBytes::name_fits, crate::proofs::PathBytes::reference_fits, crate::proofs::PathBytes::reference_again))]
 pub fn names_have_bytes_of_their_own()
     ensures paths { (p : List ℕ) → is_path p ≡ true → Fits path_form p }

@@ -1,4 +1,4 @@
-//! Names that are kept in place.
+//! Names, stored inline.
 ghost use Rattle.std.specs.{Prelude.{◌≡◌, ◌≤◌, ◌-◌, length, slice_index}, Str.bytes_eq, Cmp.Lexicographic.lists_per};
 ghost use Rattle.std.proofs.Common.{rules};
 ghost use Rattle.pf_addr.specs.Path.Names.{IsName, name_of, name_order, same_name};
@@ -9,8 +9,7 @@ use pf_form::form::Kind;
 use std::cmp::Ordering;
 use std::marker::Model;
 
-/// A name of 1 to `LIMIT` bytes, each a letter, a digit, `_`, `.` or `-`. It is kept in place, and contracts see it as the list of
-/// its bytes.
+/// A name of 1 to `LIMIT` bytes, each a letter, a digit, `_`, `.` or `-`. It is stored inline. Contracts see it as the list of its bytes.
 #[derive(Clone, Copy)]
 pub struct Name<const LIMIT: usize> {
     bytes: [u8; LIMIT],
@@ -36,10 +35,10 @@ impl<const LIMIT: usize> Model for Name<LIMIT> {
 }
 
 impl<const LIMIT: usize> Name<LIMIT> {
-    /// The name that a word is.
+    /// Reads a word as a name.
     ///
-    /// A word past the limit is `NameTooLong`, whatever its bytes; one that is empty or has another byte is `BadWord`. It takes no
-    /// memory.
+    /// A word past the limit is `NameTooLong`, whatever its bytes; an empty one, or one with any other byte, is `BadWord`. Doesn't
+    /// allocate.
     pub fn from_ascii(word: &[u8]) -> Result<Name<LIMIT>, Kind>
         requires fits { LIMIT ≤ 255 }
         ensures { result ≡ name_of LIMIT word.now }
@@ -54,7 +53,7 @@ impl<const LIMIT: usize> Name<LIMIT> {
         }
     }
 
-    // The name of these bytes.
+    // The name with these bytes.
     fn holding(name: &[u8]) -> Name<LIMIT>
         requires fits { LIMIT ≤ 255 }
         requires name { IsName LIMIT name.now }
@@ -71,7 +70,7 @@ impl<const LIMIT: usize> Name<LIMIT> {
     /// The name's bytes.
     pub fn as_bytes(&self) -> &[u8]
         ensures value { result.now ≡ self.now }
-        // what each name keeps
+        // what every name maintains
         ensures kept { IsName LIMIT self.now }
     {
         &self.bytes[..self.len as usize]
@@ -85,19 +84,19 @@ impl<const LIMIT: usize> Name<LIMIT> {
         bytes[bytes.len() - 1]
     }
 
-    /// Which of two names comes first, by their bytes.
+    /// Compares two names by their bytes.
     pub fn order(&self, other: &Name<LIMIT>) -> Ordering
         ensures { result ≡ name_order self.now other.now }
     {
         self.as_bytes().cmp(other.as_bytes())
     }
 
-    /// Whether both are one name.
+    /// Whether both names are the same.
     #[tactic(auto, using(crate::proofs::PathTexts::same_bytes))]
     pub fn same(&self, other: &Name<LIMIT>) -> bool
         ensures { result ≡ same_name self.now other.now }
     {
-        // other than their order this asks for their lengths first
+        // unlike `order`, this compares the lengths first
         self == other
     }
 }
@@ -109,7 +108,7 @@ impl<const LIMIT: usize> PartialEq for Name<LIMIT> {
 
     #[tactic(auto, using(crate::proofs::PathTexts::last_differs))]
     fn eq(&self, other: &Name<LIMIT>) -> bool {
-        // of the names that one machine has most differ in their last byte
+        // most names on one machine differ in their last byte
         self.last() == other.last() && self.as_bytes() == other.as_bytes()
     }
 }

@@ -8,7 +8,7 @@ fn fits_name(b: u8) -> bool
     b.is_ascii_alphanumeric() || b == b'_' || b == b'.' || b == b'-'
 }
 
-/// Whether each byte of a word is one that a name may have: a letter, a digit, `_`, `.` or `-`.
+/// Whether each byte of a word may be in a name: a letter, a digit, `_`, `.` or `-`.
 pub fn has_name_bytes(word: &[u8]) -> bool
     ensures { result ≡ list_all is_name_byte word.now }
 {

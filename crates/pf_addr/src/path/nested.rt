@@ -6,7 +6,7 @@ use crate::path::limits::PATH_LIMIT;
 use crate::path::path::Path;
 use crate::path::path_text::fault_in;
 
-// The path that is written so, where it has no fault.
+// The path with this text, if it has no fault.
 pub(crate) fn faultless(text: &[u8]) -> Option<Path>
     ensures { result ≡ if is_none (path_fault text.now) then Some text.now else None }
 {
@@ -22,21 +22,21 @@ fn has_slash(text: &[u8]) -> bool
     text.iter().any(|b| *b == b'/')
 }
 
-// Whether a text is one component: some bytes, and no slash among them.
+// Whether a text is one component: not empty, and without a slash.
 fn is_single(text: &[u8]) -> bool
     ensures { result ≡ is_single text.now }
 {
     !text.is_empty() && !has_slash(text)
 }
 
-// What stands behind the front of a text.
+// What comes after the front of a text.
 fn behind<'a>(text: &'a [u8], front: &[u8]) -> Option<&'a [u8]>
     ensures { MatchOption result ((rest : List ℕ) → text.now ≢ front.now ++ rest) (λ rest. text.now ≡ front.now ++ rest.now) }
 {
     text.strip_prefix(front)
 }
 
-// Puts more bytes behind so many that are there.
+// Writes `more` after the first `len` bytes.
 fn append(bytes: &mut [u8; PATH_LIMIT], len: usize, more: &[u8])
     requires { len + length more.now ≤ PATH_LIMIT }
     ensures { take (len + length more.now) bytes.new ≡ take len bytes.old ++ more.now }
@@ -45,8 +45,8 @@ fn append(bytes: &mut [u8; PATH_LIMIT], len: usize, more: &[u8])
 }
 
 impl Path {
-    /// The path that names lead to from this one: its bytes, a slash and the names, or the names alone from the main
-    /// ruleset's (pf.conf(5), Anchors). None where that is no path, as past 255 bytes or 16 components. It takes no memory.
+    /// The path that names lead to from this one: its bytes, a slash and the names, or just the names from the main ruleset's path
+    /// (pf.conf(5), ANCHORS). `None` if that isn't a path, as past 255 bytes or 16 components. Doesn't allocate.
     #[tactic(auto, unfolding(crate::specs::Path::Nested::path_within))]
     pub fn joined(&self, names: &[u8]) -> Option<Path>
         ensures { result ≡ path_within self.now names.now }
@@ -67,10 +67,10 @@ impl Path {
         Path::kept(bytes, start + names.len())
     }
 
-    /// Whether this path is another's with one component more behind it (pf.conf(5), Anchors: attached to it).
+    /// Whether this path is the other's with one more component (pf.conf(5), ANCHORS: attached to it).
     pub fn is_child_of(&self, parent: &Path) -> bool
         ensures value { result ≡ is_child parent.now self.now }
-        // what each path keeps
+        // what every path maintains
         ensures path { is_path self.now ≡ true }
     {
         let bytes = self.as_bytes();

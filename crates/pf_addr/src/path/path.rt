@@ -8,8 +8,8 @@ use pf_form::form::Kind;
 use std::cmp::Ordering;
 use std::marker::Model;
 
-/// The path of a ruleset (pf.conf(5), Anchors), kept in place: the main ruleset's, which is empty, or what a word
-/// spells, of at most 255 bytes. Contracts see it as the list of its bytes.
+/// The path of a ruleset (pf.conf(5), ANCHORS), stored inline: the main ruleset's, which is empty, or what a word spells, of at most 255
+/// bytes. Contracts see it as the list of its bytes.
 #[derive(Drop)]
 pub struct Path {
     bytes: [u8; PATH_LIMIT],
@@ -39,12 +39,11 @@ impl Path {
         }
     }
 
-    /// The path that a word spells: `-` is the main ruleset's, any other is kept as it is written.
+    /// Reads a path from a word: `-` is the main ruleset's, any other is taken as it is written.
     ///
-    /// A path has at most 255 bytes in at most 16 components with a slash between each two. A component has 1 to 63
-    /// bytes, each a letter, a digit, `_`, `.` or `-`, and is neither `..` nor `-`. A word past 255 bytes is
-    /// `NameTooLong`; then the first component with a fault says which, `BadWord` or, past 63 bytes, `NameTooLong`; then
-    /// more than 16 components are `NameTooLong`. It takes no memory.
+    /// A path has at most 255 bytes in at most 16 components, with a slash between each two. A component has 1 to 63 bytes, each a
+    /// letter, a digit, `_`, `.` or `-`, and is neither `..` nor `-`. A word past 255 bytes is `NameTooLong`; then the first faulty
+    /// component decides: `BadWord` or, past 63 bytes, `NameTooLong`; then more than 16 components are `NameTooLong`. Doesn't allocate.
     pub fn from_ascii(text: &[u8]) -> Result<Path, Kind>
         ensures { result ≡ path_of text.now }
     {
@@ -57,7 +56,7 @@ impl Path {
         }
     }
 
-    /// The path that a word without a fault is.
+    /// The path with this text, which has no fault.
     pub(crate) fn holding(text: &[u8]) -> Path
         requires { path_fault text.now ≡ None }
         ensures { result ≡ text.now }
@@ -70,7 +69,7 @@ impl Path {
         }
     }
 
-    // So many of these bytes, where they are a path's text.
+    // The path of the first `len` bytes, if they are a path's text.
     pub(crate) fn kept(bytes: [u8; PATH_LIMIT], len: usize) -> Option<Path>
         requires { len ≤ PATH_LIMIT }
         ensures { result ≡ if is_none (path_fault (take len bytes)) then Some (take len bytes) else None }
@@ -85,7 +84,7 @@ impl Path {
         }
     }
 
-    /// The same path. It takes no memory.
+    /// A copy of the path. Doesn't allocate.
     pub fn copied(&self) -> Path
         ensures { result ≡ self.now }
     {
@@ -103,19 +102,19 @@ impl Path {
         &self.bytes[..self.len as usize]
     }
 
-    /// Which of two paths comes first, by their bytes.
+    /// Compares two paths by their bytes.
     pub fn order(&self, other: &Path) -> Ordering
         ensures { result ≡ path_order self.now other.now }
     {
         self.as_bytes().cmp(other.as_bytes())
     }
 
-    /// Whether both are one path.
+    /// Whether both paths are the same.
     #[tactic(auto, using(crate::proofs::PathTexts::same_bytes))]
     pub fn same(&self, other: &Path) -> bool
         ensures { result ≡ same_path self.now other.now }
     {
-        // other than their order this asks for their lengths first
+        // unlike `order`, this compares the lengths first
         self.as_bytes() == other.as_bytes()
     }
 }

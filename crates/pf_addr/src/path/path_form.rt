@@ -1,4 +1,5 @@
-//! Paths, names and references in bytes. Which bytes are refused is by `specs/Path/PathForms.antt`; each form is the same in each version.
+//! Paths, names and references in bytes. `specs/Path/PathForms.antt` says which bytes are refused; each form is the same in every
+//! version.
 ghost use Rattle.std.specs.Prelude.{◌≡◌, ◌≤◌, true, Some, None, if◌then◌else◌};
 ghost use Rattle.pf_addr.specs.Path.{Paths.is_path, References.refers, PathForms.{name_field, names_limit, is_reference}};
 ghost use Rattle.pf_form.specs.Bytes.{Names.filled, Readers.Reads};
@@ -15,9 +16,9 @@ use pf_form::bytes::{
 };
 use std::alloc::{AllocError, Global};
 
-/// The length of its text in one byte, and the text: none for the main ruleset's.
+/// The length of its text in one byte, then the text; the main ruleset's path has none.
 ///
-/// Fails where bytes are missing; where they are no path's, at the length; and where memory is refused.
+/// Reading fails if bytes are missing; at the length if they aren't a path's; and when out of memory.
 impl Layout for Path {
     ghost use Rattle.std.specs.Ordering.{is_lt};
     ghost use Rattle.pf_addr.specs.{Path.Paths.path_order, Path.PathForms.{TextShape, path_form}};
@@ -49,7 +50,7 @@ impl Layout for Path {
 impl Fitting for Path {
     #[tactic(auto, using(crate::proofs::PathBytes::path_fits))]
     fn fits(&self, _version: u8) {
-        // what keeps it a path is what its bytes tell
+        // `as_bytes` promises that this is a path
         let _bytes = self.as_bytes();
     }
 }
@@ -61,7 +62,7 @@ impl Ordered for Path {
 }
 
 impl Path {
-    /// The path of these bytes: none are the main ruleset's.
+    /// The path with these bytes; the main ruleset's has none.
     fn of_bytes(text: &[u8]) -> Option<Path>
         ensures { result ≡ if is_path text.now then Some text.now else None }
     {
@@ -72,9 +73,9 @@ impl Path {
     }
 }
 
-/// Its length in one byte, and the name.
+/// Its length in one byte, then the name.
 ///
-/// Fails where bytes are missing; where they are no name's, at the length; and where memory is refused.
+/// Reading fails if bytes are missing; at the length if they aren't a name's; and when out of memory.
 impl Layout for TableName {
     ghost use Rattle.std.specs.Ordering.{is_lt};
     ghost use Rattle.pf_addr.specs.{Path.Names.name_order, Path.PathForms.{TextShape, table_name_form}};
@@ -106,7 +107,7 @@ impl Layout for TableName {
 impl Fitting for TableName {
     #[tactic(auto, using(crate::proofs::PathBytes::table_name_fits))]
     fn fits(&self, _version: u8) {
-        // what keeps it a name is what its bytes tell
+        // `as_bytes` promises that this is a name
         let _bytes = self.as_bytes();
     }
 }
@@ -117,9 +118,9 @@ impl Ordered for TableName {
     }
 }
 
-/// The name in a field of so many bytes, filled with zeros. It takes no memory.
+/// Reads a name from a field of `width` bytes, padded with zeros. Doesn't allocate.
 ///
-/// Fails where bytes are missing, and at the field where it isn't filled so or what stands before the zeros is no name.
+/// Fails if bytes are missing, and at the field if it isn't padded with zeros or what comes before them isn't a name.
 #[tactic(auto, unfolding(crate::specs::Path::PathForms::name_field))]
 pub fn read_name<'a, const LIMIT: usize>(
     width: usize,
@@ -138,10 +139,10 @@ pub fn read_name<'a, const LIMIT: usize>(
 
 const REFERENCE_FIELD: usize = 64;
 
-/// 68 bytes: its names in 64, filled with zeros; 1 where it ended in `/*`, else 0; and three zeros.
+/// 68 bytes: its names in 64, padded with zeros; 1 if it ends in `/*`, otherwise 0; and three zeros.
 ///
-/// Fails where bytes are missing or other ones stand where zeros or a flag must; where the names are no reference's, at the first byte.
-/// No memory is taken.
+/// Reading fails if bytes are missing, or aren't zeros or a flag where they must be; at the first byte if the names aren't a reference's.
+/// Reading doesn't allocate.
 impl Layout for Reference {
     ghost use Rattle.std.specs.Prelude.{true};
     ghost use Rattle.pf_addr.specs.Path.PathForms.{ReferenceShape, reference_form, plain_reference};
@@ -175,7 +176,7 @@ impl Layout for Reference {
 }
 
 impl Reference {
-    /// The reference of these names, where they are some.
+    /// The reference of these names, if they are valid.
     fn of_names(names: &[u8], is_wildcard: bool) -> Option<Reference>
         ensures { result ≡ if is_reference names.now is_wildcard then Some (refers names.now is_wildcard) else None }
     {
@@ -186,7 +187,7 @@ impl Reference {
     }
 }
 
-/// How many bytes a reference's names may have, with `/*` behind them or without it.
+/// How many bytes a reference's names may have, with `/*` after them or without it.
 fn names_limit(is_wildcard: bool) -> usize
     ensures { result ≡ names_limit is_wildcard }
 {

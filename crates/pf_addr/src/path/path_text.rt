@@ -6,8 +6,8 @@ use crate::path::limits::{COMPONENT_LIMIT, DEPTH_LIMIT};
 use crate::path::names::has_name_bytes;
 use pf_form::form::Kind;
 
-/// Why a text of at most `limit` bytes can't have these names in it, if it can't: its whole length comes first, then their
-/// components from left to right, then the number of these. It takes no memory.
+/// Why a text of at most `limit` bytes can't contain these names, if it can't: first its whole length, then the components from left to
+/// right, then how many there are. Doesn't allocate.
 pub(crate) fn fault_in(limit: usize, text: &[u8], names: &[u8]) -> Option<Kind>
     ensures { result ≡ fault_within limit text.now names.now }
 {
@@ -17,7 +17,7 @@ pub(crate) fn fault_in(limit: usize, text: &[u8], names: &[u8]) -> Option<Kind>
     first_fault_in(names).or_else(|| depth_fault_in(names))
 }
 
-// The fault of the first component that has one.
+// The fault of the first faulty component.
 fn first_fault_in(text: &[u8]) -> Option<Kind>
     ensures { result ≡ first_fault (components text.now) }
 {
@@ -38,7 +38,7 @@ fn first_slash(text: &[u8]) -> Option<usize>
     text.iter().position(|b| *b == b'/')
 }
 
-// One more component than there are slashes.
+// There is one component more than there are slashes.
 #[tactic(auto, using(crate::proofs::PathTexts::count_components))]
 fn depth_fault_in(text: &[u8]) -> Option<Kind>
     ensures { result ≡ depth_fault (length (components text.now)) }
@@ -51,7 +51,7 @@ fn depth_fault_in(text: &[u8]) -> Option<Kind>
     }
 }
 
-// Its bytes are tested before its length.
+// The bytes are checked before the length.
 fn component_fault_in(component: &[u8]) -> Option<Kind>
     ensures { result ≡ component_fault component.now }
 {

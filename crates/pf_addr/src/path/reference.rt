@@ -7,9 +7,8 @@ use crate::path::path_text::fault_in;
 use pf_form::form::Kind;
 use std::marker::Model;
 
-/// What an anchor rule names (pf.conf(5), Anchors): the names of a path, relative to the ruleset that holds the rule, and whether
-/// they end in `/*`, so that the rulesets attached to it are meant. It is kept in place, and contracts see it as a
-/// `PlainReference`.
+/// What an anchor rule names (pf.conf(5), ANCHORS): the names of a path, relative to the ruleset that holds the rule, and whether they
+/// end in `/*`, which means the rulesets attached to that path. It is stored inline. Contracts see it as a `PlainReference`.
 #[derive(Clone, Copy)]
 pub struct Reference {
     bytes: [u8; REFERENCE_LIMIT],
@@ -33,12 +32,11 @@ impl Model for Reference {
 }
 
 impl Reference {
-    /// The reference that a word spells: names of a path, perhaps with `/*` behind them, perhaps all in double quotes.
+    /// Reads a reference from a word: names of a path, perhaps followed by `/*`, perhaps all in double quotes.
     ///
-    /// It has at most 63 bytes, with `/*` and without quotes. A longer one is `NameTooLong`; then the names' components say
-    /// which fault there is, as [`Path::from_ascii`](crate::path::Path::from_ascii) tells it, `BadWord` or `NameTooLong`; then more
-    /// than 16 of them are `NameTooLong`. A word is in quotes where it has one at its front and another at its end. It takes no
-    /// memory.
+    /// It has at most 63 bytes, with `/*` and without quotes. A longer one is `NameTooLong`; then the first faulty component decides, as
+    /// in [`Path::from_ascii`](crate::path::Path::from_ascii): `BadWord` or `NameTooLong`; then more than 16 components are
+    /// `NameTooLong`. A word is in quotes if it has one at its start and another at its end. Doesn't allocate.
     pub fn from_ascii(word: &[u8]) -> Result<Reference, Kind>
         ensures { result ≡ reference_of word.now }
     {
@@ -67,13 +65,13 @@ impl Reference {
     /// Its names, without `/*`: the text of a path, relative to the ruleset that holds the rule.
     pub fn names(&self) -> &[u8]
         ensures value { result.now ≡ self.now.names }
-        // what each reference keeps
+        // what every reference maintains
         ensures kept { IsReference self.now }
     {
         &self.bytes[..self.len as usize]
     }
 
-    /// Whether the rulesets directly under its path are meant, and not the one there.
+    /// Whether it means the rulesets directly under its path, and not the one at it.
     pub fn is_wildcard(&self) -> bool
         ensures { result ≡ self.now.wildcard }
     {
@@ -81,7 +79,7 @@ impl Reference {
     }
 }
 
-// What stands between two quotes, or else the word.
+// What is between the quotes, or the whole word if it has none.
 fn unquoted(word: &[u8]) -> &[u8]
     ensures { result.now ≡ unquoted word.now }
 {

@@ -1,4 +1,4 @@
--- What follows from the definitions of maps, as law functions promise it.
+-- What follows from the definitions of maps; the contracts of law functions say that it holds.
 use Rattle.std.specs.{Prelude.{◌≡◌, ℕ, ◌==◌, ◌&&◌, T, Bool, not, List, [], length, fold, map}, List.list_any, FinMap.is_sorted}
 use Rattle.pf_rule.specs.Rules.{PlainRule}
 use Rattle.pf_map.specs.ListMaps.{list_by}
@@ -7,7 +7,7 @@ use Rattle.pf_anchor.specs.Rulesets.{PlainPlaced, ruled, rules_at, with_rules, c
 
 -- ---- the map of rulesets
 
--- the rules at a path once these were replaced in turn: those of the last one that has this path, else the old ones
+-- the rules at a path after these were replaced in turn: those of the last one that has this path, else the old ones
 abbrev pub rules_by : List PlainPlaced → List ℕ → List PlainRule → List PlainRule
 rules_by items q old = list_by path_order items q old
 
@@ -19,7 +19,7 @@ ReplacesInTurn = (items es : List PlainPlaced) (q : List ℕ) → rules_at q (fo
 abbrev pub StaysMap : Type 0
 StaysMap = (items es : List PlainPlaced) → IsMap es → IsMap (fold with_rules es items)
 
--- two maps of which the same is read at each path are one
+-- two maps that have the same rules at each path are equal
 abbrev pub OneMap : Type 0
 OneMap = (a b : List PlainPlaced) → IsMap a → IsMap b → ((q : List ℕ) → rules_at q a ≡ rules_at q b) → a ≡ b
 

@@ -9,11 +9,11 @@ use Rattle.pf_anchor.specs.declared.verdict.RuleVerdict.TheVariants as by
 
 -- ---- one solution
 
--- a ruleset is its rules in order, where each ruleset that they lead to is so itself
+-- a ruleset is evaluated as its rules in order, and so is each ruleset that they lead to
 abbrev pub Unrolls : Type 0
 Unrolls = (c : List PlainPlaced) (tests : Tests) (e : PlainPlaced) → evaluation c tests e ≡ evaluate_with (evaluation c tests) c tests e
 
--- nothing else is
+-- no other function is
 abbrev pub IsTheOnly : Type 0
 IsTheOnly = (c : List PlainPlaced) (tests : Tests) (f : PlainPlaced → Evaluated PlainMatch) → ((e : PlainPlaced) → f e ≡ evaluate_with f c tests e) →
     (e : PlainPlaced) → f e ≡ evaluation c tests e
@@ -38,20 +38,20 @@ pub record IsDeciding (test : PlainRule → Bool) (rules : List PlainRule) (numb
   pub not_ended : list_all (λ r. not (test r && r.quick)) before ≡ true
   pub stands : (rule.quick ≡ true) ⊎ (list_any test behind ≡ false)
 
--- none of the main ruleset's rules matches, and the default is told; or one decides, and its number is told with what it does
+-- none of the main ruleset's rules matches, and the verdict is the default; or one decides, and the verdict has its number and what it does
 abbrev pub IsToldOfMain : PlainConfig → PlainPacket → Type 0
 IsToldOfMain c packet =
     ((list_any (matching c.tables packet main) (rules_at main c.rulesets) ≡ false) × (judged c packet ≡ by.Default))
     ⊎ ((n : ℕ) × ((r : PlainRule) × ((a : Action) × (IsDeciding (matching c.tables packet main) (rules_at main c.rulesets) n r
     × (r.effect ≡ Decide a) × (judged c packet ≡ by.Rule main n a)))))
 
--- so it is where the main ruleset has no anchor rule
+-- so it is if the main ruleset has no anchor rule
 abbrev pub TellsWhatDecides : Type 0
 TellsWhatDecides = (c : PlainConfig) (packet : PlainPacket) → list_all decides (rules_at main c.rulesets) ≡ true → IsToldOfMain c packet
 
 -- ---- a rule that matches, before other rules; f is what each ruleset gives
 
--- of a rule that decides a quick one ends, and else its match stands until a later one
+-- a quick rule that decides ends, and any other's match stands until a later one
 abbrev pub OwnMatch : Type 0
 OwnMatch = (f : PlainPlaced → Evaluated PlainMatch) (c : List PlainPlaced) (tests : Tests) (p : List ℕ) (n : ℕ) (r : PlainRule)
     (a : Action) (rs : List PlainRule) →
@@ -61,20 +61,20 @@ OwnMatch = (f : PlainPlaced → Evaluated PlainMatch) (c : List PlainPlaced) (te
 abbrev pub IsAnchor : Tests → List ℕ → PlainRule → PlainReference → Type 0
 IsAnchor tests p r s = (tests p r ≡ true) × (r.effect ≡ Evaluate s)
 
--- what ends within an anchor rule ends the rule's ruleset too, and so all outside
+-- what ends within an anchor rule ends the rule's ruleset too, and so everything outside
 abbrev pub EndsOutside : Type 0
 EndsOutside = (f : PlainPlaced → Evaluated PlainMatch) (c : List PlainPlaced) (tests : Tests) (p : List ℕ) (n : ℕ) (r : PlainRule)
     (s : PlainReference) (rs : List PlainRule) (m : PlainMatch) →
     IsAnchor tests p r s → in_turn f (targets c p s) ≡ Ended m → rules_at_path f c tests p n (r ∷ rs) ≡ Ended m
 
--- where nothing within matched it is as if the rule weren't there, quick or not
+-- if nothing within matched, it is as if the rule weren't there, quick or not
 abbrev pub NothingWithin : Type 0
 NothingWithin = (f : PlainPlaced → Evaluated PlainMatch) (c : List PlainPlaced) (tests : Tests) (p : List ℕ) (n : ℕ) (r : PlainRule)
     (s : PlainReference) (rs : List PlainRule) →
     IsAnchor tests p r s → in_turn f (targets c p s) ≡ Open None →
     rules_at_path f c tests p n (r ∷ rs) ≡ rules_at_path f c tests p (n + 1) rs
 
--- a quick one ends where something within matched, and else the match stands until a later one
+-- a quick one ends if something within matched, and any other's match stands until a later one
 abbrev pub MatchWithin : Type 0
 MatchWithin = (f : PlainPlaced → Evaluated PlainMatch) (c : List PlainPlaced) (tests : Tests) (p : List ℕ) (n : ℕ) (r : PlainRule)
     (s : PlainReference) (rs : List PlainRule) (m : PlainMatch) →
@@ -83,7 +83,7 @@ MatchWithin = (f : PlainPlaced → Evaluated PlainMatch) (c : List PlainPlaced) 
 
 -- ---- what a rule leads to
 
--- of rulesets in turn the first that ends ends all, and else the latest match stands
+-- of rulesets in turn the first that ends is the end of all, else the latest match stands
 pub record TakesInTurn (f : PlainPlaced → Evaluated PlainMatch) : Type 0 where
   pub none : in_turn f [] ≡ Open None
   pub one : (e : PlainPlaced) → in_turn f (e ∷ []) ≡ f e
@@ -110,14 +110,14 @@ LeadsToTheseAlone = (c : List PlainPlaced) (p : List ℕ) (s : PlainReference) �
 
 -- ---- a quick end, over a whole ruleset
 
--- a quick rule that decides ends its ruleset's evaluation where no rule before it did, at any path: no rule behind it is looked at
+-- a quick rule that decides ends its ruleset's evaluation if no rule before it did, at any path: no rule after it is looked at
 abbrev pub QuickEnds : Type 0
 QuickEnds = (c : List PlainPlaced) (tests : Tests) (p : List ℕ) (front back : List PlainRule) (r : PlainRule)
     (a : Action) (last : Option PlainMatch) →
     rules_at_path (evaluation c tests) c tests p 0 front ≡ Open last → tests p r ≡ true → r.effect ≡ Decide a → r.quick ≡ true →
     evaluation c tests (ruled p (front ++ r ∷ back)) ≡ Ended (found p (length front) a)
 
--- what ends within an anchor rule of the main ruleset is told, whatever stands behind that rule
+-- what ends within an anchor rule of the main ruleset is the verdict, whatever comes after that rule
 abbrev pub EndsTheVerdict : Type 0
 EndsTheVerdict = (c : PlainConfig) (packet : PlainPacket) (front back : List PlainRule) (r : PlainRule)
     (s : PlainReference) (last : Option PlainMatch) (m : PlainMatch) →
@@ -137,7 +137,7 @@ rule_numbered [] n = None
 rule_numbered (r ∷ rs) zero = Some r
 rule_numbered (r ∷ rs) (suc n) = rule_numbered rs n
 
--- this match is a rule of the ruleset that matches and is no anchor rule
+-- this match is a rule of the ruleset that matches and isn't an anchor rule
 abbrev pub IsDecidedBy : Tests → PlainMatch → PlainPlaced → Type 0
 IsDecidedBy tests m e = (r : PlainRule) × ((e.0 ≡ m.path) × (rule_numbered e.1 m.number ≡ Some r) × (tests e.0 r ≡ true)
     × (r.effect ≡ Decide m.action))
@@ -152,7 +152,7 @@ abbrev pub AnchorsNeverDecide : Type 0
 AnchorsNeverDecide = (c : List PlainPlaced) (tests : Tests) (e : PlainPlaced) → IsIn e c →
     Holds (λ m. (t : PlainPlaced) × (IsIn t c × IsDecidedBy tests m t)) (evaluation c tests e)
 
--- the rule that a verdict tells stands at that path under that number, matches the packet, and does what is told
+-- the rule of a verdict is at its path and number, matches the packet, and does what the verdict says
 abbrev pub ToldRuleDecides : Type 0
 ToldRuleDecides = (c : PlainConfig) (packet : PlainPacket) (p : List ℕ) (n : ℕ) (a : Action) →
     IsMap c.rulesets → judged c packet ≡ by.Rule p n a →
@@ -165,8 +165,8 @@ abbrev pub NoneLeadsTo : List ℕ → List PlainPlaced → Type 0
 NoneLeadsTo q c = (e : PlainPlaced) (n : ℕ) (r : PlainRule) (s : PlainReference) → IsIn e c → rule_numbered e.1 n ≡ Some r →
     r.effect ≡ Evaluate s → leads_to e.0 s q ≡ false
 
--- it may be replaced by any other and no verdict changes, where it isn't the main ruleset; rulesets that lead only to one another are
--- taken out one by one, the outermost first
+-- such a ruleset, if it isn't the main one, may be replaced by any other and no verdict changes; rulesets that lead only to one another can
+-- be taken out one by one, the outermost first
 abbrev pub UnreachedIsNothing : Type 0
 UnreachedIsNothing = (c : PlainConfig) (new : PlainPlaced) (packet : PlainPacket) → IsMap c.rulesets → NoneLeadsTo new.0 c.rulesets →
     same_path new.0 main ≡ false → judged (with_rulesets c (new ∷ [])) packet ≡ judged c packet
@@ -179,7 +179,7 @@ InTwoParts = (f : PlainPlaced → Evaluated PlainMatch) (c : List PlainPlaced) (
     rules_at_path f c tests p n (front ++ back)
     ≡ and_then (rules_at_path f c tests p n front) (rules_at_path f c tests p (n + length front) back)
 
--- rules that don't match say nothing
+-- rules that don't match give nothing
 abbrev pub PassedOver : Type 0
 PassedOver = (f : PlainPlaced → Evaluated PlainMatch) (c : List PlainPlaced) (tests : Tests) (p : List ℕ) (n : ℕ) (rs : List PlainRule) →
     list_any (tests p) rs ≡ false → rules_at_path f c tests p n rs ≡ Open None

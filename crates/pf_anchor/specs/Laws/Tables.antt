@@ -11,12 +11,12 @@ use Rattle.pf_anchor.specs.{Rulesets.PlainPlaced, Tables.{TableKey, PlainPlacedT
 
 -- ---- changes
 
--- each named table has the entries that it was given last, and all others stay: of other names, and at other paths
+-- each named table has the entries that it was given last, and all others stay: those of other names, and those at other paths
 abbrev pub ReplacesTables : Type 0
 ReplacesTables = (items ts : List PlainPlacedTable) (p name : List ℕ) →
     table_at p name (fold with_table ts items) ≡ list_by table_order items (p, name) (table_at p name ts)
 
--- after a change of one table it has these entries there
+-- after a change of one table it has these entries
 abbrev pub HasItsEntries : Type 0
 HasItsEntries = (ts : List PlainPlacedTable) (p name : List ℕ) (es : List PlainEntry) → table_at p name (with_table ts (placed_table p name es)) ≡ es
 
@@ -25,7 +25,7 @@ abbrev pub OtherNamesStay : Type 0
 OtherNamesStay = (ts : List PlainPlacedTable) (p name : List ℕ) (es : List PlainEntry) (q other : List ℕ) → other ≢ name →
     table_at q other (with_table ts (placed_table p name es)) ≡ table_at q other ts
 
--- the tables at other paths stay, those of this name among them
+-- the tables at other paths stay, also those of this name
 abbrev pub OtherPathsStay : Type 0
 OtherPathsStay = (ts : List PlainPlacedTable) (p name : List ℕ) (es : List PlainEntry) (q other : List ℕ) → q ≢ p →
     table_at q other (with_table ts (placed_table p name es)) ≡ table_at q other ts
@@ -38,11 +38,11 @@ StaysTableMap = (items ts : List PlainPlacedTable) → IsTableMap ts → IsTable
 abbrev pub EmptyIsAbsent : Type 0
 EmptyIsAbsent = (ts : List PlainPlacedTable) (k : TableKey) → find table_order k (with_table ts (k, [])) ≡ None
 
--- two maps of which the same is read everywhere are one
+-- two maps that have the same tables everywhere are equal
 abbrev pub OneTableMap : Type 0
 OneTableMap = (a b : List PlainPlacedTable) → IsTableMap a → IsTableMap b → ((p name : List ℕ) → table_at p name a ≡ table_at p name b) → a ≡ b
 
--- a change of tables leaves all rulesets, and one of rulesets all tables
+-- a change of tables leaves all rulesets as they are, and one of rulesets all tables
 abbrev pub LeavesTheOther : Type 0
 LeavesTheOther = (c : PlainConfig) (rulesets : List PlainPlaced) (tables : List PlainPlacedTable) →
     ((with_tables c tables).rulesets ≡ c.rulesets) × ((with_rulesets c rulesets).tables ≡ c.tables)
@@ -53,7 +53,7 @@ LeavesTheOther = (c : PlainConfig) (rulesets : List PlainPlaced) (tables : List 
 abbrev pub by_name : List PlainPlacedTable → List (List ℕ × List PlainEntry)
 by_name ts = map (λ t. (t.0.1, t.1)) ts
 
--- they stand in the order of their names, none of them twice, and each is the one found at that path
+-- they are in the order of their names, none of them twice, and each is the one found at that path
 pub record AreTablesAt (ts : List PlainPlacedTable) (p : List ℕ) : Type 0 where
   pub ordered : T (is_sorted name_order (by_name (tables_at p ts)))
   pub each : (name : List ℕ) → find name_order name (by_name (tables_at p ts)) ≡ table_found p name ts
@@ -63,27 +63,27 @@ TablesAtPath = (ts : List PlainPlacedTable) (p : List ℕ) → IsTableMap ts →
 
 -- ---- which table answers
 
--- a path's own table answers its rules
+-- a path's own table answers for its rules
 abbrev pub OwnAnswers : Type 0
 OwnAnswers = (ts : List PlainPlacedTable) (p name : List ℕ) (own : List PlainEntry) (a : Addr) → table_found p name ts ≡ Some own →
     tables_say ts p name a ≡ table_holds own a
 
--- it hides main's, also where it has no entry for the address
+-- it hides main's, also if it has no entry for the address
 abbrev pub OwnHidesMain : Type 0
 OwnHidesMain = (ts : List PlainPlacedTable) (p name : List ℕ) (own : List PlainEntry) (a : Addr) → table_found p name ts ≡ Some own → deciding own a ≡ None →
     tables_say ts p name a ≡ false
 
--- where the path has none, main's answers
+-- if the path has none, main's answers
 abbrev pub MainAnswersElse : Type 0
 MainAnswersElse = (ts : List PlainPlacedTable) (p name : List ℕ) (mains : List PlainEntry) (a : Addr) → table_found p name ts ≡ None →
     table_found main name ts ≡ Some mains → tables_say ts p name a ≡ table_holds mains a
 
--- where main has none either, a host that names it takes no address, and its negation every one
+-- if main has none either, a host that names it matches no address, and its negation every one
 abbrev pub NoneElse : Type 0
 NoneElse = (ts : List PlainPlacedTable) (p name : List ℕ) (negated : Bool) (a : Addr) →
     table_found p name ts ≡ None → table_found main name ts ≡ None → host_holds (tables_say ts p) (Table name negated) a ≡ negated
 
--- a table of another name, or at any other path than these two, as at a parent or a child, changes no answer
+-- a table of another name, or at any other path than these two, such as a parent or a child, changes no answer
 abbrev pub OthersAnswerNothing : Type 0
 OthersAnswerNothing = (ts : List PlainPlacedTable) (other : PlainPlacedTable) (p name : List ℕ) (a : Addr) →
     (other.0.1 ≢ name) ⊎ ((other.0.0 ≢ p) × (other.0.0 ≢ main)) → tables_say (with_table ts other) p name a ≡ tables_say ts p name a

@@ -26,7 +26,7 @@ fn alone(answer: Result<(Vec<Reply>, Vec<Arc<Change>>), Refusal>) -> Result<Vec<
 }
 
 impl<D: Disk + Drop, J: Chapter, R: Wait + Drop> Book<D, J, R> {
-    // Keeps changes of the core's as one group, which leave this, and shares them for receipts. They aren't shown yet.
+    // Keeps changes that the core wants as one group, which leaves `next`, and returns them for receipts. They aren't shown yet.
     fn keep_all(&mut self, changes: Vec<Change>, next: Next) -> Result<Vec<Arc<Change>>, Refusal>
         requires made { next ≡ left_together self.old.whole.durable changes.items }
         requires fit { FollowInTurn self.old.whole.durable (made_all changes.items) }
@@ -50,7 +50,7 @@ impl<D: Disk + Drop, J: Chapter, R: Wait + Drop> Book<D, J, R> {
         Ok(changes)
     }
 
-    // Keeps the changes of a group, for which these replies are due, and shows them. Where they are kept they are shared for receipts.
+    // Keeps the changes of a group, to which these replies are due, and shows them. If they were kept, they are returned for receipts.
     fn make_all(
         &mut self,
         mut replies: Vec<Reply>,
@@ -85,7 +85,7 @@ impl<D: Disk + Drop, J: Chapter, R: Wait + Drop> Book<D, J, R> {
         }
     }
 
-    // Whether a group may be begun: no group is pending, and its own words don't refuse it.
+    // Whether a group may begin: none is pending, and the number and the kinds of its commands are allowed.
     pub(super) fn check_all(&self, commands: &[Command]) -> Result<(), Refusal>
         ensures { result ≡ and_then (unless (is_halted self.now.pending) told.Halted) (group_words commands.now) }
     {
@@ -95,7 +95,7 @@ impl<D: Disk + Drop, J: Chapter, R: Wait + Drop> Book<D, J, R> {
         check_group(commands)
     }
 
-    // A group of commands, wherever the opening has come to, with its changes, if they were kept.
+    // A group of commands, whatever came before it in the opening. Returns its changes too, if they were kept.
     pub(super) fn call_all(
         &mut self,
         commands: &[Command],
@@ -125,31 +125,31 @@ impl<D: Disk + Drop, J: Chapter, R: Wait + Drop> Book<D, J, R> {
         }
     }
 
-    /// Several commands, whose changes are kept in one record: 1 to 64 commits, changes of tables and commands on states. Each is replied to as
-    /// if those before it had been called by themselves, and the numbers of their changes go on one by one. A crash keeps all the changes or
-    /// none of them.
+    /// Several commands, whose changes are kept in one record: 1 to 64 commits, edits of tables and commands on states. Each is answered as
+    /// if those before it had been called by themselves, and the numbers of their changes go up one by one. A crash keeps all the changes
+    /// or none of them.
     ///
     /// `Ok`: a reply to each command, which may be its refusal by the core; the changes are on the device. They are shown with all before
-    /// them, and then answered `Applied`; or each of them is `Stored`, as memory was refused for that. Where no command wants a change the
-    /// device isn't written.
+    /// them, and then answered `Applied`; or each of them is `Stored`, when out of memory for that. If no command wants a change the device
+    /// isn't written.
     ///
-    /// `Err` refuses all of them, for the first of these that holds: `Halted`, where the device failed in an earlier call; `BadCount`, of no
-    /// commands or more than 64; `NotGrouped`, with the first command of another kind; `HistoryFull`, where the history would have more
-    /// changes than it may have; `Full`, exactly where a bank has no room for the record of all of them behind a snapshot of what was kept
-    /// before, or less than 64 bytes left behind one of what is kept then; `Fault`, where a call of the device failed. `Memory` may come
-    /// instead of any reply but the first three; but once all changes are made the two limits come before any further want of memory. All
-    /// growths but those for showing come before the device is written. After every `Err` but `Fault` all is as before, and no call of the
-    /// device was made. After `Fault` the changes stand in the history, not acknowledged, and all else is as before; each later command
-    /// that may change something is `Halted`.
+    /// `Err` refuses all of them, for the first of these that holds: `Halted`, if the device failed in an earlier call; `BadCount`, of no
+    /// commands or more than 64; `NotGrouped`, with the place of the first command of another kind; `HistoryFull`, if the history would
+    /// have more changes than it may have; `Full`, exactly if a bank has no room for the record of all of them after a snapshot of what was
+    /// kept before, or fewer than 64 bytes left after a snapshot of what is kept then; `Fault`, if a call of the device failed. `Memory`
+    /// may come instead of any reply but the first three; but once all changes are made the two limits are tested before any more memory is
+    /// taken. All memory but that for showing is taken before the device is written. After every `Err` but `Fault` all is as before, and no
+    /// call of the device was made. After `Fault` the changes are in the history, not acknowledged, and all else is as before; each later
+    /// command that may change something is `Halted`.
     pub fn group(&mut self, commands: &[Command]) -> Result<Vec<Reply>, Refusal>
-        // The replies, or the refusal, are legal in each world that the Book stood for, and it stands for that with this group at its end.
+        // The replies, or the refusal, are legal in each world that the Book stood for; it now stands for that with this group at its end.
         ensures worlds { (first : PlainDurable) (world : List Event) → StandsFor first (world_book self.old) world →
             StandsFor first (world_book self.new) (world ++ called_group commands.now (listed result)
             (upshot self.new.shown (nat_lt (D.fault_count self.old.disk) (D.fault_count self.new.disk))) ∷ []) }
         ensures legal { (h : CurrentOpening) → IsAt h (world_book self.old)
             → LegalReplies h commands.now (listed result) (nat_lt (D.fault_count self.old.disk) (D.fault_count self.new.disk)) }
 
-        // At each moment of the call an image holds what some crash within it leaves of the opening, and after it what one then leaves.
+        // At each moment of the call an image holds what some crash within it leaves of the opening, and after it what a crash then leaves.
         ensures any_moment { (h : CurrentOpening) → IsAt h (world_book self.old)
             → EachMoment D.moment D.left_since self.old.disk self.new.disk (HoldsLeft h (grouping commands.now)) }
         ensures images { (h : CurrentOpening) → IsAt h (world_book self.new) → (c : List ℕ)
@@ -164,7 +164,7 @@ impl<D: Disk + Drop, J: Chapter, R: Wait + Drop> Book<D, J, R> {
         ensures base { self.new.base ≡ self.old.base }
         ensures setting { (world_book self.new).setting ≡ (world_book self.old).setting }
 
-        // What an opening needs of each image at each moment of the call.
+        // What a later opening needs of each image, at each moment of the call.
         ensures openable { StaysOpenable D.moment D.left_since self.old self.new }
 
         ensures moments { D.moment self.new.disk ≤ D.moment self.old.disk + 10 }
@@ -172,7 +172,7 @@ impl<D: Disk + Drop, J: Chapter, R: Wait + Drop> Book<D, J, R> {
         ensures faults { D.fault_count self.new.disk ≡ D.fault_count self.old.disk + (if is_fault_result (listed result) then 1 else 0) }
     {
         let result = alone(self.call_all(commands));
-        // looked at, so that what a Book keeps is known here
+        // reading a field makes the Book's invariant known here
         let _ = &self.core;
         result
     }

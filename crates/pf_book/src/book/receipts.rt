@@ -1,4 +1,4 @@
-//! Replies with their receipts, and receipts confirmed.
+//! Replies with their receipts, and what a Book says of receipts.
 ghost use Rattle.std.specs.Prelude.{◌≡◌, ◌<◌, ◌≤◌, ◌↔◌, ◌^◌, [], length, map, take, drop, vec_capacity, IsTrue, nat_lt};
 ghost use Rattle.pf_disk.specs.Disk.{EachMoment};
 ghost use Rattle.std.specs.{Arc.arc_value, List.AllByRecursion, Option.{ForSome, option_copied, option_map}, Vec.Iter.into_iter_items};
@@ -16,7 +16,7 @@ use pf_view::{Seer, Shower, Token};
 use std::sync::{Arc, Wait};
 use std::vec::IntoIter;
 
-// After `Applied` a token of what is shown.
+// A token of what is shown, after `Applied` alone.
 fn token_after<J: Chapter, R: Wait + Drop>(reply: &Reply, shower: &Shower<J, R>) -> Option<Token<J>>
     ensures { result ≡ token_of reply.now shower.now.shown }
 {
@@ -26,7 +26,7 @@ fn token_after<J: Chapter, R: Wait + Drop>(reply: &Reply, shower: &Shower<J, R>)
     }
 }
 
-// Whether it says that a change was kept.
+// Whether the reply says that a change was kept.
 fn is_kept(reply: &Reply) -> bool
     ensures { result ≡ is_kept reply.now }
 {
@@ -36,7 +36,7 @@ fn is_kept(reply: &Reply) -> bool
     }
 }
 
-// How many changes the history has behind a reply, which had so many before it.
+// How many changes the history has after a reply, if it had `before` of them before it.
 fn behind(reply: &Reply, before: usize) -> usize
     requires { before < 2 ^ 63 }
     ensures { result ≡ behind reply.now before }
@@ -44,7 +44,7 @@ fn behind(reply: &Reply, before: usize) -> usize
     if is_kept(reply) { before + 1 } else { before }
 }
 
-// The next of the changes that are given to replies in turn, where the reply kept one.
+// The next of the changes that are given to replies in turn, if this reply kept one.
 fn give(reply: &Reply, given: &mut IntoIter<Arc<Change>>) -> Option<Arc<Change>>
     ensures given { option_map arc_value result ≡ given_to reply.now (map arc_value (into_iter_items given.old)) }
     ensures left { map arc_value (into_iter_items given.new) ≡ left_behind reply.now (map arc_value (into_iter_items given.old)) }
@@ -53,7 +53,7 @@ fn give(reply: &Reply, given: &mut IntoIter<Arc<Change>>) -> Option<Arc<Change>>
 }
 
 impl<D: Disk + Drop, J: Chapter, R: Wait + Drop> Book<D, J, R> {
-    /// One call, with a receipt whose front is the whole history, behind a caller that may hand in a receipt.
+    /// One call, with a receipt whose front is the whole history. The caller may hand in an earlier receipt.
     pub(crate) fn answer(
         &mut self,
         command: &Command,
@@ -79,7 +79,7 @@ impl<D: Disk + Drop, J: Chapter, R: Wait + Drop> Book<D, J, R> {
         (reply, receipt)
     }
 
-    /// A group of commands, with a receipt for each reply, behind a caller that may hand in a receipt.
+    /// A group of commands, with a receipt for each reply. The caller may hand in an earlier receipt.
     pub(crate) fn answer_all(
         &mut self,
         commands: &[Command],
@@ -100,7 +100,7 @@ impl<D: Disk + Drop, J: Chapter, R: Wait + Drop> Book<D, J, R> {
         self.answer_each(commands)
     }
 
-    // The same, with no receipt handed in. The places for the answers are made before any change is.
+    // The same, with no receipt handed in. The room for the answers is made before any change is.
     fn answer_each(&mut self, commands: &[Command]) -> Result<Vec<(Reply, Receipt<J>)>, Refusal>
         ensures leads { (h : CurrentOpening) → IsAt h (world_book self.old) → LeadsGroup h (world_book self.new) commands.now (replies_of (told result))
             (upshot self.new.shown (nat_lt (D.fault_count self.old.disk) (D.fault_count self.new.disk))) }
@@ -121,7 +121,7 @@ impl<D: Disk + Drop, J: Chapter, R: Wait + Drop> Book<D, J, R> {
         }
     }
 
-    // What a receipt that is handed in says of the history, if there is one.
+    // What the receipt that was handed in, if any, says of the history.
     fn look_at(&mut self, last: Option<&Receipt<J>>)
         ensures same { self.new ≡ self.old }
         ensures follows { Follows (option_copied last.entry) (log_in (world_book self.old)) (length (flat self.old.acked)) }
@@ -131,7 +131,7 @@ impl<D: Disk + Drop, J: Chapter, R: Wait + Drop> Book<D, J, R> {
         }
     }
 
-    // The history begins with the front of each receipt, and what was acknowledged at its reply is, its change too.
+    // The history begins with the receipt's front. What was acknowledged at its reply still is, and so is its change.
     fn begins_with(&mut self, receipt: &Receipt<J>)
         ensures same { self.new ≡ self.old }
         ensures begins { IsPrefix receipt.now.front (log_in (world_book self.old)) }
@@ -139,11 +139,11 @@ impl<D: Disk + Drop, J: Chapter, R: Wait + Drop> Book<D, J, R> {
         ensures change { ForSome receipt.now.change (λ e. length receipt.now.front ≤ length (flat self.old.acked)) }
     {
         self.tip.contains(&receipt.front);
-        // looked at, so that what a receipt keeps is known here
+        // reading a field makes the receipt's invariant known here
         let _ = receipt.seq;
     }
 
-    // The receipt of a reply that was given just now, and of the change that was made with it.
+    // The receipt of a reply that was just given, with the change that was made with it.
     fn receipt(&self, reply: &Reply, change: Option<Arc<Change>>) -> Receipt<J>
         requires last { ForSome (option_map arc_value change) (λ e. EndsIn (log_in (world_book self.now)) e
             × (length (log_in (world_book self.now)) ≤ length (flat self.now.acked))) }
@@ -161,8 +161,8 @@ impl<D: Disk + Drop, J: Chapter, R: Wait + Drop> Book<D, J, R> {
         }
     }
 
-    // The receipt of a reply in a group that was answered just now, behind which the history has so many changes, and of the change that
-    // was kept with it.
+    // The receipt of a reply in a group that was just answered, with the change that was kept with it. After this reply the history has
+    // `seq` changes.
     fn receipt_at(&self, seq: usize, reply: &Reply, change: Option<Arc<Change>>) -> Receipt<J>
         requires calm { self.now.pending ≡ [] }
         requires within { seq ≤ length (log_in (world_book self.now)) }
@@ -178,7 +178,7 @@ impl<D: Disk + Drop, J: Chapter, R: Wait + Drop> Book<D, J, R> {
         }
     }
 
-    // The replies to a group that was answered just now, with their receipts: behind so many changes, of which the others are given.
+    // The replies to a group that was just answered, with their receipts. `before` changes came before the group, `given` are its own.
     fn pair(
         &self,
         before: usize,
@@ -195,7 +195,7 @@ impl<D: Disk + Drop, J: Chapter, R: Wait + Drop> Book<D, J, R> {
         requires shown { AllByRecursion (λ r. ShownFits r self.now.shown (length (log_in (world_book self.now)))) replies.items }
         ensures { result.items ≡ paired (log_in (world_book self.now)) before replies.items (map arc_value given.items) }
     {
-        // looked at, so that what a Book keeps is known here
+        // reading a field makes the Book's invariant known here
         let _ = &self.core;
         let mut given = given.into_iter();
         let mut seq = before;
@@ -208,9 +208,9 @@ impl<D: Disk + Drop, J: Chapter, R: Wait + Drop> Book<D, J, R> {
         answers
     }
 
-    /// Whether the history has at least as many changes as the receipt's number says, and under this number the receipt's change, where it
-    /// has one. So it is for each receipt of this opening, while the Book lay under its lock and afterwards. Only the number is compared: that
-    /// the history begins with what a receipt saw is known of their types. Memory is never refused for it.
+    /// Whether the history has at least as many changes as the receipt's number says, and under this number the receipt's change, if it has
+    /// one. It is true for each receipt of this opening, while the Book is under its lock and afterwards. Only the number is compared: the
+    /// types say already that the history begins with what a receipt saw. It never runs out of memory.
     pub fn confirm(&mut self, receipt: &Receipt<J>) -> bool
         ensures exact { IsTrue result ↔ Confirms (log_in (world_book self.old)) receipt.now }
         ensures yes { IsTrue result }
@@ -221,8 +221,8 @@ impl<D: Disk + Drop, J: Chapter, R: Wait + Drop> Book<D, J, R> {
         receipt.seq <= self.log.len()
     }
 
-    /// The history begins with all that a seer of this opening saw and with all that it learnt, and all of this is acknowledged. So it is for
-    /// each seer at any time, while the Book lay under its lock and afterwards: this is known of their types, and nothing is compared.
+    /// The history begins with all that a seer of this opening saw and with all that it learnt, and all of this is acknowledged. This holds
+    /// for each seer at any time, while the Book is under its lock and afterwards: the types say so, and nothing is compared.
     pub fn covers(&mut self, seer: &Seer<J>)
         ensures seen { IsPrefix seer.now.seen (log_in (world_book self.old)) }
         ensures learnt { IsPrefix seer.now.learnt (log_in (world_book self.old)) }
@@ -234,7 +234,7 @@ impl<D: Disk + Drop, J: Chapter, R: Wait + Drop> Book<D, J, R> {
         self.contains(&seer.learnt());
     }
 
-    // It begins with each front of its history, of which no more was acknowledged.
+    // The history begins with each of its fronts, and has at least as many acknowledged changes.
     fn contains(&mut self, front: &Front<J>)
         ensures begins { IsPrefix front.now.front (log_in (world_book self.old)) }
         ensures acked { front.now.acked ≤ length (flat self.old.acked) }

@@ -1,4 +1,4 @@
--- The values of the types that hold memory.
+-- Changes as contracts see them, from the types that hold memory.
 use Rattle.pf_core.specs.{declared.{durable.change.ChangeKind.ChangeKind, durable.change.ChangeKind.TheVariants.Commit, durable.change.ChangeKind.TheVariants.Add, durable.change.ChangeKind.TheVariants.Delete, durable.change.ChangeKind.TheVariants.Set, durable.change.ChangeKind.TheVariants.States, durable.change.ChangeKind.TheVariants.Remove}, Durable.Changes.{PlainChange, commits, adds, deletes, sets, acts, removes}}
 
 abbrev pub change_of : ChangeKind → PlainChange

@@ -1,5 +1,5 @@
--- What is kept, what a change does to it (pf(4), DIOCXCOMMIT and DIOCRADDADDRS to DIOCRSETADDRS), and what it says of a packet
--- (pf.conf(5), PACKET FILTERING, ANCHORS and TABLES). That an empty table doesn't exist, how a peer's states act, and the limits, are own.
+-- What is kept, what a change does to it (pf(4), DIOCXCOMMIT and DIOCRADDADDRS to DIOCRSETADDRS), and what it says of a packet (pf.conf(5),
+-- PACKET FILTERING, ANCHORS and TABLES). That an empty table doesn't exist, how a peer's states act, and the limits are this project's own.
 use Rattle.std.specs.{Prelude.{ℕ, ◌==◌, ◌&&◌, Bool, true, not, List, [], ◌∷◌, ◌++◌, fold, length, map, nat_lt, Option, Result, Ok}, FinMap.is_sorted, List.{list_any, position}, Option.{option_map_or, option_or}}
 use Rattle.pf_addr.specs.{Refusing.{and_then, unless, refused_at}, Path.Names.name_order, Path.Paths.same_path}
 use Rattle.pf_rule.specs.{Packets.PlainPacket, Sum.Forms.ruleset_sum}
@@ -32,14 +32,14 @@ sum_of c = ruleset_sum (rules_at [] c.rulesets)
 abbrev pub main_sum : PlainDurable → List ℕ
 main_sum d = sum_of d.config
 
--- the entries of the table at a path under a name, and none where there is no table
+-- the entries of the table at a path and name, none if there is no table
 abbrev pub entries_at : PlainDurable → List ℕ → List ℕ → List PlainEntry
 entries_at d p name = table_at p name d.config.tables
 
 -- ---- changes
 
--- A change: what a commit replaces, in the command's order; or entries, as handed in, that are added to the table at a path under a name,
--- deleted from it, or take its place; or steps that act on the states, in order, those that change nothing too; or the state of a name
+-- A change: what a commit replaces, in the command's order; or entries, as handed in, that are added to the table at a path and name,
+-- deleted from it, or replace its own; or steps that act on the states, in order, also those that change nothing; or the name of a state
 -- that is taken out.
 pub data PlainChange : Type 0 where
   commits : List Item → PlainChange
@@ -55,7 +55,7 @@ rulesets_in [] = []
 rulesets_in (item.Rules r ∷ items) = r ∷ rulesets_in items
 rulesets_in (item.Tables p named ∷ items) = rulesets_in items
 
--- the main ruleset is among these
+-- whether the main ruleset is among these
 abbrev pub replaces_main : List PlainPlaced → Bool
 replaces_main rulesets = list_any (λ r. same_path r.0 []) rulesets
 
@@ -63,7 +63,7 @@ replaces_main rulesets = list_any (λ r. same_path r.0 []) rulesets
 abbrev pub placed : List ℕ → List PlainDefinedTable → List PlainPlacedTable
 placed p named = map (λ t. placed_table p t.0 t.1) named
 
--- and the tables: of each table ruleset those that were defined
+-- the tables among what a commit replaces: of each table ruleset those that were defined
 abbrev pub tables_in : List Item → List PlainPlacedTable
 tables_in [] = []
 tables_in (item.Rules r ∷ items) = tables_in items
@@ -71,7 +71,7 @@ tables_in (item.Tables p named ∷ items) = placed p named ++ tables_in items
 
 -- ---- what a change leaves
 
--- with these entries in one table, or without the table where there are none
+-- with these entries in one table, or without the table if there are none
 abbrev pub with_entries : PlainDurable → List ℕ → List ℕ → List PlainEntry → PlainDurable
 with_entries d p name es = durable_with d.epoch (with_tables d.config (placed_table p name es ∷ [])) d.states
 
@@ -111,7 +111,7 @@ voided_by (removes name) = []
 
 -- ---- which changes fit
 
--- no network stands in the list with both signs
+-- a list that names no network with both signs
 abbrev pub no_conflict : List PlainEntry → Result (Unit {0}) ChangeRefusal
 no_conflict xs = refused_at (λ i. Conflict i) (conflict_in xs)
 
@@ -128,11 +128,11 @@ named_again items = option_or (twice_behind [] (map name_of items)) (position (�
 abbrev pub holdable : List PlainEntry → Result (Unit {0}) ChangeRefusal
 holdable es = unless (nat_lt TABLE_LIMIT (length es)) TableFull
 
--- a table that isn't there yet is one more
+-- a table that isn't there yet adds one
 abbrev pub is_one_more : List PlainEntry → List PlainEntry → Bool
 is_one_more old new = (length old == 0) && not (length new == 0)
 
--- it isn't made where there would be too many with it
+-- it isn't made if there would be too many with it
 abbrev pub room_for_table : PlainDurable → List ℕ → List ℕ → List PlainEntry → Result (Unit {0}) ChangeRefusal
 room_for_table d p name new = unless (is_one_more (entries_at d p name) new
     && nat_lt TABLE_COUNT_LIMIT (length (with_entries d p name new).config.tables)) TooManyTables
@@ -146,8 +146,8 @@ abbrev pub few : PlainConfig → Result (Unit {0}) ChangeRefusal
 few c = and_then (unless (nat_lt RULESET_LIMIT (length c.rulesets)) TooManyRulesets)
     (unless (nat_lt TABLE_COUNT_LIMIT (length c.tables)) TooManyTables)
 
--- Why a change isn't made, where there is a cause. A commit names nothing twice, and its limits are counted once it is whole, those of
--- states behind each step. To delete entries or a state no limit is asked.
+-- Why a change isn't made, if there is a reason. A commit names nothing twice, and its limits are counted after all of it, those of states
+-- after each step. Deleting entries or a state is bound by no limit.
 abbrev pub fits : PlainDurable → PlainChange → Result (Unit {0}) ChangeRefusal
 fits d (commits items) = and_then (refused_at (λ i. Twice i) (named_again items)) (few (applied d (commits items)).config)
 fits d (adds p name xs) = and_then (no_conflict xs) (replaceable d p name (added (entries_at d p name) xs))
@@ -156,7 +156,7 @@ fits d (sets p name xs) = and_then (no_conflict xs) (replaceable d p name (repla
 fits d (acts steps) = unless (passes_limit d.states steps) StatesFull
 fits d (removes name) = Ok tt
 
--- what a change leaves, where it fits
+-- what a change leaves, if it fits
 abbrev pub changed : PlainDurable → PlainChange → Result PlainDurable ChangeRefusal
 changed d e = and_then (fits d e) (Ok (applied d e))
 

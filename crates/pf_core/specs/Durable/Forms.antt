@@ -3,7 +3,7 @@
 --   the epoch in four bytes
 --   the rulesets: their number in four bytes, and each
 --   the tables: their number in four bytes, and each
---   the states: their number in four bytes, and each state, in the order of their names; no two have one flow
+--   the states: their number in four bytes, and each state, in the order of their names; no two have the same flow
 use Rattle.std.specs.Prelude.{ℕ, map}
 use Rattle.pf_form.specs.Bytes.Forms.{Shape, nat, both, list, Value, Form, number, pair, length_of}
 use Rattle.pf_anchor.specs.Forms.{RulesShape, rulesets_form, plain_ruled, ruled_in, PlacedShape, kept_tables_form, plain_tabled, tabled_in, configured}

@@ -1,4 +1,4 @@
--- What is told where a table or the states refuse.
+-- What is answered if a table or the states refuse.
 use Rattle.pf_core.specs.declared.durable.refusal.ChangeRefusal.{ChangeRefusal}
 use Rattle.pf_core.specs.declared.durable.refusal.ChangeRefusal.TheVariants as told
 use Rattle.pf_state.specs.declared.refusal.StatesRefusal.{StatesRefusal}

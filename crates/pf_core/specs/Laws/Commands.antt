@@ -1,4 +1,4 @@
--- What follows from the definitions, as law functions promise it.
+-- What follows from the definitions; the contracts of law functions say that it holds.
 use Rattle.std.specs.{Prelude.{◌≡◌, ℕ, T, true, false, List, [], ◌∷◌, map, unwrap_or, None, Ok}, FinMap.{find, is_sorted}, List.list_all}
 use Rattle.pf_addr.specs.Path.Names.{name_order}
 use Rattle.pf_anchor.specs.Rulesets.{rules_at}
@@ -11,7 +11,7 @@ use Rattle.pf_core.specs.{declared.{command.Command.Command, command.StateComman
 abbrev pub tables_offered : PlainTickets → List ℕ → List PlainDefinedTable
 tables_offered t p = offered_tables (content t (table_ruleset_at p))
 
--- each table ruleset that is named has of each table what was offered for it, and the others that it had
+-- each table ruleset that is named has each table that was offered for it, and keeps its others
 pub record AreTablesSwitched (t : PlainTickets) (entries : List RulesetTicket) (old new : PlainDurable) : Type 0 where
   pub defined : (p name : List ℕ) → is_named (names_of entries) (table_ruleset_at p) ≡ true →
       T (is_sorted name_order (tables_offered t p)) →
@@ -19,7 +19,7 @@ pub record AreTablesSwitched (t : PlainTickets) (entries : List RulesetTicket) (
   pub undefined : (p name : List ℕ) → find name_order name (tables_offered t p) ≡ None → entries_at new p name ≡ entries_at old p name
   pub others : (p name : List ℕ) → is_named (names_of entries) (table_ruleset_at p) ≡ false → entries_at new p name ≡ entries_at old p name
 
--- each ruleset that is named has what was offered for it, and all others have what they had
+-- each ruleset that is named has what was offered for it, and all others keep what they had
 pub record AreSwitched (t : PlainTickets) (entries : List RulesetTicket) (old new : PlainDurable) : Type 0 where
   pub named : (p : List ℕ) → is_named (names_of entries) (filter_at p) ≡ true →
       rules_at p new.config.rulesets ≡ offered_rules (content t (filter_at p))
@@ -27,7 +27,7 @@ pub record AreSwitched (t : PlainTickets) (entries : List RulesetTicket) (old ne
       rules_at q new.config.rulesets ≡ rules_at q old.config.rulesets
   pub tables : AreTablesSwitched t entries old new
 
--- a commit that isn't refused switches all rulesets that it names, and no other
+-- a commit that isn't refused switches all rulesets that it names, and no others
 abbrev pub SwitchesAll : Type 0
 SwitchesAll = (t : PlainTickets) (d : PlainDurable) (entries : List RulesetTicket) (e : PlainChange) (o : Outcome) →
     step_by t d (Transact (Commit entries)) ≡ Ok (Wants e o) → AreSwitched t entries d (applied d e)
@@ -39,7 +39,7 @@ pub record LeaveTheOtherKind : Type 0 where
   pub rulesets : (t : PlainTickets) (d : PlainDurable) (entries : List RulesetTicket) → list_all (λ e. same_kind e.name.kind Table) entries ≡ true →
       (applied d (commits (items (content t) entries))).config.rulesets ≡ d.config.rulesets
 
--- what is wanted fits, and so it can be prepared
+-- what is wanted fits, so it can be prepared
 abbrev pub WantsWhatFits : Type 0
 WantsWhatFits = (t : PlainTickets) (d : PlainDurable) (c : Command) (e : PlainChange) (o : Outcome) → step_by t d c ≡ Ok (Wants e o) → fits d e ≡ Ok tt
 
@@ -58,7 +58,7 @@ abbrev pub LeavesTheOthers : Type 0
 LeavesTheOthers = (t : PlainTickets) (c : Call) (name : RulesetName) → is_named (named_by c.command) name ≡ false →
     offer_at (after t (mentions_of c)).offers name ≡ offer_at t.offers name
 
--- a command mentions exactly the rulesets that it names, in their order
+-- a command mentions exactly the rulesets that it names, in order
 abbrev pub MentionsTheNamed : Type 0
 MentionsTheNamed = (c : Command) → map named_in (mentioned c) ≡ named_by c
 
@@ -66,7 +66,7 @@ MentionsTheNamed = (c : Command) → map named_in (mentioned c) ≡ named_by c
 abbrev pub RefusedMentionNothing : Type 0
 RefusedMentionNothing = (c : Command) (e : Refusal) → mentions_of (call c (Refused e)) ≡ []
 
--- A packet that is tracked makes one state, and it is new: its flow is no state's, and its name was free.
+-- A packet that is tracked with a change makes one state, which is new: its flow is no other state's, and its name was free.
 pub record MakesOne (d : PlainDurable) (e : PlainChange) : Type 0 where
   pub state : PlainState
   pub change : e ≡ acts (Insert state ∷ [])

@@ -1,4 +1,4 @@
--- What follows from the definitions, as law functions promise it.
+-- What follows from the definitions; the contracts of law functions say that it holds.
 use Rattle.std.specs.{Prelude.{◌≡◌, ◌≢◌, ◌⊎◌, ℕ, ◌≤◌, List, [], length, Ok}, List.AllByRecursion}
 use Rattle.pf_table.specs.{Edits.{added, deleted, replaced}, Entries.PlainEntry, Tables.AreEntries}
 use Rattle.pf_map.specs.ListMaps.{list_by}
@@ -21,7 +21,7 @@ ReplacesExactly = (d : PlainDurable) (items : List Item) → IsConfiguration d.c
 
 -- ---- edits of tables
 
--- the table at this path under this name has these entries, and all else is as before
+-- the table at this path and name has these entries, and all else is as before
 pub record IsEdited (d : PlainDurable) (p name : List ℕ) (es : List PlainEntry) (new : PlainDurable) : Type 0 where
   pub epoch : new.epoch ≡ d.epoch
   pub rulesets : new.config.rulesets ≡ d.config.rulesets
@@ -30,17 +30,17 @@ pub record IsEdited (d : PlainDurable) (p name : List ℕ) (es : List PlainEntry
   pub others : (q other : List ℕ) → (p ≢ q) ⊎ (name ≢ other) → entries_at new q other ≡ entries_at d q other
   pub map : IsTableMap d.config.tables → IsTableMap new.config.tables
 
--- an edit changes exactly the table at its path under its name
+-- an edit changes exactly the table at its path and name
 pub record EditsExactly : Type 0 where
   pub by_add : (d : PlainDurable) (p name : List ℕ) (xs : List PlainEntry) →
       IsEdited d p name (added (entries_at d p name) xs) (applied d (adds p name xs))
   pub by_delete : (d : PlainDurable) (p name : List ℕ) (xs : List PlainEntry) →
       IsEdited d p name (deleted (entries_at d p name) xs) (applied d (deletes p name xs))
   pub by_set : (d : PlainDurable) (p name : List ℕ) (xs : List PlainEntry) → IsEdited d p name (replaced xs) (applied d (sets p name xs))
-  -- so a table that is killed is there no more
+  -- so a table that is killed is gone
   pub by_kill : (d : PlainDurable) (p name : List ℕ) → IsEdited d p name [] (applied d (sets p name []))
 
--- to delete entries from a table that isn't there makes none
+-- deleting entries from a table that isn't there doesn't make one
 abbrev pub DeletesNothing : Type 0
 DeletesNothing = (d : PlainDurable) (p name : List ℕ) (xs : List PlainEntry) → entries_at d p name ≡ [] →
     entries_at (applied d (deletes p name xs)) p name ≡ []
@@ -53,14 +53,14 @@ pub record IsStepped (d : PlainDurable) (ss : List PlainState) (new : PlainDurab
   pub config : new.config ≡ d.config
   pub states : new.states ≡ ss
 
--- a change of states changes states alone
+-- a change of states changes nothing else
 pub record StepsExactly : Type 0 where
   pub by_steps : (d : PlainDurable) (steps : List Step) → IsStepped d (stepped_on d.states steps) (applied d (acts steps))
   pub by_removal : (d : PlainDurable) (name : StateName) → IsStepped d (without_state d.states name) (applied d (removes name))
 
 -- ---- limits
 
--- what is kept is a configuration, tables and states in which nothing stands twice, all within the limits
+-- what is kept is a configuration, tables and states with nothing there twice, all within the limits
 pub record IsWithin (d : PlainDurable) : Type 0 where
   pub maps : IsConfiguration d.config
   pub rulesets : length d.config.rulesets ≤ RULESET_LIMIT
@@ -69,7 +69,7 @@ pub record IsWithin (d : PlainDurable) : Type 0 where
   pub entries : (p name : List ℕ) → AreEntries (entries_at d p name)
   pub states : IsStates d.states
 
--- what a commit replaces is so long, and in order
+-- what a commit replaces is within the limits, and in order
 pub record AreFew (items : List Item) : Type 0 where
   pub rules : AllByRecursion (λ r. length r.1 ≤ RULE_LIMIT) (rulesets_in items)
   pub entries : AllByRecursion (λ t. AreEntries t.1) (tables_in items)

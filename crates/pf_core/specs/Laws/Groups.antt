@@ -1,12 +1,12 @@
--- What a group of commands comes to, beside the same commands one by one.
+-- What a group of commands comes to, compared with the same commands one by one.
 use Rattle.std.specs.{Prelude.{◌≡◌, Bool, true, false, not, List, [], ◌∷◌, ◌++◌}, List.AllByRecursion}
 use Rattle.pf_core.specs.{declared.{command.Command.Command, reply.Refusal.Refusal, reply.Refusal.TheVariants.HistoryFull, reply.Refusal.TheVariants.Full, reply.Reply.Reply, reply.Reply.TheVariants.Answer, reply.Reply.TheVariants.Applied, reply.Reply.TheVariants.Stored, reply.Reply.TheVariants.Refused}, Calls.call, Commands.may_be_grouped, Worlds.{CurrentOpening, flat, due, amid, changes_due, replies_due, upshot, heard, shown_by}}
 
--- the opening once a command got the reply that it is due
+-- the opening after a command got the reply that it is due
 abbrev pub heard_due : CurrentOpening → Command → CurrentOpening
 heard_due h c = heard h (call c (due h c)) (upshot (shown_by (due h c) h.shown) false)
 
--- the replies that commands are due one by one, each as a call of its own, and the opening behind them
+-- the replies that commands are due one by one, each as a call of its own, and the opening after them
 abbrev pub dues_one_by_one : CurrentOpening → List Command → List Reply
 dues_one_by_one h [] = []
 dues_one_by_one h (c ∷ commands) = due h c ∷ dues_one_by_one (heard_due h c) commands

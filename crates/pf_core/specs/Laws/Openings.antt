@@ -22,7 +22,7 @@ RaisesTheEpoch = (first : PlainDurable) (world : List Event) (setting : Setting)
 
 -- ---- what is kept
 
--- what is kept are groups that were offered, each of them whole, in order and once
+-- what is kept are groups that were offered, each whole, in order and at most once
 abbrev pub KeepsWhole : Type 0
 KeepsWhole = (first : PlainDurable) (world : List Event) → IsWorld first world → AreAmong (history (down first) world) (offered (down first) world)
 
@@ -44,7 +44,7 @@ KeepsAcknowledged = (first : PlainDurable) (world later : List Event) → IsWorl
     IsFrontOf (acknowledged (down first) world) (history (down first) (world ++ later))
 
 -- What an opening gives after a world and what came later: but for its epoch the fold of all groups that were kept, which are whole groups
--- that were offered, in order and each once, and begin with those that the first part acknowledged.
+-- that were offered, in order and each at most once, and begin with those that the first part acknowledged.
 pub record IsGiven (first : PlainDurable) (world later : List Event) (given : PlainDurable) : Type 0 where
   pub fold : IsButForEpoch given (after first (flat (history (down first) (world ++ later))))
   pub whole : AreAmong (history (down first) (world ++ later)) (offered (down first) (world ++ later))
@@ -57,17 +57,17 @@ GivesAllThatWasKept = (first : PlainDurable) (world later : List Event) (setting
 
 -- ---- what is seen and learnt
 
--- the changes that a worker sees who sees the first n of the opening that a world comes to: with those of all openings before it
+-- the changes that a worker sees who sees the first n of the opening that a world ends in, after those of all earlier openings
 abbrev pub seen : PlainDurable → List Event → ℕ → List PlainChange
 seen first world n = flat (earlier (down first) world) ++ take n (flat (acked_of (state_after (down first) world)))
 
--- By this event, behind a world, a worker saw n changes or learnt of them: they were acknowledged in their opening, and what is kept begins
--- with them, behind those of all openings before, whatever came later.
+-- By this event, after a world, a worker saw n changes or learnt of them: they were acknowledged in their opening, and what is kept begins
+-- with those of all earlier openings and then them, whatever came later.
 pub record IsSeenBy (event : Event) (first : PlainDurable) (world later : List Event) (n : ℕ) : Type 0 where
   pub acknowledged : n ≤ length (flat (acked_of (state_after (down first) world)))
   pub stays : IsFrontOf (seen first world n) (flat (history (down first) (world ++ event ∷ later)))
 
--- the n changes that a worker saw were acknowledged in their opening, and what is kept begins with all that he saw, whatever came later
+-- the n changes that a worker saw were acknowledged in their opening, and what is kept begins with all that it saw, whatever came later
 abbrev pub IsSeen : PlainDurable → (world later : List Event) → (worker n : ℕ) → Type 0
 IsSeen first world later worker n = IsSeenBy (entered worker n) first world later n
 
@@ -75,7 +75,7 @@ abbrev pub KeepsSeen : Type 0
 KeepsSeen = (first : PlainDurable) (world later : List Event) (worker n : ℕ) → IsWorld first (world ++ entered worker n ∷ later) →
     IsSeen first world later worker n
 
--- the same of the n changes that a worker learnt of, whether he ever judges by them or not
+-- the same for the n changes that a worker learnt of, whether it ever judges by them or not
 abbrev pub KeepsLearnt : Type 0
 KeepsLearnt = (first : PlainDurable) (world later : List Event) (worker n : ℕ) → IsWorld first (world ++ learned worker n ∷ later) →
     IsSeenBy (learned worker n) first world later n

@@ -1,4 +1,4 @@
--- What is wanted, and what it mentions: lemmas, for the crates above too.
+-- What is wanted, and what it mentions: lemmas, also for the crates above.
 use Rattle.std.specs.Prelude.{◌≡◌, ℕ, ◌==◌, ◌&&◌, Bool, true, false, if◌then◌else◌, not, is_some, List, [], ◌∷◌, length, map, nat_lt, Option, Some, None, Result, Ok, Err}
 use Rattle.std.proofs.Common.{refl, sym, ap, subst, ◌∙◌}
 use Rattle.pf_addr.specs.Refusing.{unless}
@@ -94,7 +94,7 @@ false-then : (b c : Bool) → ((b && false) && c) ≡ false
 false-then true c = refl
 false-then false c = refl
 
--- to kill a table fits
+-- killing a table fits
 kill-fits : (d : PlainDurable) (p name : List ℕ) → fits d (sets p name []) ≡ Ok tt
 unfolding conflict_behind added
 kill-fits d p name = ap (λ (b : Bool). unless b TooManyTables) (false-then (length (entries_at d p name) == 0) (nat_lt TABLE_COUNT_LIMIT (length (with_entries d p name []).config.tables)))
@@ -200,7 +200,7 @@ wants t d (OfStates c) e o h =
 wants t d (Ask q) e o h = absurd (cc (h))
 wants t d (History c) e o h = absurd (cc (h))
 
--- ---- what wants a change comes to nothing else
+-- ---- what wants a change is nothing else
 
 abbrev pub IsNoChange : Step → Type 0
 IsNoChange s = (e : PlainChange) (o : Outcome) → Wants e o ≡ s → ⊥
@@ -254,7 +254,7 @@ never-stated d (Track name packet) x h = never-judged d name packet (verdict d p
 never-stated d (Peer m) x h = never-wanted (fits d (acts (steps_here d m))) (acts (steps_here d m)) (outcome.Peered (counts d.states (steps_here d m))) (OfHistory x) (history-is-none x) h
 never-stated d (KillState name) x h = never-there (is_some (held_at name d.states)) (removes name) outcome.Killed (OfHistory x) (history-is-none x) h
 
--- is what the history is asked
+-- it is what the history is asked
 pub left_is : (t : PlainTickets) (d : PlainDurable) (c : Command) (x : HistoryCommand) → step_by t d c ≡ Ok (OfHistory x) → c ≡ History x
 left_is t d (Transact (Begin names)) x h = absurd (never-left (begin_reply t names) (λ range. answer.Given range) x h)
 left_is t d (Transact (Add p u r)) x h = absurd (never-left (add_reply t (filter_at p) u) (λ _. answer.Done) x h)

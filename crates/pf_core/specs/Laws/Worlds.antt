@@ -32,17 +32,17 @@ mentions_by ms e = ms
 abbrev pub mentions_since : List Event → List Mention
 mentions_since world = fold mentions_by [] world
 
--- the transactions of the opening that a world comes to are what the mentions since it leave
+-- the transactions of the opening that a world ends in are what the mentions since it leave
 abbrev pub TicketsAreOfTheCalls : Type 0
 TicketsAreOfTheCalls = (first : PlainDurable) (world : List Event) (h : CurrentOpening) → IsWorld first world → state_after (down first) world ≡ up h →
     h.tickets ≡ left_by h.base.epoch (mentions_since world)
 
--- tickets are numbered from 1 on, and so none is given twice
+-- tickets are numbered from 1 on, so none is given twice
 pub record AreGivenOnce (epoch : ℕ) (ts : List Ticket) : Type 0 where
   pub numbered : ts ≡ tickets_from epoch 1 (length ts)
   pub once : AreOnce ts
 
--- of the opening that a world comes to
+-- so it is in the opening that a world ends in
 abbrev pub GivesEachOnce : Type 0
 GivesEachOnce = (first : PlainDurable) (world : List Event) (h : CurrentOpening) → IsWorld first world → state_after (down first) world ≡ up h →
     AreGivenOnce h.base.epoch (tickets_since world)
@@ -59,7 +59,7 @@ abbrev pub KeepsTheLimits : Type 0
 KeepsTheLimits = (first : PlainDurable) (world : List Event) (h : CurrentOpening) → IsWithin first → IsWorld first world →
     state_after (down first) world ≡ up h → AreWithin h
 
--- where the tickets of a commit are valid it names nothing twice, and is refused for limits alone
+-- if the tickets of a commit are valid, it names nothing twice, and is refused only for limits
 abbrev pub CommitsNameOnce : Type 0
 CommitsNameOnce = (first : PlainDurable) (world : List Event) (h : CurrentOpening) → IsWorld first world → state_after (down first) world ≡ up h →
     (entries : List RulesetTicket) → commit_check h.tickets entries ≡ Ok tt → named_again (items (content h.tickets) entries) ≡ None
@@ -86,12 +86,12 @@ hidden_by hidden (called_group commands result t) = fold hides hidden (replies_i
 hidden_by hidden (opened setting) = false
 hidden_by hidden e = hidden
 
--- whether a change was answered `Stored` since the opening, and all was not shown since
+-- whether a change was answered `Stored` since the opening, and not all was shown since
 abbrev pub hidden_since : List Event → Bool
 hidden_since world = fold hidden_by false world
 
--- No change is shown that wasn't acknowledged, and every one is that was, but where some were stored and not shown since. One group at
--- most isn't acknowledged, and none where the device didn't fail.
+-- No change is shown that wasn't acknowledged, and all that were are shown, unless some were stored and not shown since. At most one group
+-- isn't acknowledged, and none if the device didn't fail.
 pub record AllIsShown (world : List Event) (h : CurrentOpening) : Type 0 where
   pub within : h.shown ≤ length (flat h.acked)
   pub all : hidden_since world ≡ false → h.shown ≡ length (flat h.acked)
@@ -103,8 +103,8 @@ ShowsAll = (first : PlainDurable) (world : List Event) (h : CurrentOpening) → 
 
 -- ---- answers
 
--- A test is told the entry that decides in the table at that path under that name: the one that contains the address and whose network
--- is the most specific of those that do; none where none contains it.
+-- The answer to a test is the entry that decides in the table at that path and name: the one that contains the address and whose network is
+-- the most specific of those that do; none if none contains it.
 pub record TellsTheEntry (h : CurrentOpening) (p name : List ℕ) (a : Addr) : Type 0 where
   pub told : (r : Reply) (failed : Bool) → LegalReply h (Ask (Test p name a)) r failed →
       r ≡ Answered (answer.Tested (deciding (entries_at (durable_of h) p name) a))
@@ -115,14 +115,14 @@ TestsTellTheEntry = (first : PlainDurable) (world : List Event) (h : CurrentOpen
     state_after (down first) world ≡ up h →
     (p name : List ℕ) (a : Addr) → TellsTheEntry h p name a
 
--- the one state of its flow decides about a packet, and where there is none the rules do
+-- the one state of its flow decides about a packet, and without one the rules do
 pub record IsDecided (d : PlainDurable) (packet : PlainPacket) : Type 0 where
   pub by_state : (s : PlainState) → IsStateOf d.states (flow_of packet) s → verdict d packet ≡ Stateful s.0
   pub one : (s t : PlainState) → IsStateOf d.states (flow_of packet) s → IsStateOf d.states (flow_of packet) t → s ≡ t
   pub by_rules : ((s : PlainState) → IsStateOf d.states (flow_of packet) s → ⊥) → verdict d packet ≡ ByRules (judged d.config packet)
   -- of rules that all decide the last one that matches, or the first quick one
   pub last : list_all decides (rules_at main d.config.rulesets) ≡ true → IsToldOfMain d.config packet
-  -- an anchor rule leads to the rulesets that there are, in their order
+  -- an anchor rule leads to the rulesets that are there, in order
   pub leads : (p : List ℕ) (s : PlainReference) → LeadsThere d.config.rulesets p s
 
 pub record TellsTheVerdict (h : CurrentOpening) (packet : PlainPacket) : Type 0 where

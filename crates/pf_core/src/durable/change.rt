@@ -14,7 +14,7 @@ use std::marker::Model;
 /// What a commit replaces.
 #[derive(Drop)]
 pub enum Item {
-    /// The rules at a path, by these.
+    /// The rules at a path, replaced by these.
     Rules(Placed),
     /// Of the tables at a path those that were defined, in the order of their names.
     Tables { path: Path, tables: Defined },
@@ -23,33 +23,33 @@ pub enum Item {
 /// What a change keeps, by its kind.
 #[derive(Drop)]
 pub enum ChangeKind {
-    /// What is replaced, whole, in the order of the commit's entries.
+    /// What is replaced, each whole, in the order of the commit's entries.
     Commit(Vec<Item>),
-    /// Entries as handed in, that are added to a table.
+    /// Entries, as handed in, that are added to a table.
     Add {
         path: Path,
         name: TableName,
         entries: EntryList,
     },
-    /// Entries as handed in, that are deleted from a table.
+    /// Entries, as handed in, that are deleted from a table.
     Delete {
         path: Path,
         name: TableName,
         entries: EntryList,
     },
-    /// Entries as handed in, that take the place of a table's.
+    /// Entries, as handed in, that replace a table's.
     Set {
         path: Path,
         name: TableName,
         entries: EntryList,
     },
-    /// Steps that act on the states, those that change nothing too.
+    /// Steps that act on the states, also those that change nothing.
     States(StepList),
     /// The removal of one state.
     Remove(StateName),
 }
 
-/// What is to be kept. Contracts see it as an `PlainChange`.
+/// What is to be kept. Contracts see it as a `PlainChange`.
 #[derive(Drop)]
 pub struct Change {
     pub(crate) kind: ChangeKind,
@@ -101,7 +101,7 @@ impl Change {
         }
     }
 
-    /// Entries that take the place of a table's.
+    /// Entries that replace a table's.
     pub fn set(path: Path, name: TableName, entries: EntryList) -> Change
         ensures { result ≡ sets path name entries }
     {
@@ -123,7 +123,7 @@ impl Change {
         }
     }
 
-    /// The removal of the state of a name.
+    /// The removal of the state of this name.
     pub fn remove(name: StateName) -> Change
         ensures { result ≡ removes name }
     {
@@ -139,7 +139,7 @@ impl Change {
         &self.kind
     }
 
-    /// The rulesets whose tickets the change voids: those that a commit replaces, in its order. `AllocError`: nothing is made.
+    /// The rulesets whose tickets the change voids: those that a commit replaces, in order. `AllocError`: nothing is made.
     pub fn voided(&self, alloc: Global) -> Result<Vec<RulesetName>, AllocError>
         ensures { IfOk result (λ v. v.items ≡ voided_by self.now) }
     {

@@ -31,7 +31,7 @@ pub struct Durable {
     epoch: u32,
     config: Arc<Config>,
     states: Arc<StateTable>,
-    // the checksum of the main rules, so that it isn't computed for each message of a peer
+    // the checksum of the main rules, kept so that it isn't computed for each message of a peer
     sum: [u8; 16],
 }
 
@@ -86,7 +86,7 @@ fn check_names(alloc: Global, items: &[Item]) -> Result<(), ChangeRefusal>
     }
 }
 
-// Puts tables at a path behind the others, shared.
+// Appends the tables at a path, shared.
 fn push_placed(
     alloc: Global,
     found: &mut Vec<PlacedTable>,
@@ -103,7 +103,7 @@ fn push_placed(
     Ok(())
 }
 
-// The tables that are replaced, shared. No item names one twice: what is defined stands in the order of its names.
+// The tables that are replaced, shared. No item names one twice: defined tables are in the order of their names.
 fn tables_in(alloc: Global, items: &[Item]) -> Result<Vec<PlacedTable>, AllocError>
     ensures value { IfOk result (λ v. v.items ≡ tables_in items.now) }
     ensures order { IfOk result (λ v. list_all is_in_order items.now ≡ true) }
@@ -184,8 +184,8 @@ impl Durable {
         4 + self.config.byte_length() + states_length(&self.states) as u128
     }
 
-    /// What happens to a packet: the state of its flow passes it; without one the rule decides that the evaluation of the main
-    /// ruleset finds, there or in an anchor, or the packet passes. It takes no memory.
+    /// What happens to a packet: the state of its flow passes it; without one the rule decides that the evaluation of the main ruleset
+    /// finds, there or in an anchor, else the packet passes. It takes no memory.
     pub fn verdict(&self, packet: &Packet) -> Verdict
         ensures { result ≡ verdict self.now packet.now }
     {
@@ -195,7 +195,7 @@ impl Durable {
         }
     }
 
-    /// The entry that decides on an address, of the table at exactly this path under this name. It takes no memory.
+    /// The entry that decides on an address, of the table at exactly this path and name. It takes no memory.
     #[tactic(auto, unfolding(pf_table::specs::Tables::deciding))]
     pub fn lookup(&self, path: &Path, name: &TableName, address: Addr) -> Option<Entry>
         ensures { result ≡ deciding (entries_at self.now path.now name.now) address }
@@ -203,7 +203,7 @@ impl Durable {
         self.config.table_at(path, name)?.lookup(address)
     }
 
-    // The table at a path under a name, shared, and an empty one where there is none.
+    // The table at a path and name, shared; an empty one if there is none.
     fn table(&self, path: &Path, name: &TableName) -> Result<Table, AllocError>
         ensures { IfOk result (λ t. t ≡ entries_at self.now path.now name.now) }
     {
@@ -213,14 +213,14 @@ impl Durable {
         }
     }
 
-    /// Whether there is a table at a path under a name.
+    /// Whether there is a table at a path and name.
     pub fn has_table(&self, path: &Path, name: &TableName) -> bool
         ensures { result ≡ not (length (entries_at self.now path.now name.now) == 0) }
     {
         self.config.table_at(path, name).is_some()
     }
 
-    // Refuses a table where it would be one too many.
+    // Refuses a table that would be one too many.
     fn check_room(
         &self,
         alloc: Global,
@@ -240,8 +240,8 @@ impl Durable {
         Ok(())
     }
 
-    /// The table after entries are added to it, and what became of each. It is refused with `Conflict`, `TableFull` or
-    /// `TooManyTables`, the first that holds.
+    /// The table after entries are added to it, and what became of each. The refusal is the first that holds of `Conflict`, `TableFull` and
+    /// `TooManyTables`; `Memory` may come before.
     pub fn with_added(
         &self,
         alloc: Global,
@@ -259,7 +259,7 @@ impl Durable {
         Ok((table, additions))
     }
 
-    /// The table after entries are deleted from it, and what became of each. It is refused with `Conflict`.
+    /// The table after entries are deleted from it, and what became of each. The refusals are `Conflict` and `Memory`.
     pub fn with_deleted(
         &self,
         alloc: Global,
@@ -276,8 +276,8 @@ impl Durable {
         Ok((table, deletions))
     }
 
-    /// The table that these entries make, in place of the one that is there. It is refused with `Conflict`, `TableFull` or
-    /// `TooManyTables`, the first that holds.
+    /// The table that these entries make, in place of the one that is there. The refusal is the first that holds of `Conflict`, `TableFull`
+    /// and `TooManyTables`; `Memory` may come before.
     pub fn with_set(
         &self,
         alloc: Global,
@@ -294,8 +294,8 @@ impl Durable {
         Ok(table)
     }
 
-    /// Refuses a commit that names a ruleset or a table twice, or else would leave more rulesets than there may be, or else more tables:
-    /// `Twice`, `TooManyRulesets`, `TooManyTables`.
+    /// Refuses a commit that names a ruleset or a table twice, or would leave more rulesets or tables than there may be. The refusal is the
+    /// first that holds of `Twice`, `TooManyRulesets` and `TooManyTables`; `Memory` may come before.
     pub fn check_commit(&self, alloc: Global, items: &[Item]) -> Result<(), ChangeRefusal>
         ensures { OrMemory Memory result (fits self.now (commits items.now)) }
     {
@@ -314,22 +314,22 @@ impl Durable {
         Ok(())
     }
 
-    // The checksum of the main rules once these rulesets were replaced. Where the main one isn't among them it stays, and no rule is
-    // looked at.
+    // The checksum of the main rules after these rulesets were replaced. If the main one isn't among them, it stays, and no rule is looked
+    // at.
     #[tactic(auto, using(crate::proofs::MainRules::stays))]
     fn sum_after(&self, rulesets: &[Placed], after: &Config) -> Result<[u8; 16], AllocError>
         requires { after.now ≡ with_rulesets self.now.config rulesets.now }
         ensures { IfOk result (λ s. s ≡ sum_of after.now) }
     {
         if !replaces_main(rulesets) {
-            // looked at, so that what each value keeps of its checksum is known here
+            // borrowed, so that the invariant of the checksum is known here
             let _ = &self.config;
             return Ok(self.sum);
         }
         Ok(ruleset_sum(after.rules_at(&Path::main())?.as_slice()))
     }
 
-    // What is kept once these items were replaced, which fit.
+    // What is kept after these items, which fit, were replaced.
     pub(crate) fn committed(&self, alloc: Global, items: &[Item]) -> Result<Durable, AllocError>
         ensures { IfOk result (λ d. d ≡ applied self.now (commits items.now)) }
     {
@@ -376,8 +376,8 @@ impl Durable {
         self.with_table(alloc, path, name, Table::empty())
     }
 
-    /// The states after steps in turn, and what became of them. It is refused with `StatesFull` where a step would leave too many;
-    /// `Memory` may come before. What is kept stays as it is.
+    /// The states after steps in turn, and what became of them. The refusal is `StatesFull` if a step would leave too many; `Memory` may
+    /// come before. What is kept stays as it is.
     pub fn with_stepped(
         &self,
         alloc: Global,
@@ -390,7 +390,7 @@ impl Durable {
         Ok(self.states.after_batch(alloc, steps)?)
     }
 
-    // The states without the one of a name.
+    // The states without the one of this name.
     pub(crate) fn without_state(
         &self,
         alloc: Global,
@@ -431,12 +431,12 @@ impl Durable {
         })
     }
 
-    /// What is kept after a change. Rulesets and tables that stay are shared, and no rule is copied; where a change isn't of states
-    /// they are shared too.
+    /// What is kept after a change. Rulesets and tables that stay are shared, and no rule is copied; if a change isn't of states, these are
+    /// shared too.
     ///
-    /// It is refused for the first of these that holds: `Twice`, where a commit names a ruleset or a table twice; `Conflict`, where a list
+    /// The refusal is the first of these that holds: `Twice` for a commit that names a ruleset or a table twice; `Conflict` for a list that
     /// names a network with both signs; `TableFull`; `TooManyRulesets`, `TooManyTables`; `StatesFull`. A change that a command wants of
-    /// this state is never refused for these. Where memory is refused nothing is made.
+    /// this state is never refused for these. Out of memory, nothing is made.
     pub fn apply(&self, alloc: Global, change: &Change) -> Result<Durable, ChangeRefusal>
         ensures { OrMemory Memory result (changed self.now change.now) }
     {

@@ -5,8 +5,8 @@ use pf_table::Entry;
 use std::alloc::{AllocError, Global};
 use std::marker::Model;
 
-/// Entries of a table, any number of them, in the order in which a command names them, each network as often as it is named.
-/// Contracts see the list.
+/// Entries of a table, any number of them, as a command names them: in its order, and with any network as often as it is named. Contracts
+/// see the list.
 #[derive(Drop)]
 pub struct EntryList {
     entries: Vec<Entry>,
@@ -36,7 +36,7 @@ impl EntryList {
         self.entries.as_slice()
     }
 
-    /// The same list. `AllocError`: none is made.
+    /// The same list. `AllocError`: nothing is made.
     pub fn copied(&self, alloc: Global) -> Result<EntryList, AllocError>
         ensures { IfOk result (λ l. l ≡ self.now) }
     {

@@ -10,9 +10,9 @@ use std::alloc::AllocError;
 /// Why a change isn't made. After each of these all is as before.
 #[derive(Clone, Copy, Debug, PartialEq, Eq)]
 pub enum ChangeRefusal {
-    /// The first item of a commit, from 0, that names a ruleset named before it; where none does, the first that names a table twice.
+    /// This item of a commit, from 0, is the first that names a ruleset named before it; if none does, the first that names a table twice.
     Twice { at: usize },
-    /// The first entry of a list, from 0, whose network stands before it with the other sign.
+    /// This entry of a list, from 0, is the first whose network came before it with the other sign.
     Conflict { at: usize },
     /// A table would have more than 65,536 entries.
     TableFull,
@@ -20,9 +20,9 @@ pub enum ChangeRefusal {
     TooManyRulesets,
     /// There would be more than 1,024 tables.
     TooManyTables,
-    /// There would be more than 65,536 states after one of the steps, also where those behind it would leave fewer.
+    /// There would be more than 65,536 states after one of the steps, even if later ones would leave fewer.
     StatesFull,
-    /// A growth of memory was refused.
+    /// Out of memory.
     Memory,
 }
 

@@ -8,6 +8,6 @@ use pf_state::StateName;
 pub enum Verdict {
     /// It passes, since it is of the flow of the state of this name. No rule is evaluated.
     State(StateName),
-    /// The rules say so.
+    /// The rules decide.
     Rules(RuleVerdict),
 }

@@ -10,15 +10,15 @@ use Rattle.pf_core.specs.declared.{command.Command.TheVariants.States, command.S
 use Rattle.pf_line.specs.declared.line.TheConstants.{LINE_LIMIT}
 use Rattle.pf_line.specs.{Lines.{line_at, Means}, Reply.StateTexts.message_line}
 
--- the line that a peer is given for a message
+-- the line that a peer is sent for a message
 abbrev pub message_text : Message → List ℕ
 message_text m = message_line (message_bytes m)
 
--- the lines of an export of these states, where the main rules have this checksum
+-- the lines of an export of these states, if the main rules have this checksum
 abbrev pub exported_lines : List ℕ → List PlainState → List (List ℕ)
 exported_lines current es = map message_text (exported_messages current es)
 
--- a line that is no longer than a line may be, and means to act on this message
+-- a line within the limit, which means to act on this message
 pub record TellsOf (m : Message) (line : List ℕ) : Type 0 where
   pub short : length line ≤ LINE_LIMIT
   pub means : Means (line_at line) (Ok (Some (States (Peer m))))
@@ -30,7 +30,7 @@ pub record CanBeExported (current : List ℕ) (es : List PlainState) : Type 0 wh
   pub table : IsStates es
   pub numbers : Each IsState es
 
--- the line that an export gives for each of its messages tells of that message
+-- the line of each message of an export means to act on that message
 abbrev pub ExportsAreRead : Type 0
 ExportsAreRead = (current : List ℕ) (es : List PlainState) → length current ≡ 16 → IsBytes current → Each IsState es
     → Each (λ m. TellsOf m (message_text m)) (exported_messages current es)
@@ -41,6 +41,6 @@ ExportsAreRead = (current : List ℕ) (es : List PlainState) → length current 
 abbrev pub main_count : PlainDurable → ℕ
 main_count d = length (rules_at [] d.config.rulesets)
 
--- these states of ours, as they are where this is kept: each is bound to its rule only where the checksums agree
+-- these states of ours, as they are where this is kept: each is bound to its rule only if the checksums agree
 abbrev pub states_there : PlainDurable → List ℕ → List PlainState → List PlainState
 states_there d ours es = map (state_there ours (main_sum d) (main_count d)) es

@@ -1,5 +1,5 @@
 -- The text of each reply: one line, before which a shown ruleset has a line for each rule, shown tables and states one for each of them,
--- and an export one for each message. Rules and entries stand as pfctl(8) shows them.
+-- and an export one for each message. Rules and entries are written as pfctl(8) shows them.
 use Rattle.std.specs.Prelude.{ℕ, ◌+◌, ◌==◌, Bool, true, false, List, [], ◌∷◌, ◌++◌, length, map, codes, decimal, if◌then◌else◌, Option, Some, None}
 use Rattle.pf_rule.specs.declared.{rule.Action.Action, rule.Action.TheVariants.{Pass, Block}}
 use Rattle.pf_rule.specs.{Rules.PlainRule, RuleText.rule_text}
@@ -17,7 +17,7 @@ use Rattle.pf_line.specs.{Reply.TextLines.lines_text, Reply.Texts.{tickets_text,
 
 -- ---- verdicts
 
--- where the rule stands, unless it is the main ruleset
+-- where the rule is, unless it is in the main ruleset
 abbrev pub place_text : List ℕ → List ℕ
 place_text path = if length path == 0 then [] else codes " at " ++ path
 
@@ -40,7 +40,7 @@ abbrev pub sign_word : Bool → List ℕ
 sign_word true = codes "nomatch "
 sign_word false = codes "match "
 
--- by the entry that decides, if one does
+-- by the deciding entry, if there is one
 abbrev pub tested_text : Option PlainEntry → List ℕ
 tested_text (Some row) = sign_word row.1 ++ entry_text row
 tested_text None = codes "nomatch"
@@ -62,8 +62,8 @@ answer_text (answers.Logged len acked shown) =
     codes "log " ++ decimal len ++ (codes " acked " ++ decimal acked ++ (codes " shown " ++ decimal shown))
 answer_text (answers.Shown n) = codes "shown " ++ decimal n
 
--- what is told behind a change's number: of an edit what became of the entries, of a message what became of its records, and of a packet
--- that was tracked what happens to it
+-- what comes after a change's number: for an edit what became of the entries, for a message what became of its records, and for a tracked
+-- packet the rules' verdict
 abbrev pub outcome_text : Outcome → List ℕ
 outcome_text outcomes.Committed = []
 outcome_text (outcomes.Added added same conflict) =
@@ -101,7 +101,7 @@ refusal_text refusals.Full = codes "err full"
 refusal_text refusals.Fault = codes "err fault"
 refusal_text refusals.Memory = codes "err memory"
 
--- the last line of a reply, which has no other unless it shows rules, tables, states or messages
+-- the last line of a reply; there is no other unless it shows rules, tables, states or messages
 abbrev pub last_line : Reply → List ℕ
 last_line (replies.Answer a) = answer_text a
 last_line (replies.Applied seq outcome) = codes "applied " ++ decimal seq ++ outcome_text outcome
@@ -110,7 +110,7 @@ last_line (replies.Refused e) = refusal_text e
 
 -- ---- what is shown
 
--- an at sign (64) with the rule's number, and the rule's canonical text behind a space (32)
+-- an at sign (64) with the rule's number, and the rule's canonical text after a space (32)
 abbrev pub rule_line : ℕ → PlainRule → List ℕ
 rule_line n r = 64 ∷ decimal n ++ 32 ∷ rule_text r
 
@@ -119,7 +119,7 @@ abbrev pub rule_lines : ℕ → List PlainRule → List (List ℕ)
 rule_lines n [] = []
 rule_lines n (r ∷ rs) = rule_line n r ∷ rule_lines (n + 1) rs
 
--- a table's name, and each of its entries behind a space
+-- a table's name, and each of its entries after a space
 abbrev pub table_line : PlainPlacedTable → List ℕ
 table_line t = t.0.1 ++ entries_text t.1
 
@@ -139,6 +139,6 @@ shown_lines _ = []
 abbrev pub reply_text : Reply → List ℕ
 reply_text r = lines_text (shown_lines r) ++ (last_line r ++ 10 ∷ [])
 
--- Where rules, tables, states or messages are shown, there is a line for each of them more.
+-- One line, and one more for each rule, table, state or message that is shown.
 abbrev pub line_count : Reply → ℕ
 line_count r = length (shown_lines r) + 1

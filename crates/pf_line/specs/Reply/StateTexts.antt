@@ -1,4 +1,4 @@
--- The texts of states, of checksums and of messages for a peer. A protocol, an address and a direction as a rule's text has them.
+-- The texts of states, of checksums and of messages for a peer. A protocol, an address and a direction are written as in a rule's text.
 use Rattle.std.specs.Prelude.{ℕ, List, ◌∷◌, ◌++◌, codes, decimal, map}
 use Rattle.hex.specs.Hex.{encode_lower}
 use Rattle.pf_addr.specs.declared.addr.Addr.{Addr}
@@ -8,7 +8,7 @@ use Rattle.pf_rule.specs.Value.Tests.{protocol_word}
 use Rattle.pf_state.specs.declared.{peer.fault.PeerFault.PeerFault, peer.fault.PeerFault.TheVariants.{BadVersion, BadLength, BadAction, BadRecord, Ended}, counts.Counts.Counts, state.Bound.Bound, state.Bound.TheVariants.{Rule, Default}, state.StateName.StateName}
 use Rattle.pf_state.specs.{Flows.PlainFlow, States.PlainState}
 
--- a state's number, and its creator's behind a space (32)
+-- a state's number, and its creator after a space (32)
 abbrev pub name_text : StateName → List ℕ
 name_text n = decimal n.id ++ 32 ∷ decimal n.creator
 
@@ -16,11 +16,11 @@ abbrev pub way_text : Direction → List ℕ
 way_text In = codes " in "
 way_text Out = codes " out "
 
--- an address and a port, each behind a space
+-- an address and a port, each after a space
 abbrev pub end_text : Addr → ℕ → List ℕ
 end_text a port = 32 ∷ addr_text a ++ 32 ∷ decimal port
 
--- which way the first packet went, its protocol, where it came from and where it went
+-- the direction of the first packet, its protocol, where it came from and where it went
 abbrev pub flow_text : PlainFlow → List ℕ
 flow_text f = way_text f.direction ++ (protocol_word f.protocol
     ++ (end_text f.source f.source_port ++ end_text f.destination f.destination_port))

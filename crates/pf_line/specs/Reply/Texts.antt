@@ -8,7 +8,7 @@ use Rattle.pf_ticket.specs.declared.ticket.Ticket.{Ticket}
 abbrev pub ticket_text : Ticket → List ℕ
 ticket_text t = decimal t.epoch ++ 46 ∷ decimal t.count
 
--- each ticket behind a space (32)
+-- each ticket after a space (32)
 abbrev pub tickets_text : List Ticket → List ℕ
 tickets_text [] = []
 tickets_text (t ∷ ts) = 32 ∷ ticket_text t ++ tickets_text ts
@@ -18,11 +18,11 @@ abbrev pub sign_text : Bool → List ℕ
 sign_text true = 33 ∷ []
 sign_text false = []
 
--- an entry of a table, as pfctl(8) shows it: its network, behind its sign
+-- an entry of a table, as pfctl(8) shows it: its network, after its sign
 abbrev pub entry_text : PlainEntry → List ℕ
 entry_text row = sign_text row.1 ++ net_text row.0
 
--- each entry behind a space (32)
+-- each entry after a space (32)
 abbrev pub entries_text : List PlainEntry → List ℕ
 entries_text [] = []
 entries_text (row ∷ rows) = 32 ∷ entry_text row ++ entries_text rows

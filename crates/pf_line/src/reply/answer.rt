@@ -1,4 +1,4 @@
-//! Texts of answers, and of what is told of a change.
+//! Texts of answers, and of what became of a change.
 ghost use Rattle.std.specs.Prelude.{◌≡◌, ◌∷◌, ◌++◌, codes, decimal};
 ghost use Rattle.pf_core.specs.declared.{reply.Answer.TheVariants.Logged, reply.Outcome.TheVariants.{Added, Deleted}, reply.Reply.TheVariants.{Applied, Stored}};
 ghost use Rattle.pf_line.specs.{Reply.TextLines.GoesOn, Reply.Replies.{rule_verdict_text, answer_text, outcome_text, last_line}};
@@ -50,7 +50,7 @@ fn write_logged<W: Write>(
     write_numbered(out, so_far, b" shown ", shown)
 }
 
-/// Writes what a rule says of a packet whose state's name is taken.
+/// Writes the rules' verdict on a packet whose state's name is taken.
 #[tactic(auto, using(crate::proofs::Writers::goes_on))]
 fn write_stale<W: Write>(
     out: &mut W,
@@ -63,14 +63,14 @@ fn write_stale<W: Write>(
     write_part(out, so_far, b" stale")
 }
 
-/// Writes how many lines stand before this one.
+/// Writes how many lines come before this one.
 fn write_end<W: Write>(out: &mut W, so_far: io::Result<()>, lines: usize) -> io::Result<()>
     ensures { GoesOn so_far (W.contents out.old) result (W.contents out.new) (codes "end " ++ decimal lines) }
 {
     write_numbered(out, so_far, b"end ", lines as u64)
 }
 
-/// Writes a change's number and what is told of it.
+/// Writes a change's number and what became of it.
 #[tactic(auto, using(crate::proofs::Writers::goes_on))]
 pub(crate) fn write_applied<W: Write>(
     out: &mut W,
@@ -84,7 +84,7 @@ pub(crate) fn write_applied<W: Write>(
     write_outcome(out, so_far, outcome)
 }
 
-/// Writes the same of a change that isn't shown yet.
+/// Writes the same for a change that isn't shown yet.
 #[tactic(auto, using(crate::proofs::Writers::goes_on))]
 pub(crate) fn write_stored<W: Write>(
     out: &mut W,
@@ -114,7 +114,7 @@ fn write_outcome<W: Write>(out: &mut W, so_far: io::Result<()>, outcome: &Outcom
     }
 }
 
-/// Writes what a rule says of a packet, behind a space.
+/// Writes the rules' verdict on a packet, after a space.
 #[tactic(auto, using(crate::proofs::Writers::goes_on))]
 fn write_tracked<W: Write>(
     out: &mut W,

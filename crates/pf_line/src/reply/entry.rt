@@ -8,7 +8,7 @@ use pf_addr::{Net, net_text_is_one_word, write_more_net};
 use pf_table::{Entry, Table};
 use std::io::{self, Write};
 
-/// Writes each entry of a table behind a space.
+/// Writes each entry of a table, each after a space.
 pub(crate) fn write_entries<W: Write>(
     out: &mut W,
     begun: io::Result<()>,
@@ -24,7 +24,7 @@ pub(crate) fn write_entries<W: Write>(
     so_far
 }
 
-/// Writes an entry: its network, with an exclamation mark before it where it is negated.
+/// Writes an entry: its network, with an exclamation mark before it if it is negated.
 pub(crate) fn write_entry<W: Write>(
     out: &mut W,
     so_far: io::Result<()>,
@@ -50,7 +50,7 @@ pub(crate) fn write_network<W: Write>(
 ) -> io::Result<()>
     ensures { GoesOn so_far (W.contents out.old) result (W.contents out.new) (net_text net) }
 {
-    // The law says what bytes a network's text has, and its family what each network keeps.
+    // The law says which bytes a network's text has, and its family gives the invariant of each network.
     net_text_is_one_word();
     let _kept = net.family();
     write_more_net(out, so_far, net)

@@ -1,6 +1,6 @@
 //! The parts that a text is made of.
 //!
-//! Each call is given what became of the writes so far, and writes behind them. It has no allocator.
+//! Each call is given the result of the writes so far, and writes after them. It has no allocator.
 ghost use Rattle.std.specs.Prelude.{◌≡◌, [], ◌∷◌, ◌++◌, decimal};
 ghost use Rattle.pf_addr.specs.Writing.{Continues};
 ghost use Rattle.pf_line.specs.Reply.TextLines.{newlines, GoesOn};
@@ -37,7 +37,7 @@ pub(crate) fn write_number<W: Write>(
     write_more_number(out, so_far, number)
 }
 
-/// Writes a text that has no newline, and a number behind it.
+/// Writes a text that has no newline, and a number after it.
 pub(crate) fn write_numbered<W: Write>(
     out: &mut W,
     so_far: io::Result<()>,

@@ -16,11 +16,10 @@ use crate::reply::verdict::write_verdict;
 use pf_core::{Answer, Reply, Verdict};
 use std::io::{self, ErrorKind, Write};
 
-/// Writes the reply's text: of a shown ruleset a line for each rule, of shown tables, states and messages a line for
-/// each, and of each reply one line behind them. No other newline is in it.
+/// Writes the reply's text: for a shown ruleset a line for each rule, for shown tables, states and messages a line for each, and for every
+/// reply one line after them. There is no other newline in it.
 ///
-/// The error is the writer's first, save that a write that a signal interrupts is tried again; some front of the text is
-/// then written.
+/// The error is the writer's first, except that a write interrupted by a signal is tried again; some front of the text is then written.
 pub fn write_reply<W: Write>(out: &mut W, reply: &Reply) -> io::Result<()>
     ensures text { Writes result (W.contents out.old) (W.contents out.new) (reply_text reply.now) }
     ensures retried { IfErr result (λ e. error_kind e ≢ ErrorKind.Interrupted) }
@@ -31,7 +30,7 @@ pub fn write_reply<W: Write>(out: &mut W, reply: &Reply) -> io::Result<()>
     end_line(out, so_far)
 }
 
-/// Writes the reply to a judge, as [`write_reply`] does.
+/// Writes the reply to a judge, like [`write_reply`].
 pub fn write_judged<W: Write>(out: &mut W, verdict: &Verdict) -> io::Result<()>
     ensures text { Writes result (W.contents out.old) (W.contents out.new) (reply_text (replies.Answer (answers.Judged verdict.now))) }
     ensures retried { IfErr result (λ e. error_kind e ≢ ErrorKind.Interrupted) }
@@ -53,7 +52,7 @@ fn write_shown<W: Write>(out: &mut W, reply: &Reply) -> io::Result<()>
     }
 }
 
-/// Writes the last line behind what was written so far, without its newline.
+/// Writes the last line after what was written so far, without its newline.
 fn write_words<W: Write>(out: &mut W, so_far: io::Result<()>, reply: &Reply) -> io::Result<()>
     ensures { GoesOn so_far (W.contents out.old) result (W.contents out.new) (last_line reply.now) }
 {

@@ -34,7 +34,7 @@ pub(crate) fn write_tables<W: Write>(out: &mut W, tables: &[PlacedTable]) -> io:
     so_far
 }
 
-// Each of these writes a part of one line behind what was written so far.
+// Each of these writes a part of one line after what was written so far.
 
 fn write_rule<W: Write>(
     out: &mut W,
@@ -52,7 +52,7 @@ fn write_rule<W: Write>(
 fn write_rule_text<W: Write>(out: &mut W, so_far: io::Result<()>, rule: &Rule) -> io::Result<()>
     ensures { GoesOn so_far (W.contents out.old) result (W.contents out.new) (rule_text rule.now) }
 {
-    // The call says what each rule keeps (`kept`), and so that the rule's text has no newline.
+    // The call gives the invariant of each rule (`kept`), and so that the rule's text has no newline.
     let _kept = rule.effect();
     match so_far {
         Ok(()) => rule.write(out),

@@ -37,7 +37,7 @@ pub(crate) fn write_messages<W: Write>(out: &mut W, messages: &[Vec<u8>]) -> io:
     so_far
 }
 
-// Each of these writes a part of one line behind what was written so far.
+// Each of these writes a part of one line after what was written so far.
 
 #[tactic(auto, using(crate::proofs::Writers::goes_on))]
 fn write_message<W: Write>(out: &mut W, so_far: io::Result<()>, message: &[u8]) -> io::Result<()>
@@ -58,7 +58,7 @@ fn write_state<W: Write>(out: &mut W, so_far: io::Result<()>, state: &State) -> 
     write_bound(out, so_far, &held.bound)
 }
 
-/// Writes a state's number and its creator's.
+/// Writes a state's number and its creator.
 #[tactic(auto, using(crate::proofs::Writers::goes_on))]
 pub(crate) fn write_name<W: Write>(
     out: &mut W,
@@ -91,7 +91,7 @@ fn way(direction: Direction) -> &'static [u8]
     }
 }
 
-/// Writes a protocol's name, where it has one, or its number.
+/// Writes a protocol's name, or its number if it has none.
 fn write_protocol<W: Write>(
     out: &mut W,
     so_far: io::Result<()>,
@@ -126,7 +126,7 @@ fn write_end<W: Write>(
 fn write_address<W: Write>(out: &mut W, so_far: io::Result<()>, address: Addr) -> io::Result<()>
     ensures { GoesOn so_far (W.contents out.old) result (W.contents out.new) (addr_text address) }
 {
-    // an address is written as the network that has no other
+    // an address is written as the network that has no other address
     write_network(out, so_far, Net::single(address))
 }
 
@@ -175,7 +175,7 @@ fn write_byte<W: Write>(out: &mut W, so_far: io::Result<()>, byte: u8) -> io::Re
     ensures { GoesOn so_far (W.contents out.old) result (W.contents out.new) (encode_lower (byte ∷ [])) }
 {
     let mut digits = [0; 2];
-    // two digits have room for a byte
+    // a byte always fits two digits
     let _ = hex::encode_to_slice([byte], &mut digits);
     write_part(out, so_far, &digits)
 }
@@ -196,7 +196,7 @@ pub(crate) fn write_counts<W: Write>(
     write_numbered(out, so_far, b" deleted ", counts.deleted)
 }
 
-/// What is told of a message's fault.
+/// The text of a message's fault.
 pub(crate) fn fault_text(fault: PeerFault) -> &'static [u8]
     ensures text { result.now ≡ fault_text fault }
     ensures one_line { newlines result.now ≡ 0 }

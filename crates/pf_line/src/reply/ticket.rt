@@ -19,7 +19,7 @@ pub(crate) fn write_given<W: Write>(
     write_tickets(out, so_far, given)
 }
 
-/// Writes each ticket behind a space.
+/// Writes each ticket, each after a space.
 fn write_tickets<W: Write>(out: &mut W, begun: io::Result<()>, given: TicketRange) -> io::Result<()>
     ensures { GoesOn begun (W.contents out.old) result (W.contents out.new) (tickets_text (tickets_of given)) }
 {
@@ -35,7 +35,7 @@ fn write_tickets<W: Write>(out: &mut W, begun: io::Result<()>, given: TicketRang
     so_far
 }
 
-/// Writes the ticket of this epoch and count behind a space.
+/// Writes the ticket of this epoch and count after a space.
 fn write_next<W: Write>(
     out: &mut W,
     so_far: io::Result<()>,

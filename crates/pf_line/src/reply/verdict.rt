@@ -55,7 +55,7 @@ pub(crate) fn write_rule_verdict<W: Write>(
     }
 }
 
-/// Writes what the rule of this number decides, and where it stands.
+/// Writes what the rule of this number decides, and where the rule is.
 fn write_deciding<W: Write>(
     out: &mut W,
     so_far: io::Result<()>,
@@ -81,7 +81,7 @@ fn action_word(action: Action) -> &'static [u8]
     }
 }
 
-/// Writes where a rule stands, unless it is the main ruleset.
+/// Writes where a rule is, unless it is in the main ruleset.
 fn write_place<W: Write>(out: &mut W, so_far: io::Result<()>, path: &Path) -> io::Result<()>
     ensures { GoesOn so_far (W.contents out.old) result (W.contents out.new) (place_text path.now) }
 {
@@ -95,13 +95,13 @@ fn write_at<W: Write>(out: &mut W, so_far: io::Result<()>, path: &Path) -> io::R
     ensures { GoesOn so_far (W.contents out.old) result (W.contents out.new) (codes " at " ++ path.now) }
 {
     let so_far = write_part(out, so_far, b" at ");
-    // The laws say what bytes each path has, and so that its text has no newline.
+    // The laws say which bytes each path has, and so that its text has no newline.
     paths_are_read_as_spelled();
     paths_are_read_again();
     write_part(out, so_far, path.as_bytes())
 }
 
-/// Writes whether a table matches an address, and the entry that decides, if one does.
+/// Writes whether a table matches an address, and the deciding entry, if there is one.
 pub(crate) fn write_tested<W: Write>(
     out: &mut W,
     so_far: io::Result<()>,

@@ -1,5 +1,5 @@
--- The two ends of a packet's way, the source and the destination: how they are spelled (pf.conf(5), GRAMMAR), and the words that
--- they are written as.
+-- The two ends of a packet's way, the source and the destination: how they are spelled (pf.conf(5), GRAMMAR), and the words written for
+-- them.
 use Rattle.std.specs.Prelude.{List, [], ◌∷◌, ◌++◌, Option, None, IfSome, codes}
 use Rattle.pf_form.specs.{Form.Words.Word, Form.Forms.{Form, nothing, or, pair, making}}
 use Rattle.pf_rule.specs.declared.{value.ports.PortTest.PortTest, host.host.Host.Host, host.host.Host.TheVariants.Any}
@@ -9,7 +9,7 @@ use Rattle.pf_rule.specs.{Value.Ports.{IsPortTest, port, port_words}, Host.Hosts
 abbrev pub End : Type 0
 End = Host × Option PortTest
 
--- what an end keeps
+-- what every end maintains
 abbrev pub IsEnd : End → Type 0
 IsEnd e = IsHost e.0 × IfSome e.1 IsPortTest
 
@@ -41,7 +41,7 @@ end_words e = host_words e.0 ++ port_words e.1
 abbrev pub from_to_words : End → End → List Word
 from_to_words source destination = codes "from" ∷ (end_words source ++ codes "to" ∷ end_words destination)
 
--- "all" where both hosts are any and no port is tested
+-- "all" if both hosts are any and no port is tested
 abbrev pub ends_words : End → End → List Word
 ends_words (Any, None) (Any, None) = codes "all" ∷ []
 ends_words source destination = from_to_words source destination

@@ -1,5 +1,5 @@
--- Hosts: which addresses they take, and how their words are spelled (pf.conf(5), PARAMETERS and TABLES). That a table in its brackets
--- is one word is own.
+-- Hosts: which addresses they take, and how their words are spelled (pf.conf(5), PARAMETERS and TABLES). That a table in its brackets is
+-- one word is this project's own.
 use Rattle.std.specs.{Prelude.{ℕ, ◌++◌, not, Bool, true, false, List, [], ◌∷◌, drop, codes, Option, Some, None, Result, Ok, if◌then◌else◌}, Option.{option_and_then, option_map_or}}
 use Rattle.std.proofs.Common.{◌≡◌, refl}
 use Rattle.pf_addr.specs.declared.addr.{Addr.Addr, Family.Family}
@@ -25,7 +25,7 @@ host_holds says Any a = true
 host_holds says (Net n negated) a = inverted negated (contains n a)
 host_holds says (Table name negated) a = inverted negated (says name a)
 
--- the two parts of it: what networks say, and what tables say
+-- the two parts of this: what networks say, and what tables say
 abbrev pub network_holds : Host → Addr → Bool
 network_holds Any a = true
 network_holds (Net n negated) a = inverted negated (contains n a)
@@ -36,7 +36,7 @@ table_holds says Any a = true
 table_holds says (Net n negated) a = true
 table_holds says (Table name negated) a = inverted negated (says name a)
 
--- what a host keeps
+-- what every host maintains
 abbrev pub IsHost : Host → Type 0
 IsHost Any = Unit {0}
 IsHost (Net n negated) = IsNetwork n
@@ -65,7 +65,7 @@ is_negated Any = false
 is_negated (Net n negated) = negated
 is_negated (Table name negated) = negated
 
--- behind a "!" (33) where it is negated
+-- after a "!" (33) if it is negated
 abbrev pub SpellsMarked : Bool → Word → Host → Type 0
 SpellsMarked true w h = (text : Word) × (w ≡ 33 ∷ text) × SpellsUnmarked text h
 SpellsMarked false w h = SpellsUnmarked w h
@@ -75,7 +75,7 @@ SpellsHost w h = SpellsMarked (is_negated h) w h
 
 -- ---- how they are read
 
--- what stands between "<" and ">"
+-- what is between "<" and ">"
 abbrev pub bracketed : Word → Option Word
 bracketed w = option_and_then (before (codes ">")) (behind (codes "<") w)
 
@@ -98,7 +98,7 @@ unfoldable pub a_negated_host : Form Host
 a_negated_host =
     word (record { of = marked true; sample = codes "0.0.0.0"; value = Net (network_of (addr.V4 0)) true; takes = marked_taken })
 
--- with a "!" joined to it, or without one
+-- with or without a "!" joined to it
 abbrev pub host_of : Word → Result Host Kind
 host_of w = if begins_with (codes "!") w then marked true (drop 1 w) else marked false w
 

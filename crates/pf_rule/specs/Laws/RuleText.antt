@@ -88,7 +88,7 @@ pub words_are : (r : PlainRule) → IsRule r → words_of (rule_text r) ≡ cano
 unfolding rule_text
 words_are r is = words_of-join (canonical r) (rule_written r is).words
 
--- a rule's text has no byte below a space, and so no newline
+-- a rule's text has no byte below a space, so no newline
 pub rule_text_bytes : (r : PlainRule) → IsRule r → list_all (nat_lt 31) (rule_text r) ≡ true
 unfolding rule_text
 rule_text_bytes r is = join_bytes (canonical r) (rule_written r is).words

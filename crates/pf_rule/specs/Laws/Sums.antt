@@ -1,5 +1,5 @@
--- Rules with their texts and forms, and rulesets with their checksums, to be compared with what other programs make of the same bytes
--- (as md5sum(1) does).
+-- Rules with their texts and forms, and rulesets with their checksums, to compare with what other programs compute from the same bytes
+-- (such as md5sum(1)).
 use Rattle.std.specs.Prelude.{List, [], ◌∷◌, ◌++◌, ℕ, false, true, Option, None, Some, codes, replicate}
 use Rattle.pf_addr.specs.declared.addr.Family.TheVariants.{V4, V6}
 use Rattle.pf_addr.specs.Path.References.{refers}
@@ -63,7 +63,7 @@ tested_form =
     ++ 2 ∷ 0 ∷ 0 ∷ 1 ∷ 0 ∷ 80 ∷ 0 ∷ 0 ∷ replicate 16 0 ++ codes "web" ++ replicate 29 0
     ++ replicate 68 0
 
--- one of the other family, for an address alone: pass out inet6 from !<web> to 2001:db8::1 keep state
+-- a rule of the other family, to one address: pass out inet6 from !<web> to 2001:db8::1 keep state
 abbrev pub v6 : PlainRule
 v6 = record (untested (Decide (Pass true))) {
   direction = Some Out;
@@ -79,7 +79,7 @@ v6_form =
     ++ 1 ∷ 0 ∷ 128 ∷ replicate 5 0 ++ 0x20 ∷ 0x01 ∷ 0x0d ∷ 0xb8 ∷ replicate 11 0 ++ 1 ∷ replicate 32 0
     ++ replicate 68 0
 
--- each test of a port, and the form of any host with it: the test's number behind three zeros, and then the ports
+-- each port test, and the form of any host with it: three zeros, the test's number, and then the ports
 abbrev pub port_tests : List (Option PortTest)
 port_tests =
     None ∷ Some (Compared Equal 258) ∷ Some (Compared NotEqual 258) ∷ Some (Compared Less 258) ∷ Some (Compared AtMost 258)

@@ -35,7 +35,7 @@ use Rattle.pf_form.specs.Bytes.Codes.{flag_byte}
 use Rattle.pf_rule.specs.{declared.{value.direction.Direction.Direction, value.ports.Comparison.Comparison, value.ports.Comparison.TheVariants.Equal, value.ports.Comparison.TheVariants.NotEqual, value.ports.Comparison.TheVariants.Less, value.ports.Comparison.TheVariants.AtMost, value.ports.Comparison.TheVariants.Greater, value.ports.Comparison.TheVariants.AtLeast, value.ports.PortRange.PortRange, value.ports.PortRange.TheVariants.Including, value.ports.PortRange.TheVariants.Excluding, value.ports.PortRange.TheVariants.Except, value.ports.PortTest.PortTest, value.ports.PortTest.TheVariants.Compared, value.ports.PortTest.TheVariants.Ranged, host.host.Host.Host, host.host.Host.TheVariants.Any, host.host.Host.TheVariants.Net, host.host.Host.TheVariants.Table, rule.Effect.Effect, rule.Effect.TheVariants.Decide, rule.Effect.TheVariants.Evaluate, rule.Action.TheVariants.Pass, rule.Action.TheVariants.Block}, Bytes.addr_bytes, Host.Hosts.is_negated, Rules.PlainRule}
 use Rattle.pf_rule.specs.Bytes as bytes
 
--- bytes, and zeros behind them up to this width
+-- bytes, padded with zeros up to this width
 unfoldable pub filled : ℕ → List ℕ → List ℕ
 filled width bytes = bytes ++ replicate (width - length bytes) 0
 

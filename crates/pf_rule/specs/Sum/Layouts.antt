@@ -1,5 +1,5 @@
--- The layout of a rule's form: which 204 bytes are some rule's, and what they say. A test of ports stands
--- only with a protocol that has ports, a network only with a family, which it is of, and state is kept only by a rule that passes.
+-- The layout of a rule's form: which 204 bytes are some rule's, and what they mean. Ports are tested only with a protocol that has ports,
+-- a network appears only with a family, which is its own, and only a rule that passes keeps state.
 use Rattle.std.specs.Prelude.{ℕ, ◌==◌, nat_lt, Bool, false, List, [], ◌∷◌, replicate, Option, Some, None, unwrap_or, if◌then◌else◌}
 use Rattle.std.proofs.Common.{inl, inr}
 use Rattle.pf_addr.specs.declared.{addr.Family.Family, path.limits.TheConstants.TABLE_NAME_LIMIT}
@@ -14,14 +14,14 @@ use Rattle.pf_rule.specs.{Value.Values.has_ports, Rules.PlainRule, Sum.Forms.{te
 abbrev pub TestShape : Shape
 TestShape = both nat (both nat nat)
 
--- none, one or both, by the test
+-- zeros, one port or both, by the test
 abbrev pub ports_by : ℕ → Form (both nat nat)
 ports_by test =
     if test == 0 then front (replicate 4 0) (nothing (0, 0))
     else if nat_lt test 7 then pair (number 2) (front (0 ∷ 0 ∷ []) (nothing 0))
     else pair (number 2) (number 2)
 
--- where ports may be tested, and else none
+-- if ports may be tested; otherwise no test
 unfoldable pub port_test : Bool → Form TestShape
 port_test ports = pair_by (below (if ports then 10 else 1)) ports_by
 
@@ -39,17 +39,17 @@ TableShape = both nat (both TestShape (list nat))
 abbrev pub EndShape : Shape
 EndShape = either TestShape (either NetworkShape TableShape)
 
--- a rule's family, where it has one
+-- a rule's family, if it has one
 abbrev pub FamilyShape : Shape
 FamilyShape = either unit nat
 
--- negated, the length of the front, the test of the port, the first address; in a rule without a family none
+-- negated, the prefix length, the port test, the first address; none in a rule without a family
 unfoldable pub network_end : Bool → Value FamilyShape → Form NetworkShape
 network_end ports (inl u) = that (λ e. false) (nothing (0, (0, ((0, (0, 0)), 0))))
 network_end ports (inr f) =
     that (λ e. is_network f e.1.0 e.1.1.1) (pair flag (pair (number 1) (pair (port_test ports) (back (address_in f) (replicate 32 0)))))
 
--- negated, the test of the port, the name
+-- negated, the port test, the name
 unfoldable pub table_end : Bool → Form TableShape
 table_end ports = pair flag (front (0 ∷ []) (pair (port_test ports) (front (replicate 16 0) (name_field TABLE_NAME_LIMIT 32))))
 
@@ -100,7 +100,7 @@ RuleShape = both nat (both nat (both nat (both nat (both FamilyShape (both nat B
 abbrev pub body : Bool → Bool → Value FamilyShape → Form BodyShape
 body anchors ports f = pair interface (pair (end ports f) (pair (end ports f) (named anchors)))
 
--- 204 bytes, in each version
+-- 204 bytes, in every version
 unfoldable pub rule_layout : ℕ → Form RuleShape
 rule_layout version = pair_by (below 3) (λ effect. pair (below 3) (pair flag (pair (below (if effect == 1 then 2 else 1))
     (pair_by some_family (λ f. pair_by (number 1) (λ protocol. front (0 ∷ 0 ∷ []) (body (effect == 2) (has_ports protocol) f)))))))

@@ -1,4 +1,4 @@
--- What the data of a rule's layout say. Of data that no rule has nothing is said.
+-- What the data of a rule's layout mean. For data that no rule has, nothing is said.
 use Rattle.std.specs.Prelude.{ℕ, ◌==◌, List, Option, Some, None, if◌then◌else◌}
 use Rattle.std.proofs.Common.{inl, inr}
 use Rattle.pf_addr.specs.{declared.addr.Family.Family, NetForms.{family_of_byte, network_at}, Path.PathForms.{ReferenceShape, reference_of_plain}}

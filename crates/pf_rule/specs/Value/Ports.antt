@@ -8,7 +8,7 @@ use Rattle.pf_rule.specs.Value.Values.{has_ports, begins_with, port_of, a_port}
 
 -- ---- what they mean
 
--- the port by the number
+-- how the port compares with the number
 abbrev pub compares : Comparison → ℕ → ℕ → Bool
 compares Equal p n = p == n
 compares NotEqual p n = not (p == n)
@@ -17,7 +17,7 @@ compares AtMost p n = nat_le p n
 compares Greater p n = nat_lt n p
 compares AtLeast p n = nat_le n p
 
--- the port by the first and the last number
+-- where the port is by the first and the last number
 abbrev pub in_range : PortRange → ℕ → ℕ → ℕ → Bool
 in_range Including a b p = nat_le a p && nat_le p b
 in_range Excluding a b p = nat_lt a p && nat_lt p b
@@ -31,11 +31,11 @@ abbrev pub has_ports_of : Option ℕ → Bool
 has_ports_of None = false
 has_ports_of (Some protocol) = has_ports protocol
 
--- Only where the protocol is one that has ports may they be tested.
+-- Ports may be tested only with a protocol that has ports.
 unfoldable pub ports_fit : Option ℕ → Option PortTest → Option PortTest → Bool
 ports_fit protocol source destination = (is_none source && is_none destination) || has_ports_of protocol
 
--- what a test keeps: its numbers are ports
+-- what every test maintains: its numbers are ports
 abbrev pub IsPortTest : PortTest → Type 0
 IsPortTest (Compared operator n) = n < 65536
 IsPortTest (Ranged range a b) = (a < 65536) × (b < 65536)
@@ -64,7 +64,7 @@ SpellsStart w (Test (Ranged Except a b)) = ⊥
 
 -- ---- how it is read
 
--- with these operators
+-- using these operators
 abbrev pub split_by : List (Word × Comparison) → Word → Option (Comparison × Word)
 split_by [] w = None
 split_by (o ∷ os) w = if begins_with o.0 w then Some (o.1, drop (length o.0) w) else split_by os w
@@ -74,7 +74,7 @@ operators =
     (codes "=", Equal) ∷ (codes "!=", NotEqual) ∷ (codes "<=", AtMost) ∷
     (codes "<", Less) ∷ (codes ">=", AtLeast) ∷ (codes ">", Greater) ∷ []
 
--- a word that begins with a unary operator: the operator, the longest that it begins with, and what stands behind it
+-- a word that begins with a unary operator: the longest such operator, and what comes after it
 abbrev pub split_operator : Word → Option (Comparison × Word)
 split_operator = split_by operators
 
@@ -83,7 +83,7 @@ abbrev pub joined : Option (Comparison × Word) → Result PortStart Kind
 joined None = Err BadWord
 joined (Some x) = port_of true x.1 >>= λ n. Ok (Test (Compared x.0 n))
 
--- a number alone, else an operator joined to one
+-- a number alone, or else an operator joined to one
 abbrev pub number_or : Result ℕ Kind → Result PortStart Kind → Result PortStart Kind
 number_or (Ok n) other = Ok (Number n)
 number_or (Err kind) other = other
@@ -95,7 +95,7 @@ range_of a b = port_of true a >>= λ first. port_of true b >>= λ last. Ok (Test
 abbrev pub is_colon : ℕ → Bool
 is_colon b = b == 58
 
--- with the place of its first colon
+-- given the place of its first colon
 abbrev pub start_at : Word → Option ℕ → Result PortStart Kind
 start_at w (Some i) = range_of (take i w) (drop (i + 1) w)
 start_at w None = number_or (port_of true w) (joined (split_operator w))
@@ -112,7 +112,7 @@ a_start = word (record { of = start_of; sample = codes "0"; value = Number 0; ta
 abbrev pub number : Form ℕ
 number = a_port true
 
--- ["><" number | "<>" number], behind a number that stands alone
+-- ["><" number | "<>" number], after a number that is a word of its own
 unfoldable pub range_end : Bool → Form (Option (PortRange × ℕ))
 range_end true =
     or (codes "><") (making (λ n. Some (Excluding, n)) number) (or (codes "<>") (making (λ n. Some (Except, n)) number) (nothing None))
@@ -127,15 +127,15 @@ test_with (Number n, None) = Compared Equal n
 test_with (Number n, Some x) = Ranged x.0 n x.1
 test_with (Test t, end) = t
 
--- number | number "><" number | number "<>" number, and what is one word: number:number | operator and number
+-- number | number "><" number | number "<>" number, and those in one word: number:number | operator and number
 unfoldable pub ranged : Form PortTest
 ranged = making test_with (pair_by a_start is_number range_end)
 
--- a number, behind this operator
+-- a number, after this operator
 unfoldable pub compared : Comparison → Form PortTest
 compared operator = making (λ n. Compared operator n) number
 
--- an operator of order and a number, or a test that begins with no operator as a word of its own
+-- an operator of order and a number, or a test that doesn't begin with an operator as a word of its own
 unfoldable pub order_or_range : Form PortTest
 order_or_range =
     or (codes "<") (compared Less) (or (codes "<=") (compared AtMost)
@@ -151,7 +151,7 @@ port = or (codes "port") (making (λ t. Some t) port_test) (nothing None)
 
 -- ---- how they are written
 
--- a range with its boundaries is one word, with a colon (58) in it
+-- a range with its boundaries is one word, containing a colon (58)
 abbrev pub test_words : PortTest → List Word
 test_words (Compared operator n) = operator_word operator ∷ decimal n ∷ []
 test_words (Ranged Including a b) = (decimal a ++ 58 ∷ decimal b) ∷ []

@@ -17,12 +17,12 @@ spaced-append [] b = refl
 spaced-append (w ∷ ws) b = ap (λ (t : List ℕ). 32 ∷ t) (first_spaced w (ws ++ b) ∙ ap (λ (t : List ℕ). w ++ t) (spaced-append ws b) ∙ sym
     (append_assoc w (spaced ws) (spaced b)) ∙ ap (λ (t : List ℕ). t ++ spaced b) (sym (first_spaced w ws)))
 
--- one part written behind another
+-- one part written after another
 pub ruleset continuing = (Continues-then)
 
 -- ---- and back
 
--- some bytes, each above a space
+-- at least one byte, each above a space
 abbrev pub is_word : Word → Bool
 is_word w = nat_lt 0 (length w) && list_all (nat_lt 32) w
 

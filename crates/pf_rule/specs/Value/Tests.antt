@@ -1,5 +1,5 @@
 -- A rule's tests of the direction, the interface, the family and the protocol: what they mean, how they are spelled (pf.conf(5),
--- PARAMETERS and GRAMMAR), and the words that they are written as.
+-- PARAMETERS and GRAMMAR), and the words written for them.
 use Rattle.std.specs.Prelude.{ℕ, ◌==◌, Bool, true, false, List, [], ◌∷◌, Option, Some, None, codes, decimal, if◌then◌else◌}
 use Rattle.pf_form.specs.{Form.Words.Word, Form.Forms.{Form, nothing, or, making}}
 use Rattle.pf_addr.specs.declared.{addr.Family.Family, addr.Family.TheVariants.{V4, V6}}
@@ -9,7 +9,7 @@ use Rattle.pf_rule.specs.Value.Values.{an_interface, a_protocol}
 
 -- ---- what they mean
 
--- a test that is absent holds
+-- a missing test holds
 abbrev pub holds : {A : Type 0} → Option A → (A → Bool) → Bool
 holds None test = true
 holds (Some x) test = test x
@@ -54,7 +54,7 @@ family_words None = []
 family_words (Some V4) = codes "inet" ∷ []
 family_words (Some V6) = codes "inet6" ∷ []
 
--- the names of four protocols (`icmp6`, of the two names of 58), and the numbers of the others
+-- the names of four protocols (`icmp6`, of the two names of 58), otherwise the number
 abbrev pub protocol_word : ℕ → Word
 protocol_word n =
     if n == protocols.ICMP then codes "icmp" else (if n == protocols.TCP then codes "tcp" else

@@ -27,7 +27,7 @@ protocol_names =
     (codes "tcp", protocols.TCP) ∷ (codes "udp", protocols.UDP) ∷ (codes "icmp", protocols.ICMP) ∷
     (codes "icmp6", protocols.ICMP6) ∷ (codes "ipv6-icmp", protocols.ICMP6) ∷ []
 
--- the name stands in the table with the number
+-- the table has the name with the number
 abbrev pub IsNamed : List (Word × ℕ) → Word → ℕ → Type 0
 IsNamed [] w n = ⊥
 IsNamed (x ∷ xs) w n = ((w ≡ x.0) × (x.1 ≡ n)) ⊎ IsNamed xs w n
@@ -61,7 +61,7 @@ protocol_of w = named_or (number_named protocol_names w) (protocol_numbered (num
 abbrev pub a_protocol : Form ℕ
 a_protocol = word (record { of = protocol_of; sample = codes "tcp"; value = protocols.TCP; takes = refl })
 
--- ---- a word that begins so
+-- ---- a word with this front
 
 abbrev pub begins_with : Word → Word → Bool
 begins_with front w = bytes_eq (take (length front) w) front

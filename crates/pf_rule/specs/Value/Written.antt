@@ -1,4 +1,4 @@
--- Words that spell a value and stand in a text.
+-- Words that spell a value and can be in a text.
 use Rattle.std.proofs.{Common.{◌≡◌, ℕ, Bool, true, List, ◌++◌, length, Some, refl, arith}, lemmas.Bool.and_parts, lemmas.Bool.Decides.nat_tests, lemmas.List.Folds.list_all-append, lemmas.List.Sums.{AllPass-from_list_all, list_all-from_AllPass}}
 use Rattle.std.specs.{Prelude.nat_lt, List.{list_all, slice_index_or}}
 use Rattle.pf_form.specs.{Form.Numbers.{is_digit, number_of}, Form.Words.Word, Form.Forms.{Form, pair, Spells}}
@@ -19,7 +19,7 @@ both {a = a} {b = b} p q = record { spells = (a, b, p.spells, q.spells, refl); w
 
 -- ---- words of a line
 
--- a word whose bytes pass a test that each byte fails up to a space
+-- a word is one if each of its bytes passes a test that only bytes above a space pass
 pub tested_word : (test : ℕ → Bool) → ((b : ℕ) → test b ≡ true → nat_lt 32 b ≡ true) → (w : Word) → nat_lt 0 (length w) ≡ true →
     list_all test w ≡ true → is_word w ≡ true
 tested_word test each w some all = rw (

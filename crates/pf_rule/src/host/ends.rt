@@ -28,8 +28,8 @@ fn read_destination<'a>(words: &mut Words<'a>) -> Result<End, Stop>
     }
 }
 
-/// Reads a source and a destination, each any host with no test of a port where it isn't named. The words are then those behind
-/// it. On an error, which is the first word that can't stand where it stands, nothing is said of the words that are left.
+/// Reads a source and a destination. One that isn't named is any host without a port test. The words are then those after it. After an
+/// error, which is at the first word that can't be where it is, which words remain is unspecified.
 #[tactic(auto, unfolding(crate::specs::Host::Ends::ends))]
 pub fn read_ends<'a>(words: &mut Words<'a>) -> Result<(End, End), Stop>
     ensures { Moves ends result words.old.now words.new.now }

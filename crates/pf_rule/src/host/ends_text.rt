@@ -9,7 +9,7 @@ use crate::value::write_port;
 use pf_addr::{write_more, write_more_net};
 use std::io::{self, Write};
 
-/// Writes the two ends of a packet's way behind what was written so far.
+/// Writes the two ends of a packet's way after what was written so far.
 pub fn write_ends<W: Write>(
     out: &mut W,
     so_far: io::Result<()>,

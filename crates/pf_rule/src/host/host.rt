@@ -6,14 +6,14 @@ ghost use Rattle.pf_rule.specs.Host.Hosts.{network_holds, table_holds, host_fami
 use pf_addr::path::TableName;
 use pf_addr::{Addr, Family, Net};
 
-/// Which addresses a rule's source or destination takes.
+/// Which addresses a rule's source or destination accepts.
 #[derive(Clone, Copy)]
 pub enum Host {
     /// Every address.
     Any,
-    /// The addresses of a network, or where it is negated (`!`) all others.
+    /// The addresses of a network, or if it is negated (`!`) all others.
     Net { net: Net, is_negated: bool },
-    /// The addresses that a table matches, or where it is negated (`!`) all others. It is found by its name when a packet comes.
+    /// The addresses that a table matches, or if it is negated (`!`) all others. It is found by its name when a packet comes.
     Table { name: TableName, is_negated: bool },
 }
 
@@ -28,7 +28,7 @@ pub trait TableAnswers {
 }
 
 impl Host {
-    /// What the host says without tables: where it is one, yes.
+    /// What the host says without tables; yes if it is a table.
     pub fn network_holds(&self, address: Addr) -> bool
         ensures { result ≡ network_holds self.now address }
     {
@@ -38,7 +38,7 @@ impl Host {
         }
     }
 
-    /// What the host says as a table: where it is none, yes.
+    /// What the host says as a table; yes if it isn't one.
     pub fn table_holds<T: TableAnswers>(&self, tables: &T, address: Addr) -> bool
         ensures { result ≡ table_holds (T.says tables.now) self.now address }
     {

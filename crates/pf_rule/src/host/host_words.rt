@@ -9,7 +9,7 @@ use pf_addr::Net;
 use pf_addr::path::TableName;
 use pf_form::form::{Kind, Stop, Words, takes};
 
-/// What stands between `<` and `>`.
+/// What is between `<` and `>`.
 fn bracketed(word: &[u8]) -> Option<&[u8]>
     ensures { option_map (λ name. name.now) result ≡ bracketed word.now }
 {
@@ -17,7 +17,7 @@ fn bracketed(word: &[u8]) -> Option<&[u8]>
     behind.and_then(|rest| rest.strip_suffix(b">".as_slice()))
 }
 
-/// A table's name between `<` and `>`, or else a network, as a host, negated or not.
+/// A table's name between `<` and `>`, or else a network, as a host; negated or not.
 fn marked(is_negated: bool, word: &[u8]) -> Result<Host, Kind>
     ensures { result ≡ marked is_negated word.now }
 {
@@ -31,7 +31,7 @@ fn marked(is_negated: bool, word: &[u8]) -> Result<Host, Kind>
     }
 }
 
-/// A table or a network, with a `!` joined to it or without one.
+/// A table or a network, with or without a `!` joined to it.
 fn host_of(word: &[u8]) -> Result<Host, Kind>
     ensures { result ≡ host_of word.now }
 {
@@ -41,7 +41,7 @@ fn host_of(word: &[u8]) -> Result<Host, Kind>
     }
 }
 
-/// The table or the network behind a `!` that is a word of its own.
+/// The table or the network after a `!` that is a word of its own.
 #[tactic(auto, unfolding(crate::specs::Host::Hosts::a_negated_host))]
 fn negated_word<'a>(words: &mut Words<'a>) -> Result<Host, Stop>
     ensures { Moves a_negated_host result words.old.now words.new.now }

@@ -1,4 +1,4 @@
-//! Laws of hosts. Each function does nothing; its clauses are what is proved.
+//! Laws of hosts. Each function does nothing; its contract is what is proved.
 ghost use Rattle.std.specs.Prelude.{◌≡◌, Ok};
 ghost use Rattle.pf_form.specs.Form.Words.{Word};
 ghost use Rattle.pf_rule.specs.declared.host.host.Host.{Host};

@@ -1,4 +1,4 @@
-//! Reading the forms of hosts with the tests of their ports. Each fails where bytes are missing or can't stand where they stand.
+//! Reading the forms of hosts with their port tests. Each fails if bytes are missing or can't be where they are.
 ghost use Rattle.std.specs.Prelude.{◌≡◌, ◌<◌, ◌≤◌, false, IfOk, IfSome, Some, None};
 ghost use Rattle.pf_addr.specs.{Address.IsNetwork, NetForms.first_number, Path.Names.IsTableName};
 ghost use Rattle.pf_form.specs.Bytes.{Codes.flag_byte, Names.filled, Readers.Reads};
@@ -11,7 +11,7 @@ use pf_addr::path::read_name;
 use pf_addr::{Family, Net, read_addr};
 use pf_form::bytes::{Fault, Rest, Stop, expect, read_below, read_flag, read_u8, read_u16, takes};
 
-/// The operator of a number below 7, which isn't 0.
+/// The operator for a number from 1 to 6.
 fn comparison_of(test: u8) -> Comparison
     requires some { 0 < test }
     requires below { test < 7 }
@@ -27,7 +27,7 @@ fn comparison_of(test: u8) -> Comparison
     }
 }
 
-/// The range of a number from 7 to 9.
+/// The range for a number from 7 to 9.
 fn range_of(test: u8) -> PortRange
     requires from { 7 ≤ test }
     requires below { test < 10 }
@@ -40,7 +40,7 @@ fn range_of(test: u8) -> PortRange
     }
 }
 
-/// The test of a port: none, where ports may not be tested.
+/// The test of a port; always none if ports can't be tested.
 #[tactic(auto, unfolding(crate::specs::Sum::Layouts::port_test))]
 fn read_test<'a>(ports: bool, from: &mut Rest<'a>) -> Result<Option<PortTest>, Stop>
     ensures read { Reads plain_test (port_test ports) result from.old.now from.new.now }
@@ -66,7 +66,7 @@ fn read_test<'a>(ports: bool, from: &mut Rest<'a>) -> Result<Option<PortTest>, S
     Ok(Some(PortTest::Ranged { range, first, last }))
 }
 
-/// A network in a rule of this family.
+/// A network in a rule of this family; fails if the rule has no family.
 #[tactic(auto, unfolding(crate::specs::Sum::Layouts::network_end))]
 fn read_network_end<'a>(
     ports: bool,
@@ -91,7 +91,7 @@ fn read_network_end<'a>(
     let Some(net) = Net::starting_at(first, length) else {
         return Err(Stop::Fault(Fault::Bad(left)));
     };
-    // what keeps its network a network is what its family tells
+    // `family` promises that this is a network
     let _family = net.family();
     Ok((net, is_negated, port))
 }
@@ -112,12 +112,12 @@ fn read_table_end<'a>(
     let port = read_test(ports, from)?;
     expect(from, &[0; 16])?;
     let name: TableName = read_name(TABLE_FIELD, from)?;
-    // what keeps it a name is what its bytes tell
+    // `as_bytes` promises that this is a name
     let _bytes = name.as_bytes();
     Ok((name, is_negated, port))
 }
 
-/// A host in a rule of this family, and the test of its port where ports may be tested.
+/// A host in a rule of this family, and the test of its port if ports can be tested.
 #[tactic(auto, unfolding(crate::specs::Sum::Layouts::end))]
 pub(crate) fn read_end<'a>(
     ports: bool,

@@ -18,10 +18,11 @@ const REFERENCE_FIELD: usize = 64;
 
 const TAIL: usize = 4;
 
-/// The rule's form: all that the rule says, in bytes at fixed places. Numbers have their highest byte first (network order), names
-/// are filled with zeros, and what doesn't apply is 0. The table of places is that of the definition `rule_form`, and own.
+/// The rule's form: all that the rule says, in bytes at fixed places. Numbers have their highest byte first (network order), names are
+/// padded with zeros, and what doesn't apply is 0. The places are in the table at the definition `rule_form`; they are this project's
+/// own.
 ///
-/// It is never refused for memory. The rule can be read from its form, so that different rules have different forms.
+/// Never runs out of memory. The rule can be read from its form, so different rules have different forms.
 #[tactic(auto, unfolding(crate::specs::Sum::Forms::rule_form))]
 pub fn rule_bytes(rule: &Rule) -> [u8; RULE_FORM]
     ensures { result ≡ rule_form rule.now }
@@ -124,7 +125,7 @@ fn reference_field(rule: &Rule) -> [u8; REFERENCE_FIELD]
     }
 }
 
-// Whether the reference ended in `/*`, and zeros.
+// Whether the reference ended in `/*`, followed by zeros.
 fn tail_of(rule: &Rule) -> [u8; TAIL]
     ensures { result ≡ flag_byte (wildcard rule.now.effect) ∷ 0 ∷ 0 ∷ 0 ∷ [] }
 {
@@ -135,7 +136,7 @@ fn tail_of(rule: &Rule) -> [u8; TAIL]
     [u8::from(is_wildcard), 0, 0, 0]
 }
 
-/// These bytes, and zeros behind them.
+/// These bytes followed by zeros.
 #[tactic(auto, unfolding(crate::specs::Sum::Forms::filled))]
 pub(crate) fn filled<const WIDTH: usize>(bytes: &[u8]) -> [u8; WIDTH]
     requires { length bytes.now ≤ WIDTH }

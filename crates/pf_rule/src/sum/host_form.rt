@@ -1,4 +1,4 @@
-//! The forms of hosts with the tests of their ports, which are parts of the forms of rules.
+//! The forms of hosts with their port tests, which are parts of the forms of rules.
 ghost use Rattle.std.specs.Prelude.{◌≡◌, ◌∷◌, ◌++◌, []};
 ghost use Rattle.byteorder.specs.Endian.{big_bytes};
 ghost use Rattle.pf_form.specs.Bytes.Codes.{flag_byte};
@@ -9,7 +9,7 @@ use crate::{Comparison, Host, PortRange, PortTest};
 use byteorder::{BigEndian, ByteOrder};
 use pf_addr::Addr;
 
-/// How many bytes the form of a host with the test of its port has.
+/// How many bytes the form of a host with its port test has.
 pub(crate) const HOST_FORM: usize = 56;
 
 const KINDS: usize = 4;
@@ -20,7 +20,7 @@ const ADDRESS_FIELD: usize = 16;
 
 pub(crate) const TABLE_FIELD: usize = 32;
 
-/// The form of a host with the test of its port.
+/// The form of a host with its port test.
 #[tactic(auto, unfolding(crate::specs::Sum::Forms::host_form))]
 pub(crate) fn host_bytes(host: &Host, port: Option<PortTest>) -> [u8; HOST_FORM]
     ensures { result ≡ host_form host.now port }
@@ -36,7 +36,7 @@ pub(crate) fn host_bytes(host: &Host, port: Option<PortTest>) -> [u8; HOST_FORM]
     form
 }
 
-// The kind, the sign, the length of the network's front and the port's test.
+// The kind, the sign, the network's prefix length and the port test.
 fn kinds_of(host: &Host, port: Option<PortTest>) -> [u8; KINDS]
     ensures { result ≡ kind_byte host.now ∷ flag_byte (is_negated host.now) ∷ length_byte host.now ∷ test_byte port ∷ [] }
 {
@@ -67,7 +67,7 @@ fn is_negated(host: &Host) -> bool
     }
 }
 
-// How many bits the front of the host's network has.
+// The prefix length of the host's network.
 fn length_byte(host: &Host) -> u8
     ensures { result ≡ length_byte host.now }
 {

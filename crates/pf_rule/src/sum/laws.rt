@@ -1,18 +1,18 @@
-//! Laws of forms. Each function does nothing; its clauses are what is proved.
+//! Laws of forms. Each function does nothing; its contract is what is proved.
 ghost use Rattle.std.specs.Prelude.{◌≡◌, ℕ, [], ◌∷◌, codes, length, map, Ok};
 ghost use Rattle.pf_rule.specs.{Rules.{PlainRule, IsRule}, RuleGrammar.rule, Sum.Forms.{host_form, rule_form, ruleset_sum}, Sum.Layouts.{rule_layout, plain_rule}, Sum.Reading.rule_of};
 ghost use Rattle.pf_form.specs.{Bytes.Forms.{Fits, writes, length_of}, Form.Words.words_of, Form.Forms.read_all};
 ghost use Rattle.pf_rule.specs.declared.{host.host.Host.TheVariants.Any, sum.form.TheConstants.RULE_FORM};
 ghost use Rattle.pf_rule.specs.Laws.Sums as example;
 
-/// The form of each rule has [`RULE_FORM`](crate::sum::RULE_FORM) bytes, and so has what its layout writes in each version.
+/// The form of each rule has [`RULE_FORM`](crate::sum::RULE_FORM) bytes, and so has what its layout writes in every version.
 #[tactic(auto, using(crate::proofs::RuleBytes::form_long, crate::proofs::RuleBytes::layout_long))]
 pub fn forms_are_of_one_length()
     ensures form { (r : PlainRule) → IsRule r → length (rule_form r) ≡ RULE_FORM }
     ensures layout { (version : ℕ) (r : PlainRule) → IsRule r → length_of (rule_layout version) (plain_rule r) ≡ RULE_FORM }
 {}
 
-/// A form is what the layout of each version writes of the rule's data, which tell the whole rule: what is read from it is the rule.
+/// A form is what the layout of each version writes of the rule's data. The data determine the whole rule: it is read back from them.
 #[tactic(auto, using(crate::proofs::RuleBytes::rule_fits, crate::proofs::RuleBytes::layout_is, crate::proofs::RuleBytes::rule_again))]
 pub fn rule_is_read_from_its_form()
     ensures fits { (version : ℕ) (r : PlainRule) → IsRule r → Fits (rule_layout version) (plain_rule r) }
@@ -25,7 +25,7 @@ pub fn different_rules_have_different_forms()
     ensures { (r s : PlainRule) → IsRule r → IsRule s → rule_form r ≡ rule_form s → r ≡ s }
 {}
 
-/// Four rules are read from these texts.
+/// Four rules that are read from these texts.
 #[tactic(auto, using(crate::proofs::Computed::texts))]
 pub fn four_rules_have_these_texts()
     ensures block { read_all rule (words_of (codes "block in all")) ≡ Ok (Ok example.block) }
@@ -35,7 +35,7 @@ pub fn four_rules_have_these_texts()
         read_all rule (words_of text) ≡ Ok (Ok example.tested) }
 {}
 
-/// The forms of these rules.
+/// The forms of these four rules.
 #[tactic(auto, using(crate::proofs::Computed::forms))]
 pub fn four_rules_have_these_forms()
     ensures block { rule_form example.block ≡ example.block_form }
@@ -44,14 +44,14 @@ pub fn four_rules_have_these_forms()
     ensures tested { rule_form example.tested ≡ example.tested_form }
 {}
 
-/// The form of a rule of IPv6, and that of any host with each test of its port.
+/// The form of an IPv6 rule, and that of any host with each port test.
 #[tactic(auto, using(crate::proofs::Computed::v6_form, crate::proofs::Computed::ports_form))]
 pub fn families_and_port_tests_have_these_forms()
     ensures family { rule_form example.v6 ≡ example.v6_form }
     ensures ports { map (host_form Any) example.port_tests ≡ example.tested_hosts }
 {}
 
-/// The checksums of no rules, of the first of them, and of all four.
+/// The checksums of no rules, of the first of the four, and of all four.
 #[tactic(auto, using(crate::proofs::Computed::none_sum, crate::proofs::Computed::block_sum, crate::proofs::Computed::four_sum))]
 pub fn three_rulesets_have_these_sums()
     ensures none { ruleset_sum [] ≡ example.sum_of_none }

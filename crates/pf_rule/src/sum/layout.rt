@@ -14,15 +14,15 @@ use pf_form::bytes::{
 };
 use std::alloc::{AllocError, Global};
 
-/// The number of an effect that passes, and that of an anchor's.
+/// The number of an effect that passes, and that of an anchor.
 const PASS: u8 = 1;
 
 const ANCHOR: u8 = 2;
 
-/// The 204 bytes of [`rule_bytes`]. They are the same in each version.
+/// The 204 bytes of [`rule_bytes`]. They are the same in every version.
 ///
-/// Bytes that are no rule's fail where they go wrong, as where a port is tested without a protocol that has ports, a network stands in a
-/// rule without a family or has host bits, a rule that doesn't pass keeps state, or a zero or a name is none. What is read takes no memory.
+/// Reading other bytes fails at the place where they go wrong: a port is tested without a protocol that has ports, a network is in a rule
+/// without a family or has host bits, a rule that doesn't pass keeps state, or a zero or a name is wrong. Reading doesn't allocate.
 impl Layout for Rule {
     ghost use Rattle.std.specs.Prelude.{true};
     ghost use Rattle.pf_rule.specs.Sum.Layouts.{RuleShape, rule_layout, plain_rule};
@@ -65,7 +65,7 @@ impl Layout for Rule {
 
     #[tactic(auto, using(crate::proofs::RuleBytes::form_pushed))]
     fn write(&self, _version: u8, out: &mut Vec<u8>) -> Result<(), AllocError> {
-        // what keeps the rule a rule is what its effect tells
+        // `effect` promises that this is a rule
         let _effect = self.effect();
         push_bytes(out, &rule_bytes(self))
     }
@@ -74,7 +74,7 @@ impl Layout for Rule {
 impl Fitting for Rule {
     #[tactic(auto, using(crate::proofs::RuleBytes::rule_fits))]
     fn fits(&self, _version: u8) {
-        // what keeps the rule a rule is what its effect tells
+        // `effect` promises that this is a rule
         let _effect = self.effect();
     }
 }
@@ -124,7 +124,7 @@ fn read_interface<'a>(from: &mut Rest<'a>) -> Result<Option<Interface>, Stop>
         return Ok(None);
     }
     let name: Interface = read_name(INTERFACE_FIELD, from)?;
-    // what keeps it a name is what its bytes tell
+    // `as_bytes` promises that this is a name
     let _bytes = name.as_bytes();
     Ok(Some(name))
 }
@@ -139,7 +139,7 @@ fn has_ports(protocol: Option<Protocol>) -> bool
     }
 }
 
-/// The effect of this number, and what it names where it is an anchor's.
+/// The effect with this number, and what it names if it is an anchor.
 fn read_effect<'a>(
     alloc: Global,
     version: u8,
@@ -156,7 +156,7 @@ fn read_effect<'a>(
 {
     if kind == ANCHOR {
         let reference = Reference::read(alloc, version, from)?;
-        // what keeps it a reference is what its names tell
+        // `names` promises that this is a reference
         let _names = reference.names();
         return Ok(Effect::Evaluate(reference));
     }

@@ -6,12 +6,12 @@ use crate::Rule;
 use crate::sum::form::rule_bytes;
 use md5::{Digest, Md5};
 
-/// How many bytes a ruleset's checksum has, as each digest of MD5.
+/// How many bytes a ruleset's checksum has: those of an MD5 digest.
 pub const RULESET_SUM: usize = 16;
 
-/// The checksum of a ruleset: the MD5 (RFC 1321) of the forms of its rules, which [`rule_bytes`] gives, one after the other in the
-/// rules' order. It is never refused for memory. Rulesets with different checksums are different; against someone who looks for two
-/// with one checksum it is no help.
+/// The checksum of a ruleset: the MD5 (RFC 1321) of the forms of its rules, which [`rule_bytes`] returns, one after the other in the
+/// rules' order. Never runs out of memory. Rulesets with different checksums are different, but it is no protection against someone who
+/// looks for two with the same checksum.
 #[tactic(auto, unfolding(crate::specs::Sum::Forms::ruleset_sum))]
 pub fn ruleset_sum(rules: &[Rule]) -> [u8; RULESET_SUM]
     ensures { result ≡ ruleset_sum rules.now }

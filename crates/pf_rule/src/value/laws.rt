@@ -1,4 +1,4 @@
-//! Laws of words. Each function does nothing; its clauses are what is proved.
+//! Laws of words. Each function does nothing; its contract is what is proved.
 ghost use Rattle.std.specs.Prelude.{◌≡◌, ℕ, Ok};
 ghost use Rattle.pf_form.specs.Form.Words.{Word};
 ghost use Rattle.pf_rule.specs.declared.{value.port_words.PortStart.PortStart, value.interface.TheConstants.INTERFACE_LIMIT, value.values.TheConstants.{PROTOCOL_DIGITS, PORT_DIGITS}};

@@ -9,14 +9,14 @@ use crate::value::value_words::port_word;
 use crate::value::values::port_of;
 use pf_form::form::{Kind, Stop, Words, takes};
 
-/// What the first word of a test says: the whole test, or its first number.
+/// What the first word of a test gives: the whole test, or its first number.
 #[derive(Clone, Copy)]
 enum PortStart {
     Test(PortTest),
     Number(u16),
 }
 
-/// A word that begins with a unary operator: the operator, and what stands behind it.
+/// Splits a word that begins with a unary operator into the operator and what comes after it.
 fn split_operator(word: &[u8]) -> Option<(Comparison, &[u8])>
     ensures { option_map (λ x. (x.0, x.1.now)) result ≡ split_operator word.now }
 {
@@ -72,7 +72,7 @@ fn start_word<'a>(words: &mut Words<'a>) -> Result<PortStart, Stop>
     take_word!(words, word => start_of(word))
 }
 
-/// What may stand behind a number that stands alone: a binary operator and the second number.
+/// What may come after a number that is a word of its own: a binary operator and the second number.
 #[tactic(auto, unfolding(crate::specs::Value::Ports::range_end))]
 fn read_range_end<'a>(
     behind_number: bool,
@@ -149,7 +149,7 @@ fn read_order_or_range<'a>(words: &mut Words<'a>) -> Result<PortTest, Stop>
     read_ranged(words)
 }
 
-/// The test of one end's port, where there is one.
+/// The test of one end's port, if there is one.
 #[tactic(auto, unfolding(crate::specs::Value::Ports::port))]
 pub fn read_port<'a>(words: &mut Words<'a>) -> Result<Option<PortTest>, Stop>
     ensures { Moves port result words.old.now words.new.now }

@@ -21,7 +21,7 @@ pub enum Comparison {
     AtLeast,
 }
 
-/// Where a port has to lie, by a first and a last number (pf.conf(5), PARAMETERS).
+/// Which ports a range of a first and a last number takes (pf.conf(5), PARAMETERS).
 #[derive(Clone, Copy)]
 pub enum PortRange {
     /// `:`, the ports from the first number to the last.
@@ -35,12 +35,12 @@ pub enum PortRange {
 /// A test of a packet's port: by a unary operator with its number, or by a binary one between two numbers.
 #[derive(Clone, Copy)]
 pub enum PortTest {
-    /// What the port has to be compared as, and with which number, 0 to 65535.
+    /// By comparison with a number, 0 to 65535.
     Compared {
         operator: Comparison,
         port: u16,
     },
-    /// By an operator between two numbers. Where the first is past the last, `:` and `><` hold for no port, and `<>` for every one.
+    /// By an operator between two numbers. If the first is greater than the last, `:` and `><` hold for no port, and `<>` for every one.
     Ranged {
         range: PortRange,
         first: u16,
@@ -80,7 +80,7 @@ fn compares(operator: Comparison, port: u16, number: u16) -> bool
     }
 }
 
-/// Whether a port is one that a test takes. A test that is absent holds.
+/// Whether a test takes this port. A missing test holds.
 pub fn takes_port(test: Option<PortTest>, port: u16) -> bool
     ensures { result ≡ holds test (λ t. port_holds t port) }
 {
@@ -90,7 +90,7 @@ pub fn takes_port(test: Option<PortTest>, port: u16) -> bool
     }
 }
 
-/// Whether a rule of this protocol, if it has one, may test its ports so.
+/// Whether a rule with this protocol, if any, may test its ports like this.
 #[tactic(auto, unfolding(crate::specs::Value::Ports::ports_fit))]
 pub fn ports_fit(
     protocol: Option<Protocol>,

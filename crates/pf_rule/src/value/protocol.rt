@@ -30,7 +30,7 @@ impl Protocol {
     /// ICMP for IPv6.
     pub const ICMP6: u8 = 58;
 
-    /// The protocol of this number, which isn't 0.
+    /// The protocol with this number, which isn't 0.
     pub fn new(number: u8) -> Protocol
         requires { 0 < number }
         ensures { result ≡ number }

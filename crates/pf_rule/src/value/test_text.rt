@@ -32,7 +32,7 @@ pub fn family_text(family: Option<Family>) -> &'static [u8]
     }
 }
 
-/// Writes a test of the interface behind what was written so far.
+/// Writes a test of the interface after what was written so far.
 #[tactic(auto, using(crate::specs::Value::Spacing::continuing))]
 pub fn write_interface<W: Write>(
     out: &mut W,
@@ -50,7 +50,7 @@ pub fn write_interface<W: Write>(
     }
 }
 
-/// Writes a test of the protocol: its name, where it has one, or its number.
+/// Writes a test of the protocol: its name, if it has one, or its number.
 #[tactic(auto, using(crate::specs::Value::Spacing::continuing))]
 pub fn write_protocol<W: Write>(
     out: &mut W,

@@ -10,7 +10,7 @@ use crate::value::value_words::{interface_word, protocol_word};
 use pf_addr::Family;
 use pf_form::form::{Stop, Words, takes};
 
-/// The test of the direction, where there is one.
+/// The test of the direction, if there is one.
 #[tactic(auto, unfolding(crate::specs::Value::Tests::direction))]
 pub fn read_direction<'a>(words: &mut Words<'a>) -> Option<Direction>
     ensures { reads direction (texts words.old.now) ≡ Ok (result, texts words.new.now) }
@@ -24,7 +24,7 @@ pub fn read_direction<'a>(words: &mut Words<'a>) -> Option<Direction>
     }
 }
 
-/// The test of the interface, where there is one.
+/// The test of the interface, if there is one.
 #[tactic(auto, unfolding(crate::specs::Value::Tests::interface))]
 pub fn read_interface<'a>(words: &mut Words<'a>) -> Result<Option<Interface>, Stop>
     ensures { Moves interface result words.old.now words.new.now }
@@ -35,7 +35,7 @@ pub fn read_interface<'a>(words: &mut Words<'a>) -> Result<Option<Interface>, St
     Ok(Some(interface_word(words)?))
 }
 
-/// The test of the family, where there is one.
+/// The test of the family, if there is one.
 #[tactic(auto, unfolding(crate::specs::Value::Tests::family))]
 pub fn read_family<'a>(words: &mut Words<'a>) -> Option<Family>
     ensures { reads family (texts words.old.now) ≡ Ok (result, texts words.new.now) }
@@ -49,7 +49,7 @@ pub fn read_family<'a>(words: &mut Words<'a>) -> Option<Family>
     }
 }
 
-/// The test of the protocol, where there is one.
+/// The test of the protocol, if there is one.
 #[tactic(auto, unfolding(crate::specs::Value::Tests::protocol))]
 pub fn read_protocol<'a>(words: &mut Words<'a>) -> Result<Option<Protocol>, Stop>
     ensures { Moves protocol result words.old.now words.new.now }

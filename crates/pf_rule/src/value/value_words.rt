@@ -1,4 +1,4 @@
-//! Reading the words that stand for values, each from the front of those that are left.
+//! Reading the words that stand for values, each from the front of the remaining words.
 ghost use Rattle.pf_form.specs.Form.Readers.{Moves};
 ghost use Rattle.pf_rule.specs.Value.Values.{an_interface, a_protocol, an_address, a_port};
 
@@ -8,7 +8,7 @@ use crate::value::values::{address_of, port_of, protocol_of};
 use pf_addr::Addr;
 use pf_form::form::{Stop, Words};
 
-/// Takes the first word where it reads as a value.
+/// Takes the first word if it reads as a value.
 #[macro_export]
 macro_rules! take_word {
     ($words:ident, $word:ident => $read:expr) => {

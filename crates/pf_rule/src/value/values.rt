@@ -7,9 +7,9 @@ use crate::value::protocol::Protocol;
 use pf_addr::Addr;
 use pf_form::form::{Kind, read_number};
 
-/// How many digits a protocol's number may have, leading zeros among them.
+/// How many digits a protocol's number may have, including leading zeros.
 pub(crate) const PROTOCOL_DIGITS: usize = 3;
-/// The same of a port.
+/// The same for a port.
 pub(crate) const PORT_DIGITS: usize = 5;
 
 /// A protocol by its name or its number.
@@ -32,7 +32,7 @@ pub(crate) fn protocol_of(word: &[u8]) -> Result<Protocol, Kind>
     }
 }
 
-/// A port, which is 0 where the protocol has no ports.
+/// A port, which is 0 if the protocol has no ports.
 pub(crate) fn port_of(ports: bool, word: &[u8]) -> Result<u16, Kind>
     ensures { result ≡ port_of ports word.now }
 {

@@ -1,9 +1,9 @@
--- The messages that tell a peer of the states here. The messages are pf_state::peer's, after pfsync(4).
+-- The messages that give a peer the states here. They are those of pf_state::peer, after pfsync(4).
 use Rattle.std.specs.{Prelude.{ℕ, List, [], ◌∷◌, length, map}, Simd.first_chunks, Slice.Iter.chunk_count}
 use Rattle.pf_state.specs.{declared.{peer.message.Group.TheVariants.Inserts, peer.message.Message.Message, binding.TheConstants.ALL_ONES, failover.outgoing.TheConstants.EXPORT_RECORDS}, Peer.Records.PlainInsert, Bindings.exported, States.PlainState}
 
--- The insert that tells of a state where the main rules have this checksum: it names the state's main rule while they are the rules
--- that it was bound by, and no anchor.
+-- The insert of a state if the main rules have this checksum: it has the number of the state's main rule while they are the rules that it
+-- was bound by, and no anchor.
 abbrev pub exported_insert : List ℕ → PlainState → PlainInsert
 exported_insert current s = record {
   id = s.0.id;
@@ -19,7 +19,7 @@ exported_insert current s = record {
   anchor = ALL_ONES;
 }
 
--- a message of one group, which tells of these states
+-- a message of one group, with these states
 abbrev pub exported_message : List ℕ → List PlainState → Message
 exported_message current es = record { checksum = current; groups = Inserts (map (exported_insert current) es) ∷ [] }
 

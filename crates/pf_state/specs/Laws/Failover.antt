@@ -1,4 +1,4 @@
--- What follows from the definitions of what a message asks for and of an export, as law functions promise it.
+-- Laws of what a message asks for and of an export, as law functions promise them.
 use Rattle.std.specs.{Prelude.{◌≡◌, ℕ, ◌<◌, ◌≤◌, ◌^◌, ◌&&◌, false, nat_lt, cond, List, [], ◌∷◌, length, map}, List.{concat, flat_map, sum_by}, Str.bytes_eq}
 use Rattle.pf_state.specs.{declared.{peer.message.Group.Group, peer.message.Group.TheVariants.Inserts, peer.message.Group.TheVariants.Deletes, peer.message.Group.TheVariants.Clears, peer.message.Message.Message, peer.message.TheConstants.MESSAGE_LIMIT, binding.TheConstants.ALL_ONES, state.Bound.Bound, state.Bound.TheVariants.Rule, state.Bound.TheVariants.Default, step.Step.Step, step.Step.TheVariants.Insert, failover.outgoing.TheConstants.EXPORT_RECORDS}, Peer.Records.PlainInsert, Peer.Streams.{Reads, Unfinished}, Peer.Written.{Each, message_length, message_bytes}, Flows.IsFlow, States.{PlainState, IsStates}, Steps.{after, passes_limit}, Failover.Incoming.steps_of, Failover.Outgoing.{parts, exported_messages}}
 
@@ -15,13 +15,13 @@ OneStepForEach = (m : Message) (current : List ℕ) (count : ℕ) → length (st
 
 -- ---- what an export has
 
--- each part but the last has 31 states, and the last one 1 to 31
+-- each part but the last has 31 states, and the last 1 to 31
 abbrev pub AreFullButLast : List (List PlainState) → Type 0
 AreFullButLast [] = Unit {0}
 AreFullButLast (p ∷ []) = (1 ≤ length p) × (length p ≤ EXPORT_RECORDS)
 AreFullButLast (p ∷ q ∷ ps) = (length p ≡ EXPORT_RECORDS) × AreFullButLast (q ∷ ps)
 
--- the parts of some states are these states, cut so
+-- the parts of some states are these states, cut like that
 pub record AreParts (es : List PlainState) (ps : List (List PlainState)) : Type 0 where
   pub joined : flat_map (λ p. p) ps ≡ es
   pub full : AreFullButLast ps
@@ -29,7 +29,7 @@ pub record AreParts (es : List PlainState) (ps : List (List PlainState)) : Type 
 abbrev pub CutsIntoParts : Type 0
 CutsIntoParts = (es : List PlainState) → AreParts es (parts es)
 
--- a message of an export: the checksum of the rules here, and one group of 1 to 31 inserts, in no more bytes than a message may have
+-- a message of an export: the checksum of the rules here, and one group of 1 to 31 inserts, no longer than a message may be
 pub record IsExported (current : List ℕ) (m : Message) : Type 0 where
   pub checksum : m.checksum ≡ current
   pub inserts : List PlainInsert
@@ -43,8 +43,8 @@ ExportsMessages = (current : List ℕ) (es : List PlainState) → Each (IsExport
 
 -- ---- what a peer makes of it
 
--- What a state is bound to at a peer: to its rule where that was one of the rules here, the peer has the same rules, and so many of
--- them that it is one; else to the default rule.
+-- What a state is bound to at a peer: its rule if that was one of the rules here, the peer has the same rules, and enough of them; else the
+-- default rule.
 abbrev pub bound_there : List ℕ → List ℕ → ℕ → Bound → Bound
 bound_there ours theirs count (Rule number sum) =
     cond (bytes_eq sum ours && (bytes_eq ours theirs && nat_lt number count)) (Rule number sum) Default
@@ -62,13 +62,13 @@ abbrev pub TellsTheStates : Type 0
 TellsTheStates = (ours theirs : List ℕ) (count : ℕ) (es : List PlainState) → count ≤ ALL_ONES
     → flat_map (λ m. steps_of m theirs count) (exported_messages ours es) ≡ map (λ s. Insert (state_there ours theirs count s)) es
 
--- these steps are taken where there are no states, at no step there are more states than there may be, and these are left
+-- these steps are taken if there are no states, no step leaves more states than the limit, and these are left
 pub record MakesStates (steps : List Step) (es : List PlainState) : Type 0 where
   pub left : after [] steps ≡ es
   pub fits : passes_limit [] steps ≡ false
 
--- A peer that has no states acts on all that an export of a table asks for, in turn: at no step it has more states than there may be,
--- and then it has these states and no other.
+-- A peer without states takes all steps that an export of a table asks for, in turn: no step leaves more states than the limit, and then it
+-- has these states and no others.
 abbrev pub TakesOver : Type 0
 TakesOver = (ours theirs : List ℕ) (count : ℕ) (es : List PlainState) → IsStates es → count ≤ ALL_ONES
     → MakesStates (flat_map (λ m. steps_of m theirs count) (exported_messages ours es)) (map (state_there ours theirs count) es)

@@ -1,4 +1,4 @@
--- What follows from the layouts of flows, states and steps.
+-- Laws of the layouts of flows, states and steps.
 use Rattle.std.proofs.{Common.{◌≡◌, ◌<◌, ◌==◌, ◌&&◌, ◌||◌, ℕ, Bool, true, false, List, [], ◌∷◌, suc, slice_index, refl, sym, subst, arith}, lemmas.Bool.Decides.nat_tests}
 use Rattle.std.specs.List.{AllByRecursion}
 use Rattle.pf_addr.specs.{Address.{IsAddr, family_of}, declared.addr.{Addr.{Addr, TheVariants.{V4, V6}}, Family.Family}}
@@ -32,7 +32,7 @@ ports_fit : (f : PlainFlow) → IsFlow f → Fits (ports_form f.protocol) (f.sou
 unfolding ports_form
 ports_fit f is = (is.ports, no_ports (has_ports f.protocol) f.source_port f.destination_port is.no_ports)
 
--- each flow that there is can be written
+-- each flow can be written
 pub flow_fits : (f : PlainFlow) → IsFlow f → Fits flow_form (plain_flow f)
 unfolding flow_form
 flow_fits f is = (

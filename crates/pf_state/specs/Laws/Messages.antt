@@ -1,5 +1,5 @@
--- A message with an insert each way, one of each family, a delete and a clear, and its bytes as its form has them, to be compared with
--- what other programs make of them. Each byte of a number differs from the others where that can be.
+-- A message with an insert in each direction, one of each family, a delete and a clear, and its bytes as its form has them, to be compared
+-- with what other programs make of them. All bytes of a number differ where they can.
 use Rattle.std.specs.Prelude.{List, [], ◌∷◌, ◌++◌, ℕ, replicate}
 use Rattle.pf_addr.specs.declared.addr.Addr.TheVariants.{V4, V6}
 use Rattle.pf_rule.specs.declared.value.direction.Direction.TheVariants.{In, Out}
@@ -64,7 +64,7 @@ went_out_bytes =
     ∷ 0x20 ∷ 0x01 ∷ 0x0d ∷ 0xb8 ∷ replicate 11 0 ++ 1 ∷ 0x20 ∷ 0x01 ∷ 0x0d ∷ 0xb8 ∷ replicate 11 0 ++ 2
     ∷ 0x14 ∷ 0xe9 ∷ 0 ∷ 53 ∷ replicate 4 255 ++ 0 ∷ 0 ∷ 0 ∷ 8 ∷ []
 
--- 288 bytes: the head, two inserts, a delete, a clear
+-- 288 bytes: the header, two inserts, a delete, a clear
 abbrev pub bytes : List ℕ
 bytes =
     5 ∷ 0 ∷ 1 ∷ 32 ∷ checksum

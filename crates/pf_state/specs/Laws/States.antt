@@ -1,11 +1,11 @@
--- What follows from the definitions of flows, states, steps and bindings, as law functions promise it.
+-- Laws of flows, states, steps and bindings, as law functions promise them.
 use Rattle.std.specs.{Prelude.{◌≡◌, ◌≢◌, ℕ, ◌+◌, ◌<◌, ◌≤◌, ◌==◌, ◌&&◌, ◌↔◌, Bool, true, false, cond, List, [], ◌∷◌, length, take, Option, Some, None}, List.count_by, Ordering.eq_by_cmp}
 use Rattle.pf_rule.specs.Packets.{PlainPacket}
 use Rattle.pf_state.specs.{declared.{binding.TheConstants.ALL_ONES, limits.TheConstants.STATE_LIMIT, state.Bound.TheVariants.Rule, state.Bound.TheVariants.Default, state.Held.Held, state.StateName.StateName, step.Insertion.TheVariants.Stale, step.Step.Step, step.Step.TheVariants.Insert, step.Step.TheVariants.Delete, step.Step.TheVariants.Clear}, Flows.{PlainFlow, is_equal, turned, same_flow, flow_of}, States.{PlainState, name_order, held_at, state_of, NamesFlows, IsStates}, Steps.{insertion, has_effect, stepped, after, counts, passes_limit}, Bindings.{bound, exported}}
 
 -- ---- flows
 
--- two flows are one exactly where they are equal, or one is the other turned; so they fall into classes
+-- two flows are one exactly if they are equal, or one is the other turned; so flows fall into classes
 pub record FlowsAlike (f g h : PlainFlow) : Type 0 where
   pub equal : (is_equal f g ≡ true) ↔ (f ≡ g)
   pub back : turned (turned f) ≡ f
@@ -17,7 +17,7 @@ pub record FlowsAlike (f g h : PlainFlow) : Type 0 where
 abbrev pub OneFlowOrAnother : Type 0
 OneFlowOrAnother = (f g h : PlainFlow) → FlowsAlike f g h
 
--- packets that differ in their interface alone are of one flow
+-- packets that differ only in their interface are of one flow
 abbrev pub InterfaceIsNoPart : Type 0
 InterfaceIsNoPart = (p q : PlainPacket) → p.direction ≡ q.direction → p.protocol ≡ q.protocol → p.source ≡ q.source
     → p.source_port ≡ q.source_port → p.destination ≡ q.destination → p.destination_port ≡ q.destination_port → flow_of p ≡ flow_of q
@@ -43,12 +43,12 @@ OneStateAFlow = (es : List PlainState) (f : PlainFlow) → NamesFlows es → Fin
 abbrev pub KeepsWhatIsThere : Type 0
 KeepsWhatIsThere = (es : List PlainState) (s : PlainState) → has_effect (insertion es s) ≡ false → stepped es (Insert s) ≡ es
 
--- an insert of a known name is stale exactly where its generation isn't greater, whatever its flow
+-- an insert of a known name is stale exactly if its generation isn't greater, whatever its flow
 abbrev pub StaleByGeneration : Type 0
 StaleByGeneration = (es : List PlainState) (s : PlainState) (there : Held) → held_at s.0 es ≡ Some there
     → (insertion es s ≡ Stale) ↔ (s.1.generation ≤ there.generation)
 
--- under each name what a step leaves: an insert that has effect what it holds, a delete and a clear nothing, whatever the generation
+-- what a step leaves under each name: an insert that has effect what it holds, a delete and a clear nothing, whatever the generation
 pub record StepsRead (es : List PlainState) (q : StateName) : Type 0 where
   pub insert : (s : PlainState)
       → held_at q (stepped es (Insert s)) ≡ cond (has_effect (insertion es s) && eq_by_cmp name_order q s.0) (Some s.1) (held_at q es)
@@ -64,13 +64,13 @@ NamesAlike = (a b : StateName) → (eq_by_cmp name_order a b ≡ true) ↔ (a �
 
 -- ---- what a batch changes
 
--- what a step leaves under a name where this was held
+-- what a step leaves under a name that held this
 abbrev pub left_by : List PlainState → Step → StateName → Option Held → Option Held
 left_by es (Insert s) q old = cond (has_effect (insertion es s) && eq_by_cmp name_order q s.0) (Some s.1) old
 left_by es (Delete n) q old = cond (eq_by_cmp name_order q n) None old
 left_by es (Clear creator) q old = cond (q.creator == creator) None old
 
--- what steps in turn leave there: what the last of them that has effect on the name does
+-- what steps in turn leave there: what the last one that affects the name does
 abbrev pub left_behind : List PlainState → List Step → StateName → Option Held → Option Held
 left_behind es [] q old = old
 left_behind es (x ∷ xs) q old = left_behind (stepped es x) xs q (left_by es x q old)
@@ -78,7 +78,7 @@ left_behind es (x ∷ xs) q old = left_behind (stepped es x) xs q (left_by es x 
 abbrev pub LastStepStands : Type 0
 LastStepStands = (es : List PlainState) (steps : List Step) (q : StateName) → held_at q (after es steps) ≡ left_behind es steps q (held_at q es)
 
--- the order stays, and so do names and flows that stand once; and the limit, where the batch isn't refused
+-- the order stays, and names and flows stay unique; so does the limit, if the batch isn't refused
 pub record LeavesStates (es : List PlainState) (steps : List Step) : Type 0 where
   pub names : NamesFlows es → NamesFlows (after es steps)
   pub table : IsStates es → passes_limit es steps ≡ false → IsStates (after es steps)
@@ -86,7 +86,7 @@ pub record LeavesStates (es : List PlainState) (steps : List Step) : Type 0 wher
 abbrev pub StaysStates : Type 0
 StaysStates = (es : List PlainState) (steps : List Step) → LeavesStates es steps
 
--- a batch isn't refused exactly where, behind each front of it, there are no more states than there may be
+-- a batch is taken exactly if, after each front of it, there are no more states than the limit
 abbrev pub RefusedByAnyStep : Type 0
 RefusedByAnyStep = (es : List PlainState) (steps : List Step) → IsStates es
     → (passes_limit es steps ≡ false) ↔ ((k : ℕ) → length (after es (take k steps)) ≤ STATE_LIMIT)
@@ -98,7 +98,7 @@ is_insert (Insert s) = true
 is_insert (Delete n) = false
 is_insert (Clear creator) = false
 
--- each insert is counted once, and the states grow and shrink as is counted
+-- each insert is counted once, and the number of states changes by what is counted
 pub record AddsUp (es : List PlainState) (steps : List Step) : Type 0 where
   pub inserts : let c = counts es steps in c.inserted + (c.replaced + (c.stale + c.clash)) ≡ count_by is_insert steps
   pub states : length (after es steps) + (counts es steps).deleted ≡ length es + (counts es steps).inserted
@@ -108,7 +108,7 @@ CountsAddUp = (es : List PlainState) (steps : List Step) → NamesFlows es → A
 
 -- ---- bindings
 
--- a state is bound to a main rule only by the checksum of the main rules here, and by a number that one of them has
+-- a state is bound to a main rule only by the checksum of the main rules here, and by the number of one of them
 pub record BindsByRules (sum : List ℕ) (rule anchor : ℕ) (current : List ℕ) (count : ℕ) (number : ℕ) (kept : List ℕ) : Type 0 where
   pub same_rules : sum ≡ current
   pub one_rule : rule ≢ ALL_ONES
@@ -121,7 +121,7 @@ abbrev pub BindsExactly : Type 0
 BindsExactly = (sum : List ℕ) (rule anchor : ℕ) (current : List ℕ) (count number : ℕ) (kept : List ℕ)
     → (bound sum rule anchor current count ≡ Rule number kept) ↔ BindsByRules sum rule anchor current count number kept
 
--- what is bound here and told while the same rules stand is the number that it came with
+-- the number exported while the same rules are in place is the one that the state came with
 abbrev pub TellsTheNumber : Type 0
 TellsTheNumber = (sum : List ℕ) (rule anchor : ℕ) (current later : List ℕ) (count : ℕ)
     → let b = bound sum rule anchor current count in

@@ -1,4 +1,4 @@
--- A flow in 40 bytes, as it stands in a peer's record and in what is kept of a state.
+-- A flow in 40 bytes, as a peer's record and a stored state have it.
 --
 --   place width field                place width field
 --       0     1 direction, 1 or 2        4    16 source, IPv4 in the first four
@@ -26,14 +26,14 @@ protocol_form = that (λ b. not (b == 0)) (number 1)
 abbrev pub AddrShape : Shape
 AddrShape = both nat nat
 
--- an address of the family whose byte is known, in 16 bytes
+-- an address of a known family, in 16 bytes
 abbrev pub addr_form : ℕ → Form AddrShape
 addr_form family = pair (nothing family) (if family == 4 then back (number 4) (replicate 12 0) else number 16)
 
 abbrev pub PortsShape : Shape
 PortsShape = both nat nat
 
--- 0 where the protocol has none
+-- 0 if the protocol has none
 unfoldable pub ports_form : ℕ → Form PortsShape
 ports_form protocol = that (λ n. has_ports protocol || ((n.0 == 0) && (n.1 == 0))) (pair (number 2) (number 2))
 
@@ -45,7 +45,7 @@ FlowShape = both nat (both nat (both nat (both AddrShape (both AddrShape PortsSh
 unfoldable pub flow_form : Form FlowShape
 flow_form = pair direction_form (pair_by family_form (λ f. pair_by protocol_form (λ p. front (0 ∷ []) (pair (addr_form f) (pair (addr_form f) (ports_form p))))))
 
--- ---- what it is a form of
+-- ---- plain data
 
 abbrev pub plain_addr : Addr → Value AddrShape
 plain_addr a = (family_byte (family_of a), number_in a)
@@ -53,7 +53,7 @@ plain_addr a = (family_byte (family_of a), number_in a)
 abbrev pub plain_flow : PlainFlow → Value FlowShape
 plain_flow f = (direction_byte f.direction, (family_byte (family_of f.source), (f.protocol, (plain_addr f.source, (plain_addr f.destination, (f.source_port, f.destination_port))))))
 
--- of plain data the flow that they are the data of
+-- the flow that has these plain data
 abbrev pub direction_in : ℕ → Direction
 direction_in b = if b == 1 then In else Out
 

@@ -6,7 +6,7 @@ use Rattle.pf_state.specs.{declared.layouts.state.StoredState.StoredState, Layou
 abbrev pub plain_row : StoredState → Value StateShape
 plain_row r = plain_state r.state
 
--- a table of just these, or none where they are no table's
+-- a table of just these, or none if they don't make one
 abbrev pub IsTableOf : List StoredState → Option (List PlainState) → Type 0
 IsTableOf rows (Some es) = (are_a_table (map plain_row rows) ≡ true) × (plain_states es ≡ map plain_row rows)
 IsTableOf rows None = are_a_table (map plain_row rows) ≡ false

@@ -1,4 +1,4 @@
--- A state in 96 bytes, as what is kept has it, in each version; and such states in the order of their names.
+-- A stored state in 96 bytes, in each version; and such states in the order of their names.
 --
 --   place width field
 --       0     8 id
@@ -69,7 +69,7 @@ state_form version = pair name_form (held_form version)
 abbrev pub plain_state : PlainState → Value StateShape
 plain_state s = (plain_name s.0, plain_held s.1)
 
--- of plain data the state that they are the data of
+-- the state that has these plain data
 abbrev pub state_in : Value StateShape → PlainState
 state_in v = (name_in v.0, held_in v.1)
 
@@ -84,11 +84,11 @@ abbrev pub no_flow_twice : List PlainState → Bool
 no_flow_twice [] = true
 no_flow_twice (s ∷ es) = not (list_any (λ t. same_flow s.1.flow t.1.flow) es) && no_flow_twice es
 
--- those of a table: no more than there may be, in the order of their names, no name twice and no flow twice
+-- the states of a table: no more than the limit, in the order of their names, no name twice and no flow twice
 abbrev pub are_a_table : List (Value StateShape) → Bool
 are_a_table vs = nat_le (length vs) STATE_LIMIT && (in_order state_before vs && no_flow_twice (map state_in vs))
 
--- their number in four bytes, and that many, which are a table's
+-- their number in four bytes, and that many, which make a table
 abbrev pub states_form : ℕ → Form (list StateShape)
 states_form version = that are_a_table (counted 4 (state_form version))
 

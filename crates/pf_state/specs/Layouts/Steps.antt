@@ -1,4 +1,4 @@
--- A step in bytes, as what is kept has it, in each version; and steps in their order.
+-- A stored step in bytes, in each version; and steps in their order.
 --
 --   1 and a state of 96 bytes                   insert
 --   2 and an id of 8 bytes, a creator of 4      delete

@@ -1,4 +1,4 @@
--- A message's groups, in order, and the fault of the first that is none. A group is an action, a zero byte, a count in two bytes, and
+-- A message's groups, in order, and the fault of the first that is invalid. A group is an action, a zero byte, a count in two bytes, and
 -- that many records of 64 bytes.
 use Rattle.std.specs.Prelude.{◌≡◌, ◌≢◌, ◌*◌, ◌==◌, ◌&&◌, ◌||◌, nat_lt, ℕ, zero, suc, Bool, List, [], ◌∷◌, length, take, drop, Option, Some, None, Result, Ok, Err, if◌then◌else◌}
 use Rattle.pf_state.specs.{declared.{peer.fault.PeerFault.PeerFault, peer.fault.PeerFault.TheVariants.BadLength, peer.fault.PeerFault.TheVariants.BadAction, peer.fault.PeerFault.TheVariants.BadRecord, peer.message.Group.Group, peer.message.Group.TheVariants.Inserts, peer.message.Group.TheVariants.Deletes, peer.message.Group.TheVariants.Clears, peer.message.TheConstants.INSERT, peer.message.TheConstants.DELETE, peer.message.TheConstants.CLEAR, peer.record.TheConstants.RECORD}, Peer.Records.{insert_of, delete_of, clear_of}}
@@ -11,12 +11,12 @@ abbrev pub ◌>>=◌ : {A B : Type 0} → Result A PeerFault → (A → Result B
 
 -- ---- records
 
--- a value, or the fault where there is none
+-- a value, or the fault if there is none
 abbrev pub or_bad : {A : Type 0} → Option A → Result A PeerFault
 or_bad (Some x) = Ok x
 or_bad None = Err BadRecord
 
--- what so many records say, one after the other, each as `reading` has it
+-- this many records, one after the other, each read by `reading`
 abbrev pub records_of : {A : Type 0} → (List ℕ → Option A) → ℕ → List ℕ → Result (List A) PeerFault
 records_of reading zero bytes = Ok []
 records_of reading (suc n) bytes =
@@ -38,7 +38,7 @@ abbrev pub size_at : List ℕ → ℕ
 size_at bytes = RECORD * number_at 2 2 bytes
 
 -- The group at the front of what is left of a message, and what follows it. The fault is the first in this order: fewer bytes than a
--- group's header; an action that is none, or another byte than 0 behind it; records past the message's end; a record.
+-- group's header; an unknown action, or a byte other than 0 after it; records past the message's end; a record.
 unfoldable pub group_at : List ℕ → Result (Group × List ℕ) PeerFault
 group_at bytes =
     if nat_lt (length bytes) 4 then Err BadLength

@@ -22,13 +22,13 @@ pub record IsMessage (bytes : List ℕ) (m : Message) : Type 0 where
   pub checksum : m.checksum ≡ take 16 (drop 4 bytes)
   pub groups : AreGroups (drop MESSAGE_HEADER bytes) m.groups
 
--- the bytes would be a message by their header, and the first of their groups that is none has this fault
+-- by their header the bytes are a message, and the first invalid group has this fault
 pub record IsBroken (bytes : List ℕ) (f : PeerFault) : Type 0 where
   pub whole : IsWhole bytes
   pub before : List Group
   pub breaks : BreakBehind before (drop MESSAGE_HEADER bytes) f
 
--- which of both it is
+-- which of the two it is
 abbrev pub IsJudged : List ℕ → Result Message PeerFault → Type 0
 IsJudged bytes (Ok m) = IsMessage bytes m
 IsJudged bytes (Err f) = IsBroken bytes f

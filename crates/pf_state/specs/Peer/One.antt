@@ -1,9 +1,9 @@
--- A run of bytes that has to be one whole message, and nothing else. It is read as a stream that ends where they do.
+-- Bytes that have to be one whole message, and nothing else. They are read as a stream that ends where they do.
 use Rattle.std.specs.Prelude.{◌≡◌, ℕ, List, [], ◌∷◌, Result, Ok, Err}
 use Rattle.pf_state.specs.{declared.{peer.fault.PeerFault.TheVariants.Ended, peer.fault.OneFault.OneFault, peer.fault.OneFault.TheVariants.Fault, peer.fault.OneFault.TheVariants.Count, peer.message.Message.Message}, Peer.Streams.{Ending, Unfinished, Faulty, Reads}}
 
--- What a stream of these messages that ends so is: its fault, wherever it stands; else a message that isn't whole; else how many
--- messages there are.
+-- What a stream of these messages with this ending is: its fault, wherever it is; else a message that isn't whole; else how many messages
+-- there are.
 abbrev pub one_of : List Message → Ending → Result Message OneFault
 one_of ms (Faulty f) = Err (Fault f)
 one_of ms (Unfinished (b ∷ rest)) = Err (Fault Ended)

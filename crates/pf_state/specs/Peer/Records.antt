@@ -1,4 +1,4 @@
--- A record of 64 bytes: the places of its fields, and what they say. The form is own, after that of pfsync(4)'s states.
+-- A record of 64 bytes: the places of its fields, and what they mean. The form is our own, after that of pfsync(4)'s states.
 --
 --   place width field          place width field
 --       0     8 id                16    40 flow
@@ -16,7 +16,7 @@ use Rattle.pf_state.specs.{declared.{peer.record.InsertFields.InsertFields, peer
 abbrev pub PlainInsert : Type 0
 PlainInsert = InsertFields
 
--- what an insert keeps: each number within its width, addresses of one family, no ports but for a protocol that has them
+-- the invariant of an insert: each number within its width, addresses of one family, no ports unless its protocol has them
 pub record IsInsert (i : PlainInsert) : Type 0 where
   pub id : i.id < 2 ^ 64
   pub creator : i.creator < 2 ^ 32
@@ -33,7 +33,7 @@ pub record IsInsert (i : PlainInsert) : Type 0 where
 
 -- ---- the form of an insert
 
--- the flow of the state that an insert tells of
+-- the flow of an insert's state
 abbrev pub told_flow : PlainInsert → PlainFlow
 told_flow i = record {
   direction = i.direction;
@@ -53,7 +53,7 @@ insert_form = pair (number 8) (pair (number 4) (pair (number 4) (pair flow_form 
 abbrev pub plain_insert : PlainInsert → Value InsertShape
 plain_insert i = (i.id, (i.creator, (i.generation, (plain_flow (told_flow i), (i.rule, i.anchor)))))
 
--- of plain data the insert that they are the data of
+-- the insert that has these plain data
 abbrev pub insert_in : Value InsertShape → PlainInsert
 insert_in v = let f = flow_in v.1.1.1.0 in record {
   id = v.0;
@@ -75,11 +75,11 @@ abbrev pub insert_from : Result (Value InsertShape) Fault → Option PlainInsert
 insert_from (Ok v) = Some (insert_in v)
 insert_from (Err d) = None
 
--- the insert whose form the bytes are, if they are one's
+-- the insert whose form the bytes have, if any
 unfoldable pub insert_of : List ℕ → Option PlainInsert
 insert_of r = insert_from (read_all insert_form r)
 
--- what is read of a record, unless memory was refused
+-- what is read of a record, unless out of memory
 abbrev pub Says : {A : Type 0} → Result A Stop → Option A → Type 0
 Says (Ok x) said = said ≡ Some x
 Says (Err stop.Memory) said = Unit {0}

@@ -9,7 +9,7 @@ pub data Ending : Type 0 where
   -- with this fault
   Faulty : PeerFault → Ending
 
--- These bytes may become a message, and aren't one yet: each byte that has come is what it has to be, and the length isn't reached.
+-- These bytes may become a message but aren't one yet: each byte so far is valid, and the length isn't reached.
 abbrev pub IsUnfinished : List ℕ → Type 0
 IsUnfinished [] = Unit {0}
 IsUnfinished (v ∷ []) = v ≡ VERSION
@@ -28,7 +28,7 @@ abbrev pub HasShortLength : List ℕ → Type 0
 HasShortLength (v ∷ z ∷ a ∷ b ∷ bytes) = (v ≡ VERSION) × (z ≡ 0) × (a * 256 + b < MESSAGE_HEADER)
 HasShortLength bytes = ⊥
 
--- the bytes begin with a whole message that is broken so
+-- the bytes begin with a whole message that has this fault
 pub record BeginsBroken (bytes : List ℕ) (f : PeerFault) : Type 0 where
   pub front : List ℕ
   pub behind : List ℕ
@@ -47,18 +47,18 @@ abbrev pub Ends : List ℕ → Ending → Type 0
 Ends bytes (Unfinished rest) = (bytes ≡ rest) × IsUnfinished bytes
 Ends bytes (Faulty f) = IsFaulty bytes f
 
--- what stands where a message begins
+-- what is at the start of a message
 abbrev pub IsFront : List ℕ → MessageStart → Type 0
 IsFront bytes Partial = IsUnfinished bytes
 IsFront bytes (Whole size) = (size ≤ length bytes) × IsWhole (take size bytes)
 IsFront bytes (Bad f) = IsBadHeader bytes f
 
--- the bytes so far are these messages, and end so
+-- the bytes so far are these messages, and end like this
 abbrev pub Reads : List ℕ → List Message → Ending → Type 0
 Reads bytes [] e = Ends bytes e
 Reads bytes (m ∷ ms) e = (front behind : List ℕ) × (bytes ≡ front ++ behind) × IsMessage front m × Reads behind ms e
 
--- The pieces that come behind these bytes give these messages, and end so. After a fault no further piece is taken.
+-- The pieces that follow these bytes give these messages, and end like this. After a fault no further piece is taken.
 abbrev pub Feeds : List ℕ → List (List ℕ) → List Message → Ending → Type 0
 Feeds rest [] ms e = (ms ≡ []) × (e ≡ Unfinished rest)
 Feeds rest (p ∷ ps) ms e = ((f : PeerFault) × (e ≡ Faulty f) × Reads (rest ++ p) ms e)

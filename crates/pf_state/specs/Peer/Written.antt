@@ -1,4 +1,4 @@
--- The bytes that a message is written as.
+-- The bytes of a message.
 use Rattle.std.specs.{Prelude.{◌+◌, ◌<◌, ℕ, List, [], ◌∷◌, ◌++◌, length, ◌^◌, ◌≡◌}, List.flat_map}
 use Rattle.byteorder.specs.Endian.{big_bytes}
 use Rattle.pf_state.specs.{declared.{peer.message.Group.Group, peer.message.Group.TheVariants.Inserts, peer.message.Group.TheVariants.Deletes, peer.message.Group.TheVariants.Clears, peer.message.Message.Message, peer.message.TheConstants.INSERT, peer.message.TheConstants.DELETE, peer.message.TheConstants.CLEAR, peer.message.TheConstants.VERSION, peer.stream.TheConstants.MESSAGE_HEADER, peer.record.Delete.Delete, peer.record.Clear.Clear}, Peer.Records.{IsInsert, insert_bytes, delete_bytes, clear_bytes}}
@@ -15,16 +15,16 @@ group_bytes (Clears xs) = group_with CLEAR clear_bytes xs
 abbrev pub groups_bytes : List Group → List ℕ
 groups_bytes gs = flat_map group_bytes gs
 
--- how many bytes it is written as
+-- how many bytes it takes
 abbrev pub message_length : Message → ℕ
 message_length m = MESSAGE_HEADER + length (groups_bytes m.groups)
 
 abbrev pub message_bytes : Message → List ℕ
 message_bytes m = VERSION ∷ 0 ∷ (big_bytes 2 (message_length m) ++ (m.checksum ++ groups_bytes m.groups))
 
--- ---- what a message has
+-- ---- which messages can be written
 
--- each of them is so
+-- each of them has this property
 abbrev pub Each : {A : Type 0} → (A → Type 0) → List A → Type 0
 Each P [] = Unit {0}
 Each P (x ∷ xs) = P x × Each P xs
@@ -40,7 +40,7 @@ IsGroup (Inserts xs) = Each IsInsert xs
 IsGroup (Deletes xs) = Each IsDelete xs
 IsGroup (Clears xs) = Each IsClear xs
 
--- fields within their widths, and few enough bytes for the length's two
+-- fields within their widths, and few enough bytes for the length field's two
 pub record CanBeWritten (m : Message) : Type 0 where
   pub checksum : length m.checksum ≡ 16
   pub groups : Each IsGroup m.groups

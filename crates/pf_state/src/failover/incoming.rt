@@ -6,10 +6,9 @@ use crate::peer::{Clear, Delete, Group, Insert, Message};
 use crate::{Held, State, StateName, Step, StepList, bind};
 use std::alloc::{AllocError, Global};
 
-/// The steps that a message asks for: one for each record, in the order of the groups and of the records in each. An insert binds
-/// its state to the main rule that it names where the message's checksum, 16 bytes, is that of the main rules here and they have
-/// such a rule, else to the default rule. `current` is the checksum of the main rules here, `rule_count` their number.
-/// `AllocError`: no list is made.
+/// The steps that a message asks for: one for each record, in the order of the groups and of the records in each. An insert binds its state
+/// to the main rule that it names if the message's checksum, 16 bytes, is that of the main rules here and they have such a rule, else to
+/// the default rule. `current` is the checksum of the main rules here, `rule_count` their number. `AllocError`: no list is made.
 pub fn steps_of(
     alloc: Global,
     message: &Message,
@@ -91,7 +90,7 @@ fn push_clears(steps: &mut Vec<Step>, clears: &[Clear]) -> Result<(), AllocError
     Ok(())
 }
 
-// The state that an insert tells of, bound by the rules here.
+// The state that an insert describes, bound by the rules here.
 fn told_state(
     alloc: Global,
     insert: &Insert,

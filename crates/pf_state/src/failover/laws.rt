@@ -1,4 +1,4 @@
-//! What follows from the definitions that contracts cite: functions that do nothing, whose contracts are the laws.
+//! Laws of messages and states. Each function does nothing; its contract is the law.
 ghost use Rattle.pf_state.specs.Laws.Failover.{OneStepForEach, CutsIntoParts, ExportsMessages, TellsTheStates, TakesOver, IsReadBack};
 
 use crate::peer::written_message_is_read;
@@ -9,16 +9,15 @@ pub fn each_record_is_a_step()
 {}
 
 /// An export cuts the states into parts of [`crate::failover::EXPORT_RECORDS`], the last of what is left, and none is empty. Each of its
-/// messages has the checksum of the rules here and one group of that many inserts, and fits in what a message may have.
+/// messages has the checksum of the rules here and one group of that many inserts, and fits the limit of a message.
 pub fn exports_are_cut()
     ensures parts { CutsIntoParts }
     ensures messages { ExportsMessages }
 {}
 
-/// A peer to which all states are told is asked for an insert of each, in order, and for nothing else. There a state has the name,
-/// the generation and the flow that it has here. It is bound to its main rule where it was bound by the rules here and the peer has
-/// the same rules, so many of them; else to the default rule. Where the peer has no states before, it is never
-/// refused them for their number, and then has these and no other.
+/// A peer that gets all states is asked to insert each, in order, and for nothing else. Its state has the name, the generation and the flow
+/// that it has here. It is bound to its main rule if it was bound by the rules here and the peer has the same rules, and enough of them;
+/// else to the default rule. If the peer has no states before, their number is never refused, and it then has these and no others.
 pub fn exports_tell_the_states()
     ensures told { TellsTheStates }
     ensures taken { TakesOver }

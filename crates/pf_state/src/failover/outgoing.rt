@@ -1,4 +1,4 @@
-//! Messages that tell a peer of the states here.
+//! Messages that give a peer the states here.
 ghost use Rattle.std.specs.{Prelude.{◌≡◌, ◌≤◌, [], length, map, take, drop, IfOk, OnOk}, List.concat};
 ghost use Rattle.pf_state.specs.{Peer.Messages.IsMessage, Peer.Streams.{Reads, Unfinished}, Peer.Written.message_bytes, Failover.Outgoing.{exported_insert, exported_message, exported_messages}};
 
@@ -8,7 +8,7 @@ use pf_map::Entries;
 use std::alloc::{AllocError, Global};
 use std::marker::Model;
 
-/// How many states a message of an export tells of; the last one tells of what is left. Definitions cite this constant.
+/// How many states a message of an export has; the last one has what is left. Definitions cite this constant.
 pub const EXPORT_RECORDS: usize = 31;
 
 /// Messages in bytes, in their order. Contracts see the list of the bytes of each.
@@ -41,11 +41,10 @@ impl Exported {
     }
 }
 
-/// The messages, in bytes, that tell a peer of all states, in the table's order. Each has the checksum of the main rules here,
-/// which is `current`, 16 bytes, and one group of [`EXPORT_RECORDS`] inserts, the last message one of what is left; without states
-/// there is no message. An insert names the number of its state's main rule where the state was bound by these very rules, else
-/// all ones; its anchor is all ones. One after the other they are read as these messages, and nothing is left. `AllocError`: nothing
-/// is made.
+/// The messages, in bytes, that give a peer all states, in the table's order. Each has the checksum of the main rules here, which is
+/// `current`, 16 bytes, and one group of [`EXPORT_RECORDS`] inserts, the last message one of what is left; without states there is no
+/// message. An insert has the number of its state's main rule if the state was bound by these very rules, else all ones; its anchor is all
+/// ones. One after the other they are read as these messages, and nothing is left. `AllocError`: nothing is made.
 pub fn export(
     alloc: Global,
     states: &StateTable,
@@ -63,7 +62,7 @@ pub fn export(
     Ok(Exported { messages })
 }
 
-// Of the states that are left to come those that the next message tells of, shared.
+// The states of the next message, shared, taken from those that are left.
 fn next_part(
     alloc: Global,
     rest: &mut Entries<'_, StateName, Held, State>,
@@ -81,7 +80,7 @@ fn next_part(
     Ok(part)
 }
 
-// The message that tells of these states, in bytes.
+// The message with these states, in bytes.
 fn written(alloc: Global, states: &[State], current: &[u8; 16]) -> Result<Vec<u8>, AllocError>
     requires { length states.now ≤ EXPORT_RECORDS }
     ensures written { IfOk result (λ bytes. bytes.items ≡ message_bytes (exported_message current.now states.now)) }
@@ -96,7 +95,7 @@ fn written(alloc: Global, states: &[State], current: &[u8; 16]) -> Result<Vec<u8
     write_peer(alloc, &message)
 }
 
-// The inserts that tell of these states.
+// The inserts of these states.
 fn inserts_of(
     alloc: Global,
     states: &[State],
@@ -111,7 +110,7 @@ fn inserts_of(
     Ok(Records::new(inserts))
 }
 
-// The insert that tells of a state.
+// The insert of a state.
 fn exported_insert(state: &State, current: &[u8; 16]) -> Insert
     ensures { result ≡ exported_insert current.now state.now }
 {

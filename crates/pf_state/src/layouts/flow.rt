@@ -14,13 +14,13 @@ use pf_form::bytes::{
 use pf_rule::value::{Direction, Protocol};
 use std::alloc::{AllocError, Global};
 
-/// The direction's byte of a state whose first packet came in.
+/// The direction byte of a state whose first packet came in.
 const IN: u8 = 1;
-/// The direction's byte of a state whose first packet went out.
+/// The direction byte of a state whose first packet went out.
 const OUT: u8 = 2;
-/// The family's byte of IPv4.
+/// The family byte of IPv4.
 const FAMILY_4: u8 = 4;
-/// The family's byte of IPv6.
+/// The family byte of IPv6.
 const FAMILY_6: u8 = 6;
 
 impl Layout for Flow {
@@ -60,7 +60,7 @@ impl Layout for Flow {
     }
 }
 
-/// Puts a flow behind the bytes; each fits its form. Fails only where memory is refused.
+/// Appends a flow to the bytes; each fits its form. Fails only when out of memory.
 #[tactic(auto, using(crate::specs::Laws::Layouts::flow_fits), unfolding(crate::specs::Layouts::Flows::flow_form, crate::specs::Layouts::Flows::direction_form, crate::specs::Layouts::Flows::family_form, crate::specs::Layouts::Flows::protocol_form, crate::specs::Layouts::Flows::ports_form))]
 pub(crate) fn push_flow(out: &mut Vec<u8>, flow: &Flow) -> Result<(), AllocError>
     ensures written { OnOk result (out.new.items ≡ onto flow_form (plain_flow flow.now) out.old.items) }
@@ -77,7 +77,7 @@ pub(crate) fn push_flow(out: &mut Vec<u8>, flow: &Flow) -> Result<(), AllocError
     push_ports(out, flow.source_port(), flow.destination_port())
 }
 
-// What stands in front of the addresses. Parts are put behind the bytes in few pieces, since a snapshot has tens of thousands of flows.
+// Appends what comes before the addresses. Parts are appended in few pieces, since a snapshot has tens of thousands of flows.
 #[tactic(auto, using(crate::proofs::Pieced::four_pushed))]
 fn push_front(out: &mut Vec<u8>, direction: u8, family: u8, protocol: u8) -> Result<(), AllocError>
     ensures { OnOk result (out.new.items

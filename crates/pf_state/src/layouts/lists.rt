@@ -1,4 +1,4 @@
-//! States and steps in bytes, many at a time, behind their number in four bytes.
+//! States and steps in bytes, many at a time, after their number in four bytes.
 ghost use Rattle.std.specs.Prelude.{◌≡◌, ◌<◌, ◌^◌, ◌++◌, ℕ, true, length, map, IfOk, OnOk};
 ghost use Rattle.pf_form.specs.{Bytes.Forms.{Form, Fits, onto, length_of}, Bytes.Readers.Reads};
 ghost use Rattle.pf_state.specs.{Layouts.{Rows.IsTableOf, States.{states_form, plain_states}, Steps.{steps_form, plain_steps}}, States.are_whole};
@@ -13,8 +13,8 @@ use crate::table::StateTable;
 use pf_form::bytes::{Fault, Rest, Stop, are_in_order, push_u32, read_list};
 use std::alloc::{AllocError, Global};
 
-/// Puts a table's states behind the bytes, as this version has them, in the order of their names; they fit their form. Fails only where
-/// memory is refused, and then what stands behind the bytes isn't said.
+/// Appends a table's states to the bytes, as this version has them, in the order of their names; they fit their form. Fails only when out
+/// of memory, and then what was appended is unspecified.
 pub fn push_states(out: &mut Vec<u8>, version: u8, table: &StateTable) -> Result<(), AllocError>
     ensures written { OnOk result (out.new.items ≡ onto (states_form version) (plain_states table.now) out.old.items) }
     ensures fits { OnOk result (Fits (states_form version) (plain_states table.now)) }
@@ -27,10 +27,10 @@ pub fn push_states(out: &mut Vec<u8>, version: u8, table: &StateTable) -> Result
     Ok(())
 }
 
-/// The table of states at the front of the bytes, which are of this version.
+/// Reads the table of states at the front of the bytes, which are of this version.
 ///
-/// Fails with the first fault of its form there, or where memory is refused. How many bytes are left then isn't said. States that are
-/// no table's, as two of one flow, are one fault of them all, from their number on.
+/// Fails with the first fault of its form there, or when out of memory. How many bytes are left then is unspecified. States that make no
+/// table, such as two of one flow, are one fault of them all, at their number.
 pub fn read_states<'a>(alloc: Global, version: u8, from: &mut Rest<'a>) -> Result<StateTable, Stop>
     ensures { Reads plain_states (states_form version) result from.old.now from.new.now }
 {
@@ -42,7 +42,7 @@ pub fn read_states<'a>(alloc: Global, version: u8, from: &mut Rest<'a>) -> Resul
     }
 }
 
-// The table that has these, if they are a table's.
+// The table of these states, if they make one.
 #[tactic(auto, using(crate::proofs::Rows::rows_sorted, crate::proofs::Rows::no_table, crate::proofs::Rows::are_states, crate::proofs::Rows::is_table))]
 fn table_of(alloc: Global, rows: &[StoredState]) -> Result<Option<StateTable>, AllocError>
     ensures { IfOk result (λ t. IsTableOf rows.now t) }
@@ -57,7 +57,7 @@ fn table_of(alloc: Global, rows: &[StoredState]) -> Result<Option<StateTable>, A
     }
 }
 
-// Their states, each with one owner more.
+// Their states, each with one more owner.
 #[tactic(auto, using(crate::proofs::Whole::whole_pushed))]
 fn states_of(alloc: Global, rows: &[StoredState]) -> Result<Vec<State>, AllocError>
     ensures value { IfOk result (λ v. v.items ≡ map (λ row. row.state) rows.now) }
@@ -71,9 +71,9 @@ fn states_of(alloc: Global, rows: &[StoredState]) -> Result<Vec<State>, AllocErr
     Ok(states)
 }
 
-/// The steps at the front of the bytes, which are of this version.
+/// Reads the steps at the front of the bytes, which are of this version.
 ///
-/// Fails with the first fault of their form there, or where memory is refused. How many bytes are left then isn't said.
+/// Fails with the first fault of their form there, or when out of memory. How many bytes are left then is unspecified.
 pub fn read_steps<'a>(alloc: Global, version: u8, from: &mut Rest<'a>) -> Result<StepList, Stop>
     ensures { Reads plain_steps (steps_form version) result from.old.now from.new.now }
 {
@@ -81,8 +81,8 @@ pub fn read_steps<'a>(alloc: Global, version: u8, from: &mut Rest<'a>) -> Result
     Ok(StepList::new(steps))
 }
 
-/// Puts steps, at most 4,294,967,295 of them, behind the bytes, as this version has them; they fit their form. Fails only where memory
-/// is refused, and then what stands behind the bytes isn't said.
+/// Appends steps, at most 4,294,967,295 of them, to the bytes, as this version has them; they fit their form. Fails only when out of
+/// memory, and then what was appended is unspecified.
 pub fn push_steps(out: &mut Vec<u8>, version: u8, steps: &StepList) -> Result<(), AllocError>
     requires { length steps.now < 2 ^ 32 }
     ensures written { OnOk result (out.new.items ≡ onto (steps_form version) (plain_steps steps.now) out.old.items) }
@@ -96,7 +96,7 @@ pub fn push_steps(out: &mut Vec<u8>, version: u8, steps: &StepList) -> Result<()
     Ok(())
 }
 
-/// How many bytes states take where they are kept, behind their number, in each version. It looks at none of them.
+/// How many bytes stored states take after their number, in each version. It looks at none of them.
 #[tactic(auto, using(crate::proofs::Widths::states_long))]
 pub fn states_length(states: &StateTable) -> usize
     ensures { (version : ℕ) → result ≡ length_of (states_form version) (plain_states states.now) }

@@ -1,4 +1,4 @@
-//! States in bytes, as a store keeps them.
+//! States in bytes, as a store has them.
 ghost use Rattle.std.specs.Prelude.{◌≡◌, ◌++◌, ◌∷◌, [], replicate, OnOk};
 ghost use Rattle.pf_form.specs.{Bytes.Forms.{Form, Fits, back, front, times, onto}, Bytes.Readers.Reads};
 ghost use Rattle.pf_state.specs.Layouts.{Flows.{flow_form, plain_flow}, States.{name_form, plain_name, bound_form, plain_bound, held_form, plain_held, state_form, plain_state}};
@@ -13,10 +13,10 @@ use pf_form::bytes::{
 };
 use std::alloc::{AllocError, Global};
 
-/// How many bytes a state takes where it is kept.
+/// How many bytes a stored state takes.
 pub(crate) const STATE_BYTES: usize = 96;
 
-/// A state as a row of what a store keeps.
+/// A state as a row of a store.
 #[derive(Drop)]
 pub struct StoredState {
     /// The state.
@@ -50,7 +50,7 @@ impl Ordered for StoredState {
     }
 }
 
-/// The name at the front of the bytes: an id in eight bytes and a creator in four. Fails where fewer are left.
+/// Reads the name at the front of the bytes: an id in eight bytes and a creator in four. Fails if fewer are left.
 #[tactic(auto, unfolding(crate::specs::Layouts::States::name_form))]
 pub fn read_name<'a>(from: &mut Rest<'a>) -> Result<StateName, Stop>
     ensures { Reads plain_name name_form result from.old.now from.new.now }
@@ -60,7 +60,7 @@ pub fn read_name<'a>(from: &mut Rest<'a>) -> Result<StateName, Stop>
     Ok(StateName { id, creator })
 }
 
-/// Puts a name behind the bytes. Fails only where memory is refused.
+/// Appends a name to the bytes. Fails only when out of memory.
 #[tactic(auto, unfolding(crate::specs::Layouts::States::name_form))]
 pub fn push_name(out: &mut Vec<u8>, name: StateName) -> Result<(), AllocError>
     ensures written { OnOk result (out.new.items ≡ onto name_form (plain_name name) out.old.items) }
@@ -70,9 +70,9 @@ pub fn push_name(out: &mut Vec<u8>, name: StateName) -> Result<(), AllocError>
     push_u32(out, name.creator)
 }
 
-/// The state at the front of the bytes, which are of this version.
+/// Reads the state at the front of the bytes, which are of this version.
 ///
-/// Fails with the first fault of its form there, or where memory is refused. How many bytes are left then isn't said.
+/// Fails with the first fault of its form there, or when out of memory. How many bytes are left then is unspecified.
 #[tactic(auto, unfolding(crate::specs::Layouts::States::state_form))]
 pub fn read_state<'a>(alloc: Global, version: u8, from: &mut Rest<'a>) -> Result<State, Stop>
     ensures { Reads plain_state (state_form version) result from.old.now from.new.now }
@@ -82,8 +82,8 @@ pub fn read_state<'a>(alloc: Global, version: u8, from: &mut Rest<'a>) -> Result
     Ok(State::new(alloc, name, held)?)
 }
 
-/// Puts a state behind the bytes, as this version has it; each fits its form. Fails only where memory is refused, and then what stands
-/// behind the bytes isn't said.
+/// Appends a state to the bytes, as this version has it; each fits its form. Fails only when out of memory, and then what was appended is
+/// unspecified.
 #[tactic(auto, unfolding(crate::specs::Layouts::States::state_form, crate::specs::Layouts::States::held_form))]
 pub fn push_state(out: &mut Vec<u8>, version: u8, state: &State) -> Result<(), AllocError>
     ensures written { OnOk result (out.new.items ≡ onto (state_form version) (plain_state state.now) out.old.items) }
@@ -124,8 +124,8 @@ fn read_bound<'a>(from: &mut Rest<'a>) -> Result<Bound, Stop>
     Ok(Bound::Rule { number, sum })
 }
 
-// What stands in front of what a state is bound to: its name, its generation and its flow. All of IPv4 is put there at once, since a
-// snapshot has tens of thousands of states.
+// Appends what comes before a state's binding: its name, its generation and its flow. For IPv4 all at once, since a snapshot has tens of
+// thousands of states.
 #[tactic(auto, using(crate::specs::Laws::Layouts::flow_fits), unfolding(crate::specs::Layouts::States::name_form, crate::specs::Layouts::Flows::flow_form, crate::specs::Layouts::Flows::direction_form, crate::specs::Layouts::Flows::family_form, crate::specs::Layouts::Flows::protocol_form, crate::specs::Layouts::Flows::ports_form))]
 fn push_named_flow(
     out: &mut Vec<u8>,
@@ -156,7 +156,7 @@ fn push_named_flow(
     }
 }
 
-// The same of IPv4: in a direction of this byte, from an address and a port to another.
+// The same for IPv4: with this byte for the direction, from an address and a port to another.
 fn push_named_v4(
     out: &mut Vec<u8>,
     name: StateName,
@@ -189,7 +189,7 @@ fn push_named_v4(
     )
 }
 
-// What stands behind the flow: ones, what the state is bound to, and zeros; in few pieces, since a snapshot has tens of thousands of states.
+// Appends what comes after the flow: ones, the binding, and zeros; in few pieces, since a snapshot has tens of thousands of states.
 #[tactic(auto, unfolding(crate::specs::Layouts::States::bound_form))]
 fn push_rest(out: &mut Vec<u8>, bound: &Bound) -> Result<(), AllocError>
     ensures written { OnOk result

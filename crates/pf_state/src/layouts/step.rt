@@ -1,4 +1,4 @@
-//! Steps in bytes, as a store keeps them.
+//! Steps in bytes, as a store has them.
 ghost use Rattle.std.specs.Prelude.{◌≡◌, ◌++◌, ℕ, OnOk};
 ghost use Rattle.pf_form.specs.{Bytes.Forms.{Form, Fits, onto, length_of}, Bytes.Readers.Reads};
 ghost use Rattle.pf_state.specs.Layouts.Steps.{step_form, plain_step};
@@ -47,8 +47,8 @@ impl Layout for Step {
     }
 }
 
-/// Puts a step behind the bytes, as this version has it; each fits its form. Fails only where memory is refused, and then what stands
-/// behind the bytes isn't said.
+/// Appends a step to the bytes, as this version has it; each fits its form. Fails only when out of memory, and then what was appended is
+/// unspecified.
 #[tactic(auto, unfolding(crate::specs::Layouts::Steps::step_form))]
 pub fn push_step(out: &mut Vec<u8>, version: u8, step: &Step) -> Result<(), AllocError>
     ensures written { OnOk result (out.new.items ≡ onto (step_form version) (plain_step step.now) out.old.items) }
@@ -70,7 +70,7 @@ pub fn push_step(out: &mut Vec<u8>, version: u8, step: &Step) -> Result<(), Allo
     }
 }
 
-/// How many bytes a step takes where it is kept, in each version. It looks at no state.
+/// How many bytes a stored step takes, in each version. It looks at no state.
 #[tactic(auto, using(crate::proofs::Widths::state_long), unfolding(crate::specs::Layouts::Steps::step_form, crate::specs::Layouts::States::name_form))]
 pub fn step_length(step: &Step) -> usize
     ensures { (version : ℕ) → result ≡ length_of (step_form version) (plain_step step.now) }

@@ -1,23 +1,22 @@
-//! Why a stream can't be read on.
+//! Why a stream can't be read further.
 ghost use Rattle.std.specs.Prelude.{◌≡◌};
 ghost use Rattle.pf_state.specs.declared.peer.fault.FeedError.TheVariants as feeding;
 ghost use Rattle.pf_state.specs.declared.peer.fault.ReadError.TheVariants as reading;
 
 use std::alloc::{AllocError, AllocFailed};
 
-/// What is wrong with a peer's stream. Which of them it is, and with which byte it comes, depends on the bytes so far alone.
+/// What is wrong with a peer's stream. Which fault it is, and with which byte it comes, depends only on the bytes so far.
 #[derive(Clone, Copy, Debug, PartialEq, Eq)]
 pub enum PeerFault {
     /// A message's first byte isn't its version, or its second isn't 0. It comes with that byte.
     BadVersion,
-    /// A message's length is below that of its header, which comes with its fourth byte; or its groups end elsewhere than it does:
-    /// fewer bytes are left than a group's header has, or a group's records go past the end. That comes with its last byte, as all
-    /// faults of groups do.
+    /// A message's length is below that of its header, which shows with its fourth byte; or its groups don't end where it does: fewer bytes
+    /// are left than a group's header has, or a group's records go past the end. That shows with its last byte, as all faults of groups do.
     BadLength,
-    /// A group's action is none, or the byte behind it isn't 0. It comes before the group's length is looked at.
+    /// A group's action is unknown, or the byte after it isn't 0. It is checked before the group's length.
     BadAction,
-    /// A record of an insert has a field that it can't have: a direction, a family, a protocol of 0, another byte than 0 behind these or
-    /// behind an IPv4 address, a port where the protocol has none. Records of deletes and clears never have it.
+    /// A record of an insert has an invalid field: a direction, a family, a protocol of 0, a byte other than 0 after these or after an IPv4
+    /// address, a port though the protocol has none. Records of deletes and clears never have it.
     BadRecord,
     /// The stream ended within a message. Only its end shows this.
     Ended,
@@ -26,18 +25,18 @@ pub enum PeerFault {
 /// Why bytes aren't one whole message.
 #[derive(Clone, Copy, Debug, PartialEq, Eq)]
 pub enum OneFault {
-    /// As a stream that ends where they do they have this fault.
+    /// Read as a stream that ends where they do, they have this fault.
     Fault(PeerFault),
     /// They are several messages, or none.
     Count,
 }
 
-/// Why a piece wasn't taken, or the end not told.
+/// Why a piece wasn't taken, or the end not looked at.
 #[derive(Clone, Copy, Debug, PartialEq, Eq)]
 pub enum FeedError {
-    /// Memory was refused, and the reader is as before.
+    /// Out of memory; the reader is as before.
     Memory,
-    /// The stream had a fault before. The reader stays as it is, and answers this from now on.
+    /// The stream had a fault before. The reader stays as it is, and returns this from now on.
     Failed,
 }
 
@@ -60,7 +59,7 @@ impl<T: Drop> From<AllocFailed<T>> for FeedError {
 /// Why a whole message wasn't read.
 #[derive(Clone, Copy, Debug, PartialEq, Eq)]
 pub(crate) enum ReadError {
-    /// Memory was refused.
+    /// Out of memory.
     Memory,
     /// It has this fault.
     Fault(PeerFault),

@@ -1,4 +1,4 @@
-//! Reading a message that is whole: its groups and their records.
+//! Reading a whole message: its groups and their records.
 ghost use Rattle.std.specs.Prelude.{◌≡◌, ◌*◌, ◌<◌, ◌≤◌, length, List, IfOk, IfErr};
 ghost use Rattle.pf_state.specs.{Peer.Groups.{records_of, group_at, content, AreGroups, BreakBehind, is_action}, Peer.Messages.{IsWhole, IsJudged}, Peer.Outcomes.{Gives, IfFault}};
 ghost use Rattle.pf_state.specs.declared.peer.message.Group.{Group};
@@ -14,7 +14,7 @@ use std::alloc::{AllocError, Global};
 /// How many bytes the header of a group has.
 pub(crate) const GROUP_HEADER: usize = 4;
 
-/// The message that these bytes are, whose header has been looked at, or the fault of the first group that is none.
+/// The message in these bytes, whose header was already checked, or the fault of the first group that is invalid.
 pub(crate) fn message_of(
     alloc: Global,
     bytes: &[u8],
@@ -31,7 +31,7 @@ pub(crate) fn message_of(
     }
 }
 
-// The groups that these bytes are.
+// The groups in these bytes.
 fn groups_of(alloc: Global, bytes: &[u8]) -> Result<Records<Group>, ReadError>
     ensures found { IfOk result (λ gs. AreGroups bytes.now gs) }
     ensures fault { IfErr result (λ e. IfFault e (λ f. (before : List Group) × BreakBehind before bytes.now f)) }
@@ -46,7 +46,7 @@ fn groups_of(alloc: Global, bytes: &[u8]) -> Result<Records<Group>, ReadError>
     Ok(Records::new(groups))
 }
 
-// The group at the front, and the bytes behind it.
+// The group at the front, and the bytes after it.
 #[tactic(auto, unfolding(crate::specs::Peer::Groups::group_at))]
 fn group_of(alloc: Global, bytes: &[u8]) -> Result<(Group, &[u8]), ReadError>
     ensures given { Gives (λ x. (x.0, x.1.now)) result (group_at bytes.now) }
@@ -74,7 +74,7 @@ fn is_action(action: u8) -> bool
     action == INSERT || action == DELETE || action == CLEAR
 }
 
-// What so many records of an action say.
+// The content of this many records of an action.
 #[tactic(auto, unfolding(crate::specs::Peer::Groups::content))]
 fn content_of(alloc: Global, action: u8, count: usize, bytes: &[u8]) -> Result<Group, ReadError>
     requires { RECORD * count ≤ length bytes.now }
@@ -89,7 +89,7 @@ fn content_of(alloc: Global, action: u8, count: usize, bytes: &[u8]) -> Result<G
     Ok(Group::Clears(records_of(alloc, count, bytes)?))
 }
 
-// What so many records at the front say.
+// This many records from the front.
 fn records_of<T: Record>(alloc: Global, count: usize, bytes: &[u8]) -> Result<Records<T>, ReadError>
     requires { RECORD * count ≤ length bytes.now }
     ensures { Gives (λ r. r) result (records_of T.reading count bytes.now) }

@@ -1,4 +1,4 @@
-//! Laws of streams. Each function does nothing; its clauses are what is proved.
+//! Laws of streams. Each function does nothing; its contract is the law.
 ghost use Rattle.std.specs.{Prelude.{◌≡◌, ◌++◌, ◌↔◌, [], ℕ, List, Result, Ok}, List.concat};
 ghost use Rattle.pf_state.specs.declared.{peer.fault.OneFault.OneFault, peer.fault.PeerFault.PeerFault, peer.message.Message.Message};
 ghost use Rattle.pf_form.specs.Bytes.Forms.{Spells};
@@ -10,13 +10,13 @@ use crate::peer::message::{CLEAR, DELETE, INSERT, MESSAGE_LIMIT, VERSION};
 use crate::peer::record::RECORD;
 use crate::peer::stream::MESSAGE_HEADER;
 
-/// The bytes so far are one list of messages, and end in one way.
+/// The bytes so far have one reading: one list of messages, and one ending.
 #[tactic(auto, using(crate::proofs::OneReading::one_reading))]
 pub fn stream_has_one_reading()
     ensures { (bytes : List ℕ) (ms ns : List Message) (d e : Ending) → Reads bytes ms d → Reads bytes ns e → (ms ≡ ns) × (d ≡ e) }
 {}
 
-/// Whatever the bytes so far are, they are some list of messages and end in some way.
+/// Any bytes have a reading: some list of messages, and some ending.
 #[tactic(auto, using(crate::proofs::SomeReading::some_reading))]
 pub fn stream_has_a_reading()
     ensures { (bytes : List ℕ) → (ms : List Message) × (e : Ending) × Reads bytes ms e }
@@ -28,25 +28,25 @@ pub fn fault_stays_the_same()
     ensures { (bytes more : List ℕ) (ms : List Message) (f : PeerFault) → Reads bytes ms (Faulty f) → Reads (bytes ++ more) ms (Faulty f) }
 {}
 
-/// What a stream gives in pieces is what it gives at once, however it is cut.
+/// Reading a stream in pieces gives the same as reading it at once, however it is cut.
 #[tactic(auto, using(crate::proofs::Pieces::pieces_join))]
 pub fn pieces_make_one_stream()
     ensures { (pieces : List (List ℕ)) (ms : List Message) (e : Ending) → Feeds [] pieces ms e → Reads (concat pieces) ms e }
 {}
 
-/// What a message is written as is that message.
+/// A written message is read back as that message.
 pub fn written_message_is_read()
     ensures { (m : Message) → CanBeWritten m → IsMessage (message_bytes m) m }
 {}
 
-/// What an insert is written as are the bytes of its form, and no two inserts have the same plain data.
+/// The bytes of an insert have its form, and no two inserts have the same plain data.
 #[tactic(auto, using(crate::proofs::Inserts::insert_back))]
 pub fn insert_has_its_form()
     ensures written { (i : PlainInsert) → IsInsert i → Spells insert_form (plain_insert i) (insert_bytes i) }
     ensures whole { (i : PlainInsert) → insert_in (plain_insert i) ≡ i }
 {}
 
-/// Bytes that have to be one message have one answer, and it is a message exactly where they are that message.
+/// Bytes that have to be one message have one answer, and it is a message exactly if they are that message.
 pub fn one_message_has_one_answer()
     ensures some { (bytes : List ℕ) → (r : Result Message OneFault) × IsOne bytes r }
     ensures one { (bytes : List ℕ) (r s : Result Message OneFault) → IsOne bytes r → IsOne bytes s → r ≡ s }

@@ -12,7 +12,7 @@ pub(crate) const INSERT: u8 = 1;
 pub(crate) const DELETE: u8 = 6;
 /// The action of a group that clears creators.
 pub(crate) const CLEAR: u8 = 0;
-/// How many bytes a message has at most with its header, which is what its length can say.
+/// How many bytes a message may have with its header: the most that its length field can say.
 pub const MESSAGE_LIMIT: usize = 65535;
 
 /// A list, of records or of groups. Contracts see the list.
@@ -30,14 +30,14 @@ impl<T: Drop> Model for Records<T> {
 }
 
 impl<T: Drop> Records<T> {
-    /// The list of these. It is never refused for memory.
+    /// The list of these. It takes no memory.
     pub fn new(items: Vec<T>) -> Records<T>
         ensures { result ≡ items.items }
     {
         Records { items }
     }
 
-    /// Them, in order.
+    /// The items, in order.
     pub fn as_slice(&self) -> &[T]
         ensures { result.now ≡ self.now }
     {
@@ -52,14 +52,14 @@ pub enum Group {
     Inserts(Records<Insert>),
     /// States that are gone.
     Deletes(Records<Delete>),
-    /// Hosts none of whose states is left.
+    /// Hosts that have no state left.
     Clears(Records<Clear>),
 }
 
 /// A message. A header alone, without groups, is one too.
 #[derive(Drop)]
 pub struct Message {
-    /// The checksum of the rules by whose numbers its inserts name rules: the 16 bytes of an MD5 digest, in its order.
+    /// The checksum of the rules whose numbers its inserts give: the 16 bytes of an MD5 digest, in its order.
     pub checksum: [u8; 16],
     /// Its groups, which act in their order.
     pub groups: Records<Group>,

@@ -1,4 +1,4 @@
-//! Reading a run of bytes that has to be one message, as a line of commands has it.
+//! Reading bytes that have to be one message, as a line of commands has it.
 ghost use Rattle.std.specs.Prelude.{IfOk};
 ghost use Rattle.pf_state.specs.Peer.One.{IsOne};
 
@@ -7,10 +7,9 @@ use crate::peer::message::Message;
 use crate::peer::stream::read_stream;
 use std::alloc::{AllocError, Global};
 
-/// The one whole message that these bytes are, or why they aren't one. They are looked at as a stream that ends where they do: a fault
-/// anywhere in them comes first, after however many messages, then [`PeerFault::Ended`] for a message that isn't whole, and last
-/// [`OneFault::Count`] where they are several messages, or none since there are no bytes. The only outer error is that memory is
-/// refused.
+/// The one whole message in these bytes, or why they aren't one. They are read as a stream that ends where they do: a fault anywhere in
+/// them comes first, after however many messages, then [`PeerFault::Ended`] for a message that isn't whole, and last [`OneFault::Count`]
+/// for several messages, or for none if there are no bytes. The only outer error is out of memory.
 pub fn read_one(alloc: Global, bytes: &[u8]) -> Result<Result<Message, OneFault>, AllocError>
     ensures { IfOk result (IsOne bytes.now) }
 {

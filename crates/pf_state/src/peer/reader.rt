@@ -12,14 +12,14 @@ use std::marker::Model;
 /// What a piece of a stream has brought.
 #[derive(Drop)]
 pub struct Fed {
-    /// The messages that are whole with this piece and weren't before, in order.
+    /// The messages that this piece completes, in order.
     pub messages: Vec<Message>,
-    /// What is wrong behind them, if anything. [`PeerFault::Ended`] is told by `finish` alone.
+    /// The fault after them, if any. Only `finish` returns [`PeerFault::Ended`].
     pub fault: Option<PeerFault>,
 }
 
-/// A reader of a peer's stream. It keeps the bytes of the message that isn't whole yet, or that there was a fault. Contracts see it as
-/// these bytes, and as `None` from a fault on.
+/// A reader of a peer's stream. It keeps the bytes of the message that isn't whole yet, or that there was a fault. Contracts see these
+/// bytes, or `None` from a fault on.
 #[derive(Drop)]
 pub struct PeerReader {
     rest: Vec<u8>,
@@ -35,7 +35,7 @@ impl Model for PeerReader {
 }
 
 impl PeerReader {
-    /// A reader of a stream of which nothing has come. It is never refused for memory.
+    /// A reader of a stream of which nothing has come. It takes no memory.
     pub fn new(alloc: Global) -> PeerReader
         ensures { result ≡ Some [] }
     {
@@ -45,8 +45,8 @@ impl PeerReader {
         }
     }
 
-    /// Takes the next piece of the stream: the messages that it completes, and the fault behind them, if there is one. Where the
-    /// pieces were cut makes no difference. A fault of a message's header comes with the byte that shows it, one of its groups with the
+    /// Takes the next piece of the stream, and returns the messages that it completes and the fault after them, if any. It makes no
+    /// difference where the pieces were cut. A fault in a message's header comes with the byte that shows it, one in its groups with the
     /// message's last byte, wherever in it the fault is.
     ///
     /// After a fault the answer is [`FeedError::Failed`] from the next call on. [`FeedError::Memory`] leaves the reader as it was.
@@ -71,9 +71,9 @@ impl PeerReader {
         })
     }
 
-    /// What the end of the stream shows: [`PeerFault::Ended`] within a message, and no fault between messages. `Ended` is a fault as
-    /// the others are: from the next call on `feed` and `finish` answer [`FeedError::Failed`]. Where there is no fault the reader is
-    /// as before. It is never refused for memory.
+    /// What the end of the stream shows: [`PeerFault::Ended`] within a message, and no fault between messages. `Ended` is a fault like the
+    /// others: from the next call on `feed` and `finish` return [`FeedError::Failed`]. Without a fault the reader is as before. It takes no
+    /// memory.
     pub fn finish(&mut self) -> Result<Option<PeerFault>, FeedError>
         ensures answer { result ≡ finished self.old }
         ensures left { self.new ≡ kept_at_end self.old }

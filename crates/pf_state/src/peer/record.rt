@@ -1,4 +1,4 @@
-//! Records: what a group of one action has, and how each is read and written.
+//! Records: what a group of one action has, and how each kind is read and written.
 ghost use Rattle.std.specs.Prelude.{◌≡◌, ◌++◌, length, Option, List, ℕ, OnOk};
 ghost use Rattle.pf_state.specs.Peer.Records.{IsInsert, told_flow, Says};
 
@@ -12,17 +12,17 @@ use pf_rule::value::{Direction, Protocol};
 use std::alloc::{AllocError, Global};
 use std::marker::Model;
 
-/// How many bytes each record has, of any action.
+/// How many bytes a record has, whatever its action.
 pub const RECORD: usize = 64;
 
-/// What an insert tells of a state. Contracts see an [`Insert`] as these fields.
+/// What an insert says of a state. Contracts see an [`Insert`] as these fields.
 #[derive(Clone, Copy)]
 pub struct InsertFields {
-    /// The state's number, which is its creator's own: any.
+    /// The state's number, which its creator chose: any.
     pub id: u64,
     /// The number of the host that made it: any.
     pub creator: u32,
-    /// Which of the tellings of this state is the later one: the greater generation.
+    /// Which version of this state is the later one: the greater generation.
     pub generation: u32,
     /// Which way its first packet went.
     pub direction: Direction,
@@ -38,7 +38,7 @@ pub struct InsertFields {
     pub destination_port: u16,
     /// The number of the rule that made it, from 0 in its ruleset; all ones (4,294,967,295) for none.
     pub rule: u32,
-    /// The number of the anchor that the rule stands in, all ones for none, which is a rule of the main ruleset.
+    /// The number of the anchor that the rule is in; all ones for none, for a rule of the main ruleset.
     pub anchor: u32,
 }
 
@@ -59,8 +59,8 @@ impl Model for Insert {
 }
 
 impl Insert {
-    /// The insert with these fields. That the addresses are of one family, and the ports 0 unless the protocol is TCP or UDP, is
-    /// the caller's condition.
+    /// The insert with these fields. The caller ensures that the addresses are of one family, and the ports 0 unless the protocol is TCP or
+    /// UDP.
     pub fn new(fields: InsertFields) -> Insert
         requires { IsInsert fields }
         ensures { result ≡ fields }
@@ -77,7 +77,7 @@ impl Insert {
         &self.0
     }
 
-    /// The flow of the state that it tells of.
+    /// The flow of its state.
     pub fn flow(&self) -> Flow
         ensures { result ≡ told_flow self.now }
     {
@@ -94,40 +94,39 @@ impl Insert {
     }
 }
 
-/// The removal of one state, whatever its generation. Of the record's bytes no others than these fields' are looked at; they are written
-/// as 0.
+/// The removal of one state, whatever its generation. Only the record's bytes of these fields are looked at; the others are written as 0.
 #[derive(Clone, Copy)]
 pub struct Delete {
-    /// The state's number, which is its creator's own.
+    /// The state's number, which its creator chose.
     pub id: u64,
     /// The number of the host that made it.
     pub creator: u32,
 }
 
-/// The removal of all states that one host made. Of the record's bytes no others than this field's are looked at; they are written as 0.
+/// The removal of all states of one host. Only the record's bytes of this field are looked at; the others are written as 0.
 #[derive(Clone, Copy)]
 pub struct Clear {
     /// The number of the host.
     pub creator: u32,
 }
 
-/// What stands in records of [`RECORD`] bytes.
+/// A kind of record, of [`RECORD`] bytes.
 pub trait Record: Drop + Sized {
-    /// What so many bytes say, if they may say anything.
+    /// What the bytes of a record mean, if anything.
     ghost reading: { List ℕ → Option Self };
 
     /// The bytes that it is written as.
     ghost writing: { Self → List ℕ };
 
-    /// What each of them keeps.
+    /// The invariant of each.
     ghost keeps: { Self → Type 0 };
 
-    /// What the bytes say. Fails where a field has what it can't have, and where memory is refused.
+    /// Reads the record from the bytes. Fails if a field has an invalid value, or when out of memory.
     fn from_row(alloc: Global, row: &[u8]) -> Result<Self, Stop>
         requires { length row.now ≡ RECORD }
         ensures { Says result (reading row.now) };
 
-    /// Writes the record behind these bytes. Where memory is refused, how much of it stands there isn't said.
+    /// Appends the record to these bytes. When out of memory, how much of it was appended is unspecified.
     fn push(&self, out: &mut Vec<u8>) -> Result<(), AllocError>
         ensures written { OnOk result (out.new.items ≡ out.old.items ++ writing self.now) }
         ensures kept { OnOk result (keeps self.now) };
@@ -149,7 +148,7 @@ impl Record for Insert {
 
     #[tactic(auto, using(crate::proofs::Inserts::insert_fits))]
     fn push(&self, out: &mut Vec<u8>) -> Result<(), AllocError> {
-        // what each insert keeps lets it be written
+        // the insert's invariant lets it be written
         let _fields = self.fields();
         self.write(VERSION, out)?;
         Ok(())

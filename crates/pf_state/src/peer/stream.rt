@@ -10,25 +10,25 @@ use std::alloc::{AllocError, Global};
 /// How many bytes the header of a message has.
 pub const MESSAGE_HEADER: usize = 20;
 
-/// What stands where a message begins.
+/// What is at the start of a message.
 #[derive(Clone, Copy)]
 pub(crate) enum MessageStart {
-    /// Less than a message, as yet without fault.
+    /// Less than a message, without a fault so far.
     Partial,
-    /// A header with which a message has so many bytes, all of which are there.
+    /// The header of a message of this many bytes, all of which are there.
     Whole(usize),
-    /// A header that no message has.
+    /// A header that is invalid.
     Bad(PeerFault),
 }
 
-/// What has come of a stream.
+/// What has been read of a stream.
 #[derive(Drop)]
 pub(crate) struct Read<'a> {
     /// Its messages, in order.
     pub messages: Vec<Message>,
-    /// What is wrong behind them, if anything.
+    /// The fault after them, if any.
     pub fault: Option<PeerFault>,
-    /// The bytes behind them, where nothing is wrong.
+    /// The bytes after them, if there is no fault.
     pub rest: &'a [u8],
 }
 
@@ -67,7 +67,7 @@ pub(crate) fn read_stream(alloc: Global, bytes: &[u8]) -> Result<Read<'_>, Alloc
     }
 }
 
-// What stands at the front.
+// What is at the front.
 #[tactic(auto, unfolding(pf_rule::specs::Bytes::number_at))]
 fn front_of(bytes: &[u8]) -> MessageStart
     ensures { IsFront bytes.now result }

@@ -9,9 +9,9 @@ use crate::peer::stream::MESSAGE_HEADER;
 use byteorder::{BigEndian, ByteOrder};
 use std::alloc::{AllocError, Global};
 
-/// The bytes of a message, which are read back as that message. Its groups have at most as many records as let the whole fit in
-/// [`MESSAGE_LIMIT`](crate::peer::MESSAGE_LIMIT) bytes, which is the caller's condition: its header, 4 bytes for each group and
-/// [`RECORD`](crate::peer::RECORD) for each record. The only error is that memory is refused.
+/// The bytes of a message, which are read back as that message. The caller ensures that the whole fits in
+/// [`MESSAGE_LIMIT`](crate::peer::MESSAGE_LIMIT) bytes: its header, 4 bytes for each group and [`RECORD`](crate::peer::RECORD) for each
+/// record. The only error is out of memory.
 pub fn write_peer(alloc: Global, message: &Message) -> Result<Vec<u8>, AllocError>
     requires { message_length message.now ≤ MESSAGE_LIMIT }
     ensures written { IfOk result (λ bytes. bytes.items ≡ message_bytes message.now) }
@@ -71,7 +71,7 @@ fn push_u16(out: &mut Vec<u8>, number: u16) -> Result<(), AllocError>
     out.extend_from_slice(&bytes)
 }
 
-/// Writes a number in four bytes.
+/// Appends a number in four bytes.
 pub(crate) fn push_u32(out: &mut Vec<u8>, number: u32) -> Result<(), AllocError>
     ensures { OnOk result (out.new.items ≡ out.old.items ++ big_bytes 4 number) }
 {
@@ -80,7 +80,7 @@ pub(crate) fn push_u32(out: &mut Vec<u8>, number: u32) -> Result<(), AllocError>
     out.extend_from_slice(&bytes)
 }
 
-/// Writes a number in eight bytes.
+/// Appends a number in eight bytes.
 pub(crate) fn push_u64(out: &mut Vec<u8>, number: u64) -> Result<(), AllocError>
     ensures { OnOk result (out.new.items ≡ out.old.items ++ big_bytes 8 number) }
 {

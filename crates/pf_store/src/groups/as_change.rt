@@ -1,10 +1,10 @@
-//! Changes as they are handed in: as they are, or shared.
+//! Changes as they are handed in: owned or shared.
 ghost use Rattle.std.specs.Prelude.{◌≡◌};
 
 use pf_core::Change;
 use std::sync::Arc;
 
-/// A change, as it is or shared.
+/// A change, owned or shared.
 pub trait AsChange {
     ghost use Rattle.pf_core.specs.Durable.Changes.{PlainChange};
 

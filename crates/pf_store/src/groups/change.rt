@@ -1,4 +1,4 @@
-//! Changes.
+//! One change or opening in bytes.
 ghost use Rattle.std.specs.Prelude.{◌≡◌, ◌<◌, ◌^◌, true, length, OnOk};
 ghost use Rattle.pf_form.specs.{Bytes.Forms.{onto, Fits}, Bytes.Readers.Reads};
 ghost use Rattle.pf_anchor.specs.Forms.{plain_entries};
@@ -16,7 +16,7 @@ use pf_state::layouts::{push_name, push_steps, read_name, read_steps};
 use pf_table::Entry;
 use std::alloc::{AllocError, Global};
 
-// How many values a count of four bytes can't tell.
+// How many values a count of four bytes has.
 const COUNTS: usize = 1 << 32;
 
 const COMMIT: u8 = 1;
@@ -66,7 +66,7 @@ impl Layout for Recorded {
     }
 }
 
-// What names a table, and entries as handed in.
+// A table's path and name, and entries as handed in.
 #[derive(Drop)]
 struct TableEdit {
     path: Path,
@@ -106,7 +106,7 @@ fn push_edit(
     push_entries(out, version, entries)
 }
 
-// What is recorded, at the front of the bytes.
+// Reads what is recorded from the front of the bytes.
 #[tactic(auto, unfolding(crate::specs::Groups::change_form))]
 fn read_record<'a>(alloc: Global, version: u8, from: &mut Rest<'a>) -> Result<Recorded, Stop>
     ensures { Reads plain_record (change_form version) result from.old.now from.new.now }
@@ -136,7 +136,7 @@ fn read_record<'a>(alloc: Global, version: u8, from: &mut Rest<'a>) -> Result<Re
     Ok(Recorded::Opens(read_u32(from)?))
 }
 
-/// Puts what is recorded behind the bytes, as a version has it; it fits. Fails only where memory is refused.
+/// Appends what is recorded to the bytes, as a version has it; it fits. Fails only when out of memory.
 #[tactic(auto, unfolding(crate::specs::Groups::change_form))]
 pub(crate) fn push_record(
     out: &mut Vec<u8>,
@@ -156,7 +156,7 @@ pub(crate) fn push_record(
     }
 }
 
-/// Puts a change behind the bytes, as a version has it; it fits. Fails only where memory is refused.
+/// Appends a change to the bytes, as a version has it; it fits. Fails only when out of memory.
 #[tactic(auto, unfolding(crate::specs::Groups::change_form))]
 pub(crate) fn push_change(out: &mut Vec<u8>, version: u8, change: &Change) -> Result<(), AllocError>
     requires { has_form (Recorded.Made change.now) ≡ true }

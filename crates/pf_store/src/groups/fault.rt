@@ -1,15 +1,15 @@
-//! Why a change has no bytes, or bytes no change.
+//! Why something wasn't written as bytes, or read from them.
 ghost use Rattle.std.specs.Prelude.{◌≡◌};
 ghost use Rattle.pf_store.specs.declared.groups.fault.GroupFault.TheVariants.{Memory};
 
 use std::alloc::{AllocError, AllocFailed};
 
-/// Why a change wasn't written or read.
+/// Why a group or a snapshot wasn't written or read.
 #[derive(Clone, Copy, Debug)]
 pub enum GroupFault {
-    /// Memory was refused.
+    /// Out of memory.
     Memory,
-    /// The change has no bytes, or the bytes are no change's.
+    /// It has no bytes, or the bytes are no group's or no snapshot's.
     NoForm,
 }
 

@@ -51,7 +51,7 @@ impl Layout for StoredGroup {
     }
 }
 
-// Changes and openings behind their number in one byte.
+// Reads changes and openings after their number in one byte.
 fn read_records<'a>(alloc: Global, version: u8, from: &mut Rest<'a>) -> Result<Vec<Recorded>, Stop>
     ensures { Reads (λ v. map plain_record v.items) (counted 1 (change_form version)) result from.old.now from.new.now }
 {
@@ -59,7 +59,7 @@ fn read_records<'a>(alloc: Global, version: u8, from: &mut Rest<'a>) -> Result<V
     read_times::<Recorded>(alloc, version, count as usize, from)
 }
 
-// Whether they are as many as one record keeps.
+// Whether there are as many as one record keeps, 1 to 64.
 fn is_group<T>(records: &[T]) -> bool
     ensures { result ≡ is_group records.now }
 {
@@ -132,10 +132,10 @@ fn has_bytes<C: AsChange>(change: &C) -> bool
     has_change_form(change.as_change())
 }
 
-/// The bytes of a group of changes in a version, 2 and more.
+/// The bytes, at least 2, of a group of changes in a version.
 ///
-/// `NoForm`: it has none. There are none or more than 64, or one of them has none, as a commit of nothing, of more than 64 rulesets, or of
-/// more tables at a path than a ticket takes. `Memory`: it has some, and a growth was refused.
+/// `NoForm`: it has none. There are no changes or more than 64, or one of them has no bytes, such as a commit of nothing, of more than 64
+/// rulesets, or of more tables at a path than a ticket takes. `Memory`: it has some, but memory ran out.
 pub fn write_group<C: AsChange>(
     alloc: Global,
     version: u8,
@@ -155,7 +155,7 @@ pub fn write_group<C: AsChange>(
     Ok(out)
 }
 
-// Puts the bytes of a group of changes behind others.
+// Appends the bytes of a group of changes to others.
 fn push_group<C: AsChange>(out: &mut Vec<u8>, version: u8, changes: &[C]) -> Result<(), AllocError>
     requires { have_form (made_all (map C.as_plain changes.now)) ≡ true }
     ensures { OnOk result ((payload : List ℕ) × (out.new.items ≡ out.old.items ++ payload)
@@ -165,7 +165,7 @@ fn push_group<C: AsChange>(out: &mut Vec<u8>, version: u8, changes: &[C]) -> Res
     push_changes(out, version, changes)
 }
 
-/// The record of a group of changes in a version, where they have bytes, fewer than 2^32. `AllocError`: memory was refused.
+/// The record of a group of changes in a version; they have bytes, fewer than 2^32. `AllocError`: out of memory.
 pub(crate) fn record_group<C: AsChange>(
     alloc: Global,
     version: u8,
@@ -182,7 +182,7 @@ pub(crate) fn record_group<C: AsChange>(
     Ok(record)
 }
 
-/// The record of an opening with this epoch, a group of its own, which is the same in each version. `AllocError`: memory was refused.
+/// The record of an opening with this epoch, a group of its own, which is the same in each version. `AllocError`: out of memory.
 pub(crate) fn record_opening(alloc: Global, epoch: u32) -> Result<Record, AllocError>
     ensures made { IfOk result (λ made. (version : ℕ) → IsRecordOf version (Recorded.Opens epoch ∷ []) made) }
     ensures long { IfOk result (λ made. length made.behind.items + 1 ≡ OPENING_RECORD) }
@@ -194,7 +194,7 @@ pub(crate) fn record_opening(alloc: Global, epoch: u32) -> Result<Record, AllocE
     Ok(record)
 }
 
-/// What these bytes record in a version: 1 to 64 changes and openings. `NoForm`: they are nothing's. `Memory`: a growth was refused.
+/// What these bytes record in a version: 1 to 64 changes and openings. `NoForm`: they are no group's. `Memory`: out of memory.
 #[tactic(auto, using(crate::proofs::RecordedForms::spelled, crate::proofs::RecordedForms::none_told))]
 pub fn read_group(alloc: Global, version: u8, bytes: &[u8]) -> Result<Vec<Recorded>, GroupFault>
     ensures found { IfOk result (λ v. IsRecorded version v.items bytes.now) }

@@ -59,7 +59,7 @@ impl Layout for StoredItem {
     }
 }
 
-/// A path and the rules there, from the front of the bytes. Fails with the first fault there, or where memory is refused.
+/// Reads a path and the rules there from the front of the bytes. Fails with the first fault there, or when out of memory.
 #[tactic(auto, unfolding(pf_anchor::specs::Forms::rules_form))]
 pub(crate) fn read_rules<'a>(
     alloc: Global,
@@ -85,7 +85,7 @@ fn read_rule_list<'a>(alloc: Global, version: u8, from: &mut Rest<'a>) -> Result
     Ok(RuleList::of(alloc, rules)?)
 }
 
-// A path and the tables there that were defined.
+// Reads a path and the tables there that were defined.
 #[tactic(auto, unfolding(crate::specs::Groups::tables_form))]
 fn read_tables<'a>(alloc: Global, version: u8, from: &mut Rest<'a>) -> Result<(Path, Defined), Stop>
     ensures { Reads {a = TablesShape} (λ r. (r.0, map plain_named r.1)) tables_form result from.old.now from.new.now }
@@ -114,7 +114,7 @@ fn tables_of(alloc: Global, rows: Vec<StoredTable>) -> Result<Vec<DefinedTable>,
     rows.into_iter().map(|row| row.table).collect(alloc)
 }
 
-/// Puts a path and the rules there behind the bytes; they fit. Fails only where memory is refused.
+/// Appends a path and the rules there to the bytes; they fit. Fails only when out of memory.
 #[tactic(auto, unfolding(pf_anchor::specs::Forms::rules_form))]
 pub(crate) fn push_rules(out: &mut Vec<u8>, version: u8, placed: &Placed) -> Result<(), AllocError>
     ensures written { OnOk result
@@ -133,7 +133,7 @@ fn push_rule_list(out: &mut Vec<u8>, version: u8, rules: &RuleList) -> Result<()
     push_list(out, version, rules.as_slice())
 }
 
-// Puts a path and the tables there that were defined behind the bytes.
+// Appends a path and the tables there that were defined to the bytes.
 #[tactic(auto, unfolding(crate::specs::Groups::tables_form))]
 fn push_tables(
     out: &mut Vec<u8>,
@@ -182,7 +182,7 @@ fn push_item(out: &mut Vec<u8>, version: u8, item: &Item) -> Result<(), AllocErr
     }
 }
 
-/// What a commit replaces, from the front of the bytes. Fails with the first fault there, or where memory is refused.
+/// Reads what a commit replaces from the front of the bytes. Fails with the first fault there, or when out of memory.
 #[tactic(auto, unfolding(crate::specs::Groups::items_form))]
 pub(crate) fn read_items<'a>(
     alloc: Global,
@@ -206,7 +206,7 @@ fn items_of(alloc: Global, rows: Vec<StoredItem>) -> Result<Vec<Item>, AllocErro
     rows.into_iter().map(|row| row.item).collect(alloc)
 }
 
-// Items behind their number in one byte.
+// Reads items after their number in one byte.
 fn read_rows<'a>(alloc: Global, version: u8, from: &mut Rest<'a>) -> Result<Vec<StoredItem>, Stop>
     ensures { Reads (λ v. map (λ row. plain_item row.item) v.items) (counted 1 (item_form version)) result from.old.now from.new.now }
 {
@@ -214,7 +214,7 @@ fn read_rows<'a>(alloc: Global, version: u8, from: &mut Rest<'a>) -> Result<Vec<
     read_times::<StoredItem>(alloc, version, count as usize, from)
 }
 
-/// Puts what a commit replaces behind the bytes; it fits. Fails only where memory is refused.
+/// Appends what a commit replaces to the bytes; it fits. Fails only when out of memory.
 #[tactic(auto, unfolding(crate::specs::Groups::items_form))]
 pub(crate) fn push_items(out: &mut Vec<u8>, version: u8, items: &[Item]) -> Result<(), AllocError>
     requires many { is_commit items.now ≡ true }
@@ -242,7 +242,7 @@ fn all_have_form(items: &[Item]) -> bool
     items.iter().all(has_item_form)
 }
 
-// Whether they are as many as a commit may name.
+// Whether there are as many as a commit may name, 1 to 64.
 fn is_commit(items: &[Item]) -> bool
     ensures { result ≡ is_commit items.now }
 {

@@ -3,8 +3,8 @@ ghost use Rattle.std.specs.Prelude.{◌≡◌, true, List, ℕ, length};
 ghost use Rattle.pf_store.specs.declared.groups.change.Recorded.{Recorded};
 ghost use Rattle.pf_store.specs.{Groups.{have_form, IsRecorded}, Lengths.payload_length};
 
-/// In each version a payload is that of one group at most. This one has a form, and the payload as many bytes as the kinds and the lengths
-/// of its changes tell.
+/// In each version a payload is that of at most one group. That group has a form, and the payload is as long as the kinds and the lengths
+/// of its changes say.
 #[tactic(auto, using(crate::proofs::RecordedForms::one_group, crate::proofs::RecordedForms::recorded_formed, crate::proofs::Sized::payload_long))]
 pub fn payloads_tell_one_group()
     ensures one { (version : ℕ) (rs ss : List Recorded) (payload : List ℕ)

@@ -13,7 +13,7 @@ use pf_table::{Entry, TABLE_LIMIT, Table};
 use pf_ticket::DefinedTable;
 use std::alloc::{AllocError, Global};
 
-/// Puts entries behind the bytes, as handed in, behind their number in four bytes; they fit. Fails only where memory is refused.
+/// Appends the entries' number in four bytes and the entries, as handed in, to the bytes; they fit. Fails only when out of memory.
 pub(crate) fn push_entries(
     out: &mut Vec<u8>,
     version: u8,
@@ -26,7 +26,7 @@ pub(crate) fn push_entries(
     push_list(out, version, entries)
 }
 
-/// Entries behind their number in four bytes. Fails with the first fault of their form there, or where memory is refused.
+/// Reads entries after their number in four bytes. Fails with the first fault of their form there, or when out of memory.
 pub(crate) fn read_entries<'a>(
     alloc: Global,
     version: u8,
@@ -75,7 +75,7 @@ impl Ordered for StoredTable {
     }
 }
 
-/// Entries in a table's order, at most as many as a table may have. Fails with the first fault there, or where memory is refused.
+/// Reads entries in a table's order, at most as many as a table may have. Fails with the first fault there, or when out of memory.
 #[tactic(auto, unfolding(pf_anchor::specs::Forms::entries_form), using(pf_table::proofs::TableRows::in_order_is))]
 pub(crate) fn read_table<'a>(alloc: Global, version: u8, from: &mut Rest<'a>) -> Result<Table, Stop>
     ensures { Reads plain_entries entries_form result from.old.now from.new.now }
@@ -88,7 +88,7 @@ pub(crate) fn read_table<'a>(alloc: Global, version: u8, from: &mut Rest<'a>) ->
     Ok(Table::of(alloc, &entries)?)
 }
 
-/// Puts a table's entries behind the bytes, in its order; they fit. Fails only where memory is refused.
+/// Appends a table's entries to the bytes, in its order; they fit. Fails only when out of memory.
 #[tactic(auto, unfolding(pf_anchor::specs::Forms::entries_form), using(crate::proofs::Pushed::entries_fit))]
 pub(crate) fn push_table(out: &mut Vec<u8>, version: u8, table: &Table) -> Result<(), AllocError>
     ensures written { OnOk result (out.new.items ≡ onto entries_form (plain_entries table.now) out.old.items) }
@@ -102,7 +102,7 @@ pub(crate) fn push_table(out: &mut Vec<u8>, version: u8, table: &Table) -> Resul
     Ok(())
 }
 
-/// Puts a table's name behind the bytes, and its entries in their order; they fit. Fails only where memory is refused.
+/// Appends a table's name to the bytes, and its entries in their order; they fit. Fails only when out of memory.
 #[tactic(auto, unfolding(pf_anchor::specs::Forms::named_form))]
 pub(crate) fn push_named(
     out: &mut Vec<u8>,

@@ -1,4 +1,4 @@
-//! That what is recorded is told by its data. Each function does nothing; its clause is what the types keep.
+//! That data determine what is recorded. Each function does nothing; its clause is what the types guarantee.
 ghost use Rattle.std.specs.Prelude.{◌≡◌, map};
 ghost use Rattle.pf_rule.specs.Sum.{Layouts.plain_rule, Reading.rule_of};
 ghost use Rattle.pf_store.specs.Groups.{plain_item, item_in, plain_record, record_in};
@@ -7,7 +7,7 @@ use crate::groups::change::Recorded;
 use pf_core::{Change, ChangeKind, Item};
 use pf_rule::Rule;
 
-/// Tells contracts that what is recorded is what its data tell; it does nothing.
+/// Gives contracts the fact that what is recorded is what its data say; it does nothing.
 pub(crate) fn tells(recorded: &Recorded)
     ensures { record_in (plain_record recorded.now) ≡ recorded.now }
 {
@@ -48,7 +48,7 @@ fn tell_item(item: &Item)
     }
 }
 
-/// Tells contracts that each rule is what its data tell; it does nothing.
+/// Gives contracts the fact that each rule is what its data say; it does nothing.
 pub(crate) fn tell_rules(rules: &[Rule])
     ensures { map rule_of (map plain_rule rules.now) ≡ rules.now }
 {
@@ -61,6 +61,6 @@ pub(crate) fn tell_rules(rules: &[Rule])
 fn tell_rule(rule: &Rule)
     ensures { rule_of (plain_rule rule.now) ≡ rule.now }
 {
-    // what keeps the rule a rule is what its effect tells
+    // the contract of `effect` says what makes the rule a rule
     let _effect = rule.effect();
 }

@@ -54,7 +54,7 @@ impl Layout for Snapshot {
     }
 }
 
-// These rulesets and tables.
+// The configuration of these rulesets and tables.
 fn config_of(
     alloc: Global,
     rulesets: &[Placed],
@@ -93,7 +93,7 @@ fn has_form(alloc: Global, durable: &Durable) -> Result<bool, AllocError>
     Ok(!config.would_be_too_many_tables(alloc, &[])?)
 }
 
-/// Puts the bytes of a snapshot of what is kept, which has them, behind the bytes. Fails only where memory is refused.
+/// Appends a snapshot of what is kept, which has one, to the bytes. Fails only when out of memory.
 pub(crate) fn push_snapshot(
     out: &mut Vec<u8>,
     version: u8,
@@ -106,9 +106,9 @@ pub(crate) fn push_snapshot(
     push_durable(out, version, durable)
 }
 
-/// The bytes of a snapshot of what is kept in a version, 16 and more.
+/// The bytes, at least 16, of a snapshot of what is kept, in a version.
 ///
-/// `NoForm`: it has none, since there are more than 1,024 rulesets or tables. `Memory`: a growth was refused.
+/// `NoForm`: it has none, since there are more than 1,024 rulesets or tables. `Memory`: out of memory.
 pub fn write_durable(alloc: Global, version: u8, durable: &Durable) -> Result<Vec<u8>, GroupFault>
     ensures written { IfOk result (λ v. IsDurable version durable.now v.items) }
     ensures length { IfOk result (λ v. length v.items ≡ snapshot_length durable.now) }
@@ -126,7 +126,7 @@ pub fn write_durable(alloc: Global, version: u8, durable: &Durable) -> Result<Ve
     Ok(out)
 }
 
-/// What these bytes are the snapshot of in a version. `NoForm`: they are nothing's. `Memory`: a growth was refused.
+/// What these bytes are the snapshot of in a version. `NoForm`: they are no snapshot. `Memory`: out of memory.
 #[tactic(auto, using(crate::proofs::Durables::durable_spelled, crate::proofs::Durables::none_told))]
 pub fn read_durable(alloc: Global, version: u8, bytes: &[u8]) -> Result<Durable, GroupFault>
     ensures found { IfOk result (λ d. IsDurable version d bytes.now) }

@@ -4,7 +4,7 @@ ghost use Rattle.pf_form.specs.Bytes.Forms.{Spells};
 ghost use Rattle.pf_core.specs.Durable.Changes.{PlainDurable, kept_nothing};
 ghost use Rattle.pf_store.specs.{Durables.{IsDurable, durable_has_form, example_kept, example_bytes}, Lengths.snapshot_length, Snapshots.empty_form};
 
-/// In each version bytes are the snapshot of one thing kept at most, and what has more rulesets or tables than there may be has none.
+/// In each version bytes are the snapshot of at most one thing kept, and what has more rulesets or tables than allowed has none.
 pub fn snapshot_is_of_one_durable()
     ensures one { (version : ℕ) (d e : PlainDurable) (bytes : List ℕ) → IsDurable version d bytes → IsDurable version e bytes → d ≡ e }
     ensures formless { (version : ℕ) (d : PlainDurable) (bytes : List ℕ) → durable_has_form d ≡ false → ¬ IsDurable version d bytes }

@@ -1,4 +1,4 @@
-//! Rulesets.
+//! Rulesets in a snapshot.
 ghost use Rattle.std.specs.{Prelude.{◌≡◌, ◌≤◌, ◌&&◌, nat_le, true, T, length, map, IfOk, OnOk}, FinMap.is_sorted, List.list_all};
 ghost use Rattle.pf_addr.specs.Path.Paths.{path_order};
 ghost use Rattle.pf_form.specs.Bytes.{Forms.{onto, Fits}, Readers.Reads};
@@ -57,7 +57,7 @@ fn are_filled(rows: &[StoredRuleset]) -> bool
     rows.iter().all(has_rules)
 }
 
-// Whether there may be so many, and none of them is empty.
+// Whether there are no more than allowed, and none of them is empty.
 fn are_rulesets(rows: &[StoredRuleset]) -> bool
     ensures { result ≡ nat_le (length rows.now) RULESET_LIMIT && list_all (λ row. has_some row.placed.1) rows.now }
 {
@@ -70,8 +70,8 @@ fn placed_in(alloc: Global, rows: Vec<StoredRuleset>) -> Result<Vec<Placed>, All
     rows.into_iter().map(|row| row.placed).collect(alloc)
 }
 
-/// The rulesets at the front of the bytes, in the order of their paths. Fails with the first fault of their form there, or where memory
-/// is refused.
+/// Reads the rulesets from the front of the bytes, in the order of their paths. Fails with the first fault of their form there, or when out
+/// of memory.
 #[tactic(auto, unfolding(pf_anchor::specs::Forms::rulesets_form), using(crate::proofs::Durables::rulesets_sorted, crate::proofs::Durables::rulesets_are, crate::proofs::Durables::rulesets_filled))]
 pub(crate) fn read_rulesets<'a>(
     alloc: Global,
@@ -102,14 +102,14 @@ fn count_of(config: &Config) -> u32
     count
 }
 
-// What keeps the rulesets a map is what their rules tell.
+// That the rulesets are a map: the contract of `rules_at` says so.
 fn tell_map(config: &Config)
     ensures { IsMap config.now.rulesets }
 {
     let _rules = config.rules_at(&Path::main());
 }
 
-/// Puts the rulesets, at most 1,024, behind the bytes, in the order of their paths; they fit. Fails only where memory is refused.
+/// Appends the rulesets, at most 1,024, to the bytes, in the order of their paths; they fit. Fails only when out of memory.
 #[tactic(auto, unfolding(pf_anchor::specs::Forms::rulesets_form))]
 pub(crate) fn push_rulesets(
     out: &mut Vec<u8>,

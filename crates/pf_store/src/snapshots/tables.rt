@@ -1,4 +1,4 @@
-//! Tables at their places.
+//! Tables at their places, in a snapshot.
 ghost use Rattle.std.specs.{Prelude.{◌≡◌, ◌≤◌, ◌&&◌, nat_le, true, T, length, map, IfOk, OnOk}, FinMap.is_sorted, List.list_all};
 ghost use Rattle.pf_form.specs.{Bytes.Forms.{onto, Fits}, Bytes.Readers.Reads};
 ghost use Rattle.pf_anchor.specs.{declared.limits.TheConstants.TABLE_COUNT_LIMIT, Tables.{IsTableMap, table_order}};
@@ -12,7 +12,7 @@ use pf_form::bytes::{
 };
 use std::alloc::{AllocError, Global};
 
-// A table at its path and under its name, as a snapshot has it.
+// A table with its path and its name, as a snapshot has it.
 #[derive(Drop)]
 struct StoredPlaced {
     placed: PlacedTable,
@@ -64,7 +64,7 @@ fn are_filled(rows: &[StoredPlaced]) -> bool
     rows.iter().all(has_entries)
 }
 
-// Whether there may be so many, and none of them is empty.
+// Whether there are no more than allowed, and none of them is empty.
 fn are_tables(rows: &[StoredPlaced]) -> bool
     ensures { result ≡ nat_le (length rows.now) TABLE_COUNT_LIMIT && list_all (λ row. has_some row.placed.1) rows.now }
 {
@@ -77,8 +77,8 @@ fn placed_in(alloc: Global, rows: Vec<StoredPlaced>) -> Result<Vec<PlacedTable>,
     rows.into_iter().map(|row| row.placed).collect(alloc)
 }
 
-/// The tables at the front of the bytes, in the order of their paths, at one path in that of their names. Fails with the first fault of
-/// their form there, or where memory is refused.
+/// Reads the tables from the front of the bytes, in the order of their paths, at one path in that of their names. Fails with the first
+/// fault of their form there, or when out of memory.
 #[tactic(auto, unfolding(pf_anchor::specs::Forms::kept_tables_form), using(crate::proofs::Durables::tables_sorted, crate::proofs::Durables::tables_are, crate::proofs::Durables::tables_filled))]
 pub(crate) fn read_tables<'a>(
     alloc: Global,
@@ -109,7 +109,7 @@ fn count_of(config: &Config) -> u32
     count
 }
 
-// What keeps the tables a map is what the place of the first one tells.
+// That the tables are a map: the contract of `table_at` says so. Without tables there is no place to ask for, and none is needed.
 fn tell_map(config: &Config)
     ensures { IsTableMap config.now.tables }
 {
@@ -119,7 +119,7 @@ fn tell_map(config: &Config)
     }
 }
 
-// Puts a table's path, its name and its entries behind the bytes.
+// Appends a table's path, its name and its entries to the bytes.
 #[tactic(auto, unfolding(pf_anchor::specs::Forms::placed_form, pf_anchor::specs::Forms::named_form))]
 fn push_placed(out: &mut Vec<u8>, version: u8, placed: &PlacedTable) -> Result<(), AllocError>
     ensures written { OnOk result (out.new.items ≡ onto placed_form (plain_tabled placed.now) out.old.items) }
@@ -131,8 +131,7 @@ fn push_placed(out: &mut Vec<u8>, version: u8, placed: &PlacedTable) -> Result<(
     push_table(out, version, placed.value())
 }
 
-/// Puts the tables, at most 1,024, behind the bytes, in the order of their paths and names; they fit. Fails only where memory is
-/// refused.
+/// Appends the tables, at most 1,024, to the bytes, in the order of their paths and names; they fit. Fails only when out of memory.
 #[tactic(auto, unfolding(pf_anchor::specs::Forms::kept_tables_form), using(crate::proofs::Durables::tables_fit))]
 pub(crate) fn push_tables(out: &mut Vec<u8>, version: u8, config: &Config) -> Result<(), AllocError>
     requires { length config.now.tables ≤ TABLE_COUNT_LIMIT }

@@ -1,4 +1,4 @@
-//! That what is kept is told by its data. Each function does nothing; its clause is what the types keep.
+//! That data determine what is kept. Each function does nothing; its clause is what the types guarantee.
 ghost use Rattle.std.specs.Prelude.{◌≡◌, map};
 ghost use Rattle.pf_anchor.specs.Forms.{plain_ruled, ruled_in};
 ghost use Rattle.pf_core.specs.Durable.Forms.{plain_durable, durable_in};
@@ -7,7 +7,7 @@ use crate::groups::tell_rules;
 use pf_anchor::Config;
 use pf_core::Durable;
 
-/// Tells contracts that what is kept is what its data tell; it does nothing.
+/// Gives contracts the fact that what is kept is what its data say; it does nothing.
 #[tactic(auto, using(crate::proofs::Durables::durable_told))]
 pub(crate) fn tell_durable(durable: &Durable)
     ensures { durable_in (plain_durable durable.now) ≡ durable.now }

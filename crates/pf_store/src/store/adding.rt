@@ -1,4 +1,4 @@
-//! Adding a record, behind a switch to the other bank where it has no room.
+//! Adding a record, after a switch to the other bank if it has no room.
 ghost use Rattle.std.specs.Prelude.{◌≡◌, ◌↔◌, ◌+◌, ◌^◌, ◌<◌, ◌≤◌, true, List, ℕ, length, OnOk, OnErr, IsErrOf, if◌then◌else◌};
 ghost use Rattle.pf_disk.specs.Disk.{EachMoment};
 ghost use Rattle.pf_journal.specs.Journal.{IsOf};
@@ -16,13 +16,13 @@ use pf_journal::Record;
 use pf_snap::{BANK_HEADER, Banks, NEWEST, NextBank, SwitchFault};
 use std::alloc::AllocError;
 
-/// Adds this record of a group that follows what is kept, in ten moments of the device at most. Where the bank that counts has no room for
-/// it, the other one is begun before with a snapshot of what is kept, in the memory of the next bank. All memory is taken before the
-/// device's first call.
+/// Adds this record, of a group that follows what is kept, in at most ten moments of the device. If the bank that counts has no room for
+/// it, the other one is begun first, with a snapshot of what is kept, in the memory of `next`. All memory is taken before the first call
+/// of the device.
 ///
-/// The record is in the version of the bank that counts, which is that of the other one too: there is one so far.
+/// The record is in the version of the bank that counts, which is that of the other one too: there is only one so far.
 ///
-/// The banks are ready and hold what is kept. `Full`: the record has no room, and wouldn't have it behind such a snapshot either.
+/// The banks have to be ready and hold what is kept. `Full`: the record has no room, nor would it have after such a snapshot.
 pub(crate) fn add<D: Disk>(
     banks: &mut Banks<D>,
     next: &mut NextBank,
@@ -58,7 +58,7 @@ pub(crate) fn add<D: Disk>(
     ensures faults { D.fault_count banks.new.journal.disk
         ≡ D.fault_count banks.old.journal.disk + (if is_add_fault result then 1 else 0) }
 {
-    // its gate, and what is behind it
+    // its gate, and what comes after it
     let needed = 1 + added.behind.len();
     let fits_here = needed <= banks.room();
     if !fits_here && !has_room(durable, banks.size(), needed) {

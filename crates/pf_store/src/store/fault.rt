@@ -1,4 +1,4 @@
-//! Why a store isn't opened, or doesn't save.
+//! Why a store isn't opened, a change isn't saved, or a record isn't added.
 ghost use Rattle.std.specs.Prelude.{◌≡◌};
 ghost use Rattle.pf_store.specs.declared.store.fault.OpenFault.TheVariants as opening;
 ghost use Rattle.pf_store.specs.declared.store.fault.AddFault.TheVariants as adding;
@@ -11,38 +11,38 @@ use std::alloc::AllocError;
 /// Why a change wasn't saved.
 #[derive(Clone, Copy, Debug, PartialEq, Eq)]
 pub enum SaveFault {
-    /// Memory was refused, and there is room for the change. All is as before, and the device wasn't called.
+    /// Out of memory, though there is room for the change. All is as before, and the device wasn't called.
     Memory,
     /// There is no room for the change. All is as before, and the device wasn't called.
     Full,
-    /// A call of the device failed. An image may hold what was kept before or what is kept after it, and the store is halted.
+    /// A call of the device failed. An image may hold what was kept before the change or after it, and the store is halted.
     Fault,
-    /// A save has met a fault before. All is as before, and the device wasn't called.
+    /// An earlier save met a fault. All is as before, and the device wasn't called.
     Halted,
 }
 
-/// Why a device wasn't opened, or no history was begun over one that was. Of a store's: after each of these but `Fault` the device reads as
-/// before, and nothing was written.
+/// Why a device wasn't opened, or no history was begun over one that was. If a store's error isn't `Fault`, the device reads as before,
+/// and nothing was written.
 #[derive(Clone, Copy, Debug, PartialEq, Eq)]
 pub enum OpenFault {
     /// The device has an odd number of bytes, or fewer than 256 or more than 2^30. No call was made.
     BadSize,
     /// Both banks' gates are closed.
     NoBank,
-    /// What begins at this place of the device is none that this store leaves there: the header of the bank that counts, or both banks' (0),
-    /// its snapshot, or else the first record that is none, has no room, or doesn't follow what is kept before it; then it is that of its
+    /// What begins at this place of the device isn't what a store leaves there: the header of the bank that counts, or both banks' (0),
+    /// its snapshot, or the first record that is none, has no room, or doesn't follow what is kept before it; the place is then that of its
     /// gate.
     Corrupt { at: usize },
-    /// Memory was refused.
+    /// Out of memory.
     Memory,
-    /// A call of the device failed. An image may hold what was read with the next epoch.
+    /// A call of the device failed. An image may hold what was read, with the next epoch.
     Fault,
-    /// The epoch is the last one.
+    /// The epoch is the last one: none follows.
     EpochsExhausted,
-    /// The record of an opening has no room, and none in the other bank behind a snapshot of what is held.
+    /// The record of an opening has no room, nor would it in the other bank after a snapshot of what is held.
     Full,
-    /// There is no place for a reader of what is published, or none at the front of the history. A store never says so: it is for whoever
-    /// shows what a store keeps.
+    /// There is no place for a reader of what is published, or none at the front of the history. A store never returns it: it is for
+    /// whoever shows what a store keeps.
     Places,
 }
 
@@ -71,9 +71,9 @@ impl From<LookFault> for OpenFault {
 /// Why a record wasn't added.
 #[derive(Clone, Copy, Debug)]
 pub(crate) enum AddFault {
-    /// Memory was refused. All is as before, and the device wasn't called.
+    /// Out of memory. All is as before, and the device wasn't called.
     Memory,
-    /// There is no room for it, here or behind a snapshot. All is as before, and the device wasn't called.
+    /// There is no room for it, here or after a snapshot. All is as before, and the device wasn't called.
     Full,
     /// A call of the device failed.
     Fault,

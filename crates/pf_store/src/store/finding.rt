@@ -14,8 +14,8 @@ use pf_snap::look;
 use std::alloc::Global;
 
 impl<D: Disk> Store<D> {
-    /// What a device holds, as it reads, in four moments of the device at most. It writes and syncs nothing. It is never `EpochsExhausted` or
-    /// `Full`.
+    /// What a device holds, as it reads, in at most four moments of the device. It writes and syncs nothing. The error is never
+    /// `EpochsExhausted` or `Full`.
     pub fn peek(alloc: Global, disk: &mut D) -> Result<Durable, OpenFault>
         requires few { D.fault_count disk.old < 2 ^ 63 }
         ensures held { IfOk result (λ d. (held : Holds (D.seen disk.old) d) × (generation_of (D.seen disk.old) d held < 2 ^ 63)) }

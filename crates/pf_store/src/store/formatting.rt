@@ -13,7 +13,7 @@ use std::alloc::Global;
 /// A snapshot of nothing in the epoch 0.
 const EMPTY_SNAPSHOT: [u8; EMPTY_LENGTH] = [0; EMPTY_LENGTH];
 
-/// Makes a device hold nothing but the epoch 0, whatever it held, in seven moments of the device at most. `Err`: the device is as before,
+/// Makes a device hold nothing but the epoch 0, whatever it held, in at most seven moments of the device. `Err`: the device is as before,
 /// or a call of it failed.
 pub fn format<D: Disk>(alloc: Global, disk: &mut D) -> Result<(), FormatFault>
     requires few { D.fault_count disk.old < 2 ^ 63 }
@@ -23,14 +23,14 @@ pub fn format<D: Disk>(alloc: Global, disk: &mut D) -> Result<(), FormatFault>
     ensures first { OnOk result ((c : List ℕ) → IsImage (D.seen disk.new) (D.unsynced disk.new) c
         → (held : Holds c (kept_nothing 0)) → generation_of c (kept_nothing 0) held ≡ 1) }
 
-    // What each of them holds leaves room for an opening.
+    // What each image holds leaves room for an opening.
     ensures roomy { OnOk result ((c : List ℕ) → IsImage (D.seen disk.new) (D.unsynced disk.new) c → LeavesRoom c) }
 
     ensures other { OnOk result ((c : List ℕ) → IsImage (D.seen disk.new) (D.unsynced disk.new) c
         → slice_index c (bank_size (length (D.seen disk.old))) ≢ OPEN_GATE) }
     ensures synced { OnOk result (IsSynced (D.unsynced disk.new)) }
 
-    // At each moment an image is as before but for the banks' gates, or both are closed, or it holds a bank of nothing.
+    // At each moment an image is as before except for the banks' gates, or both are closed, or it holds a bank of nothing.
     ensures any_moment { EachMoment D.moment D.left_since disk.old disk.new
         (IsOfFormat (D.seen disk.old) (D.unsynced disk.old) (replicate EMPTY_LENGTH 0)) }
 

@@ -22,13 +22,13 @@ use pf_snap::{Banks, NextBank};
 use std::alloc::Global;
 use std::marker::Model;
 
-/// A device that holds what is kept. It lives here, and `into_disk` hands it back. Contracts see it as a `PlainStore`.
+/// A device that holds what is kept. The store owns it, and `into_disk` gives it back. Contracts see a store as a `PlainStore`.
 #[derive(Drop)]
 pub struct Store<D: Disk> {
     banks: Banks<D>,
-    // where a switch makes the next bank: fresh pages for a snapshot cost as much as half of its bytes
+    // where a switch makes the next bank; its memory is kept, since fresh pages for a snapshot cost as much as half of its bytes
     next: NextBank,
-    // whether a call of the device has failed in a save
+    // whether a call of the device failed in a save
     halted: bool,
 }
 
@@ -44,9 +44,9 @@ impl<D: Disk> Model for Store<D> {
 }
 
 impl<D: Disk> Store<D> {
-    /// Whether changes that leave this find room as one group. They don't where the store is halted. It takes no memory.
+    /// Whether changes that leave `after` find room as one group. They don't if the store is halted. It takes no memory.
     ///
-    /// Of 1 to 64 changes that commands can want that is exactly whether their payload has room: it has bytes where it has room.
+    /// For 1 to 64 changes that commands can want that is exactly whether their payload has room: if it has room, it has bytes.
     pub fn has_room<C: AsChange>(&self, before: &Durable, changes: &[C], after: &Durable) -> bool
         ensures found { IsTrue result ↔ ((self.now.halted ≡ false)
             × FindsRoom self.now.size before.now after.now (map C.as_plain changes.now)) }
@@ -57,14 +57,13 @@ impl<D: Disk> Store<D> {
         !self.halted && find_room(before, changes, after, self.banks.size())
     }
 
-    /// Saves 1 to 64 changes in one record, in ten moments of the device at most. At `Ok` a crash keeps them all, and before it keeps all of
-    /// them or none.
+    /// Saves 1 to 64 changes in one record, in at most ten moments of the device. After `Ok` a crash keeps them all; before that it keeps
+    /// all of them or none.
     ///
-    /// The store stands for what was kept before, unless it is halted; each change fits what those before it leave, and `after` is what all
-    /// of them leave. Where their record has no room in the bank that counts, the other one is begun first, with a snapshot of what was kept
-    /// before. `Full` comes exactly where they have no bytes as one group, where a bank has no room for their record behind a snapshot of
-    /// what was kept before, or where one behind a snapshot of what is kept then has less than 64 bytes left. So `Memory` comes only where
-    /// they find room.
+    /// Unless it is halted, the store has to stand for `before`; each change has to fit what those before it leave, and `after` has to be
+    /// what all of them leave. If their record has no room in the bank that counts, the other one is begun first, with a snapshot of
+    /// `before`. `Full` comes exactly if they have no bytes as one group, if a bank has no room for their record after a snapshot of
+    /// `before`, or if a bank has fewer than 64 bytes left after a snapshot of `after`. So `Memory` comes only if they find room.
     pub fn save<C: AsChange>(
         &mut self,
         alloc: Global,
@@ -77,19 +76,19 @@ impl<D: Disk> Store<D> {
         requires leads { after.now ≡ left_by_all before.now (made_all (map C.as_plain changes.now)) }
         requires early { self.old.halted ≡ false → self.old.generation + 1 < 2 ^ 64 }
 
-        // At each moment an image holds what was kept before or what is kept after all of them.
+        // At each moment an image holds what was kept before all of them or what is kept after all of them.
         ensures any_moment { self.old.halted ≡ false
             → EachMoment D.moment D.left_since self.old.disk self.new.disk (HoldsEither before.now after.now) }
 
-        // It holds that by this generation, or the next one.
+        // It holds that by a generation no later than the next one.
         ensures generations { self.old.halted ≡ false
             → EachMoment D.moment D.left_since self.old.disk self.new.disk (IsNoLaterThan (self.old.generation + 1)) }
 
-        // Where what the device held leaves an opening room, so does what each of them holds.
+        // If what the device held left room for an opening, so does what each image holds.
         ensures roomy { self.old.halted ≡ false → LeavesRoom (D.seen self.old.disk)
             → EachMoment D.moment D.left_since self.old.disk self.new.disk LeavesRoom }
 
-        // At `Ok` each image holds what is kept after them, and the store stands for it.
+        // After `Ok` each image holds what is kept after them, and the store stands for it.
         ensures images { OnOk result ((c : List ℕ) → IsImage (D.seen self.new.disk) (D.unsynced self.new.disk) c → Holds c after.now) }
         ensures stands { OnOk result (Stands D.seen D.unsynced self.new after.now) }
         ensures goes_on { OnOk result (self.new.halted ≡ false) }
@@ -103,7 +102,7 @@ impl<D: Disk> Store<D> {
         ensures generation { self.new.generation ≤ self.old.generation + 1 }
         ensures generation_stays { self.old.generation ≤ self.new.generation }
 
-        // It switches where their record has no room in the bank that counts, and there alone.
+        // It switches exactly if their record has no room in the bank that counts.
         ensures here { OnOk result (payload_length (made_all (map C.as_plain changes.now)) + AROUND ≤ self.old.room
             → self.new.generation ≡ self.old.generation) }
         ensures there { OnOk result (self.old.room < payload_length (made_all (map C.as_plain changes.now)) + AROUND
@@ -135,8 +134,8 @@ impl<D: Disk> Store<D> {
         }
     }
 
-    /// Opens a device, whatever a crash or a fault made of it, in fifteen moments of the device at most. What was read gets the next epoch,
-    /// which is on the device before this returns: by a record more, behind a switch to the other bank where it has no room. `Err` hands the
+    /// Opens a device, whatever a crash or a fault left on it, in at most fifteen moments of the device. What was read gets the next epoch,
+    /// which is on the device before this returns: by one more record, after a switch to the other bank if it has no room. `Err` gives the
     /// device back.
     pub fn open(alloc: Global, disk: D) -> Result<(Durable, Store<D>), (OpenFault, D)>
         requires few { D.fault_count disk < 2 ^ 63 }
@@ -148,13 +147,13 @@ impl<D: Disk> Store<D> {
         ensures images { IfOk result (λ r. (c : List ℕ) → IsImage (D.seen r.1.disk) (D.unsynced r.1.disk) c → Holds c r.0) }
         ensures fresh { IfOk result (λ r. r.1.halted ≡ false) }
 
-        // It switches to the other bank exactly where its record has no room behind the others.
+        // It switches to the other bank exactly if its record has no room after the others.
         ensures here { IfOk result (λ r. (d : PlainDurable) (held : Holds (D.seen disk) d) → HasRoomHere (D.seen disk) d held
             → r.1.generation ≡ generation_of (D.seen disk) d held) }
         ensures there { IfOk result (λ r. (d : PlainDurable) (held : Holds (D.seen disk) d) → ¬ HasRoomHere (D.seen disk) d held
             → r.1.generation ≡ generation_of (D.seen disk) d held + 1) }
 
-        // By the generation that was found, which is below 2^63, or the next one.
+        // The generation is the one that was found, which is below 2^63, or the next one.
         ensures early { IfOk result (λ r. r.1.generation ≤ 2 ^ 63) }
         ensures generations { IfOk result (λ r. (c : List ℕ) → IsImage (D.seen r.1.disk) (D.unsynced r.1.disk) c
             → IsNoLaterThan r.1.generation c) }
@@ -163,7 +162,7 @@ impl<D: Disk> Store<D> {
         ensures room { IfOk result (λ r. (d : PlainDurable) → ¬ IsFull (D.seen disk) d) }
 
         // At each moment an image is one from the start, or holds what was read, its epoch perhaps one greater: by the generation that was
-        // found or the next one, and with room for another opening where there was room.
+        // found or the next one, and with room for another opening if there was room.
         ensures any_moment { IfOk result (λ r. EachMoment D.moment D.left_since disk r.1.disk (IsOfOpening (D.seen disk) (D.unsynced disk))) }
         ensures any_moment_err { IfErr result (λ e. EachMoment D.moment D.left_since disk e.1
             (IsOfOpening (D.seen disk) (D.unsynced disk))) }
@@ -195,7 +194,7 @@ impl<D: Disk> Store<D> {
         &self.banks.journal.disk
     }
 
-    /// The device as it stands.
+    /// Gives the device back, as it is.
     pub fn into_disk(self) -> D
         ensures { result ≡ self.disk }
     {
@@ -208,7 +207,7 @@ impl<D: Disk> Store<D> {
     }
 }
 
-// Gives what banks hold the next epoch, by a record more.
+// Gives what the banks hold the next epoch, by one more record.
 fn raise_on<D: Disk>(
     alloc: Global,
     banks: Banks<D>,

@@ -6,20 +6,20 @@ ghost use Rattle.pf_core.specs.{Durable.Changes.{PlainDurable, PlainChange, afte
 ghost use Rattle.pf_store.specs.declared.store.fault.{OpenFault.OpenFault, OpenFault.TheVariants.{Memory, Fault}};
 ghost use Rattle.pf_store.specs.{Groups.{can_be_wanted, is_group, made_all}, Lengths.payload_length, Rooms.group_fits, Stores.{FindsRoom, HasRoom, Holds, IsRoomy, left_by_all}, StoreFaults.SaysNone, Openings.{IsFull, IsUnopened, generation_of}};
 
-/// An image holds one state of what is kept at most.
+/// An image holds at most one state of what is kept.
 pub fn image_holds_one_state()
     ensures { (image : List ℕ) (d e : PlainDurable) → Holds image d → Holds image e → d ≡ e }
 {}
 
-/// What holds a state by a generation below 2^63 is never refused as one that holds none.
+/// An image that holds a state by a generation below 2^63 is never refused as one that holds none.
 pub fn held_state_is_found()
     ensures { (image : List ℕ) (fault : OpenFault) (d : PlainDurable) (held : Holds image d) → generation_of image d held < 2 ^ 63
         → IsUnopened fault image → ¬ SaysNone fault }
 {}
 
-/// Where the epoch isn't the last one, and an opening's record has room here or in the other bank, only want of memory or a fault of the
-/// device keeps a state from being opened that is held by a generation below 2^63. It has room where a bank has 64 bytes left behind a
-/// snapshot of that state, and the next epoch takes no more of them.
+/// If the epoch isn't the last one, and an opening's record has room here or in the other bank, a state that is held by a generation below
+/// 2^63 fails to open only when out of memory or by a fault of the device. There is room if a bank has 64 bytes left after a snapshot of
+/// that state, and a snapshot with the next epoch is no longer.
 pub fn state_with_room_is_refused_by_chance_alone()
     ensures chance { (image : List ℕ) (fault : OpenFault) (d : PlainDurable) (held : Holds image d) → generation_of image d held < 2 ^ 63
         → d.epoch < last_epoch → ¬ IsFull image d → IsUnopened fault image → (fault ≡ Memory) ⊎ (fault ≡ Fault) }
@@ -32,7 +32,7 @@ pub fn held_state_is_within_limits()
     ensures { (image : List ℕ) (d : PlainDurable) → Holds image d → IsWithin d }
 {}
 
-/// A group fits exactly where its payload has room.
+/// A group fits exactly if its payload has room.
 pub fn group_fits_where_its_record_does()
     ensures { (size : ℕ) (before next : PlainDurable) (es : List PlainChange)
         → (group_fits size before next es ≡ true) ↔ HasRoom size before next (payload_length (made_all es)) }
@@ -43,7 +43,7 @@ pub fn group_of_changes_leaves_what_they_do()
     ensures { (d : PlainDurable) (es : List PlainChange) → left_by_all d (made_all es) ≡ after d es }
 {}
 
-/// A group of changes that commands can want has bytes where banks of a size that a device may have have room for so many.
+/// A group of changes that commands can want has bytes if banks, of a size that a device may have, have room for a payload of its length.
 pub fn what_can_be_wanted_has_bytes()
     ensures { (size : ℕ) (before next : PlainDurable) (es : List PlainChange) → size < 2 ^ 32 → is_group es ≡ true → list_all can_be_wanted es ≡ true
         → HasRoom size before next (payload_length (made_all es)) → FindsRoom size before next es }

@@ -1,5 +1,5 @@
-//! How many bytes a snapshot of what is kept would have, and a change's payload. It looks at items and steps, and at no rule, entry or
-//! state, and takes no memory.
+//! How many bytes a snapshot of what is kept would have, and a group's payload. It looks at items and steps, at no rule, entry or state,
+//! and takes no memory. Each `behind_` function takes the bytes of something off a room: `None` if there are too few.
 ghost use Rattle.std.specs.Prelude.{◌≡◌, ◌↔◌, ◌+◌, ◌<◌, ◌≤◌, map, IsTrue, MatchOption};
 ghost use Rattle.pf_store.specs.declared.groups.change.Recorded.TheVariants as recorded;
 ghost use Rattle.pf_store.specs.{Groups.made_all, Lengths.{named_length, item_length, edit_length, step_length, total, snapshot_length, recorded_length, payload_length}, Stores.{FindsRoom}};
@@ -15,7 +15,7 @@ use pf_state::layouts::step_length;
 use pf_table::Entry;
 use pf_ticket::{Defined, DefinedTable};
 
-/// Whether changes that leave this find room in banks of so many bytes.
+/// Whether changes that leave `after` find room in banks of `size` bytes.
 pub(crate) fn find_room<C: AsChange>(
     before: &Durable,
     changes: &[C],
@@ -35,7 +35,7 @@ pub(crate) fn find_room<C: AsChange>(
         }
 }
 
-// The bytes that are left of so many behind a group's payload.
+// The bytes that a group's payload leaves of `room`.
 fn behind_group<C: AsChange>(changes: &[C], room: usize) -> Option<usize>
     ensures { MatchOption result (room < payload_length (made_all (map C.as_plain changes.now)))
         (λ left. room ≡ payload_length (made_all (map C.as_plain changes.now)) + left) }
@@ -54,7 +54,7 @@ fn behind_changes<C: AsChange>(changes: &[C], room: usize) -> Option<usize>
     Some(left)
 }
 
-/// Whether a bank of so many bytes has room for so many more behind a snapshot of what is kept.
+/// Whether a bank of `size` bytes has room for `more` bytes after a snapshot of what is kept.
 pub(crate) fn has_room(durable: &Durable, size: usize, more: usize) -> bool
     ensures { IsTrue result ↔ (BANK_HEADER + snapshot_length durable.now + more ≤ size) }
 {
@@ -64,7 +64,7 @@ pub(crate) fn has_room(durable: &Durable, size: usize, more: usize) -> bool
     }
 }
 
-// The bytes that such a bank has left behind the snapshot.
+// The bytes that a bank of `size` bytes has left after the snapshot.
 fn behind_snapshot(durable: &Durable, size: usize) -> Option<usize>
     ensures { MatchOption result (size < BANK_HEADER + snapshot_length durable.now)
         (λ room. size ≡ BANK_HEADER + snapshot_length durable.now + room) }
@@ -74,7 +74,7 @@ fn behind_snapshot(durable: &Durable, size: usize) -> Option<usize>
     Some(room as usize)
 }
 
-// The bytes that are left of so many behind a change, as a record has it.
+// The bytes that a change, as a record has it, leaves of `room`.
 #[tactic(auto, using(crate::proofs::Sized::items_long, crate::proofs::Sized::steps_long), unfolding(crate::specs::Groups::change_form, pf_state::specs::Layouts::States::name_form))]
 fn behind_change(change: &Change, room: usize) -> Option<usize>
     ensures { MatchOption result (room < recorded_length (recorded.Made change.now))
@@ -137,7 +137,7 @@ fn behind_named(tables: &Defined, room: usize) -> Option<usize>
     Some(left)
 }
 
-// Behind a path, a table's name, the entries' number and the entries.
+// What a path, a table's name, the entries' number and the entries leave.
 #[tactic(auto, using(crate::proofs::Sized::edit_long))]
 fn behind_edit(path: &Path, name: &TableName, entries: &[Entry], room: usize) -> Option<usize>
     ensures { MatchOption result (room < edit_length path.now name.now entries.now)

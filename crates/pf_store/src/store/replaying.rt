@@ -15,10 +15,10 @@ use pf_core::{ChangeRefusal, Durable};
 use pf_snap::{BANK_HEADER, Looked};
 use std::alloc::Global;
 
-/// Bytes in front of a record's payload: its gate and the length.
+/// Bytes before a record's payload: its gate and the length.
 const RECORD_FRONT: usize = 5;
 
-/// What is kept after all that a look found. `Err`: it is nothing that can be kept, or memory was refused.
+/// What the snapshot and the payloads that a look found make. `Err`: they make nothing that can be kept, or out of memory.
 pub(crate) fn replay(alloc: Global, looked: &Looked) -> Result<Durable, OpenFault>
     requires start { looked.now.start ≡ records_start looked.now.at looked.now.snapshot.items }
     requires gate { looked.now.gate ≡ looked.now.start + length (records (contents looked.now.payloads.items)) }
@@ -33,7 +33,7 @@ pub(crate) fn replay(alloc: Global, looked: &Looked) -> Result<Durable, OpenFaul
     }
 }
 
-// The same, where the snapshot is of this, and where the first record's gate and the one behind the records are at these places.
+// The same, given what the snapshot is of, and the places of the first record's gate and of the one after the records.
 fn replay_from(
     alloc: Global,
     first: Durable,
@@ -59,7 +59,7 @@ fn replay_from(
     }
 }
 
-// What the snapshot of the bank of this version at this place is of.
+// What the snapshot of the bank at place `bank`, of this version, is of.
 fn first_kept(
     alloc: Global,
     version: u8,
@@ -79,7 +79,7 @@ fn first_kept(
     }
 }
 
-// What is kept after the changes of all payloads of this version, whose first record has its gate at this place.
+// What is kept after the groups of all payloads, in this version. The first record's gate is at `start`.
 fn follow_all(
     alloc: Global,
     version: u8,
@@ -104,7 +104,7 @@ fn follow_all(
     Ok(durable)
 }
 
-// What is kept after the group that has this payload of this version. `NoForm`: no group that has it follows what is kept.
+// What is kept after the group that has this payload, in this version. `NoForm`: no group that has it follows what is kept.
 fn follow(
     alloc: Global,
     version: u8,
@@ -123,7 +123,7 @@ fn follow(
     }
 }
 
-// What is kept after all of them. `NoForm`: one of them doesn't follow.
+// What is kept after all of these. `NoForm`: one of them doesn't follow.
 fn left_by_all(alloc: Global, durable: Durable, records: &[Recorded]) -> Result<Durable, GroupFault>
     ensures left { IfOk result (λ d. FollowInTurn durable records.now × (d ≡ left_by_all durable records.now)) }
     ensures none { IfErr result (λ e. e ≡ group.NoForm → ¬ FollowInTurn durable records.now) }
@@ -138,7 +138,7 @@ fn left_by_all(alloc: Global, durable: Durable, records: &[Recorded]) -> Result<
     Ok(left)
 }
 
-// What is kept after it. `NoForm`: it doesn't follow.
+// What is kept after this one. `NoForm`: it doesn't follow.
 fn left_by(alloc: Global, durable: &Durable, next: &Recorded) -> Result<Durable, GroupFault>
     ensures left { IfOk result (λ d. Follows durable.now next.now × (d ≡ left_by durable.now next.now)) }
     ensures none { IfErr result (λ e. e ≡ group.NoForm → ¬ Follows durable.now next.now) }
@@ -160,7 +160,7 @@ fn left_by(alloc: Global, durable: &Durable, next: &Recorded) -> Result<Durable,
     }
 }
 
-// Memory alone is no reason that lies in the change.
+// `Memory` is the only refusal that isn't due to the change.
 fn unfit(refusal: ChangeRefusal) -> GroupFault
     ensures memory { (result ≡ group.Memory) ↔ (refusal ≡ refusing.Memory) }
     ensures other { result ≡ group.NoForm → refusal ≡ refusing.Memory → ⊥ }

@@ -33,7 +33,7 @@ or_or (Some x) t s c = refl
 or_or None true s c = refl
 or_or None false s c = refl
 
--- a network has the sign that it had, or else that of the first entry that names it
+-- a network keeps its sign, or else gets that of the first entry that names it
 pub sign_added : (es xs : List PlainEntry) (q : PlainNet) → sign_of q (added es xs) ≡ option_or (sign_of q es) (sign_of q xs)
 unfolding added
 sign_added es [] q = own (sign_of q es) where
@@ -50,7 +50,7 @@ sorted_added es (x ∷ xs) is = sorted_added (with_entry es x) xs (by (is_some (
   by true = is
   by false = is_sorted-put net_order net_total x.0 x.1 es is
 
--- two tables in order in which each network has the same sign are one
+-- two tables in order in which each network has the same sign are equal
 pub one_table : (es fs : List PlainEntry) → T (is_sorted net_order es) → T (is_sorted net_order fs) → ((q : PlainNet) → sign_of q es ≡ sign_of q fs) → es ≡ fs
 one_table es fs = same_entries net_order net_total net_same es fs
 
@@ -73,7 +73,7 @@ unfolding added
 added_all P es [] all more = all
 added_all P es (x ∷ xs) all more = added_all P (with_entry es x) xs (with_all P es x all more.0) more.1
 
--- ---- networks with one sign alone
+-- ---- lists in which no network has both signs
 
 abbrev pub Agree : List PlainEntry → Type 0
 Agree [] = Unit {0}
@@ -83,7 +83,7 @@ any_tied : (q p : PlainNet) (s : Bool) (es : List PlainEntry) → net_order q p 
 any_tied q p s [] tied = refl
 any_tied q p s (e ∷ es) tied = λ i. (is_eq (net_total.congr q p e.0 tied i) && beq s e.1) || any_tied q p s es tied i
 
--- such a list names an entry exactly where it is the sign that its network has
+-- such a list has an entry exactly if its network has that sign there
 pub any_is_sign : (es : List PlainEntry) → Agree es → (q : PlainNet) (s : Bool) → list_any (same_entry (q, s)) es ≡ is_sign s (sign_of q es)
 any_is_sign [] agree q s = refl
 any_is_sign (e ∷ es) agree q s = by (eq_by_cmp net_order q e.0) refl (any_is_sign es agree.1 q s) where
@@ -145,7 +145,7 @@ sorted_agree (e ∷ es) is = (none_opposite e es (left _ _ is), sorted_agree es 
 
 -- ---- deleting
 
--- a sign is taken away where the list names the network with it
+-- a sign is taken away if the list names the network with it
 abbrev pub sign_left : List PlainEntry → PlainNet → Option Bool → Option Bool
 sign_left xs q None = None
 sign_left xs q (Some s) = cond (list_any (same_entry (q, s)) xs) None (Some s)
@@ -190,7 +190,7 @@ left_twice x xs q (Some s) = by (same_entry (q, s) x) where
   by true = refl
   by false = refl
 
--- a network loses its sign where the list names it with that sign
+-- a network loses its sign if the list names it with that sign
 pub sign_deleted : (es xs : List PlainEntry) (q : PlainNet) → sign_of q (deleted es xs) ≡ sign_left xs q (sign_of q es)
 unfolding deleted
 sign_deleted es [] q = own (sign_of q es) where

@@ -1,4 +1,4 @@
--- Each entry can be written in bytes, and they tell it.
+-- Each entry can be written in bytes, from which it can be read.
 use Rattle.std.proofs.{Common.{◌≡◌, refl}}
 use Rattle.pf_addr.specs.declared.addr.Family.{Family, TheVariants.V4, TheVariants.V6}
 use Rattle.pf_addr.specs.{Address.IsNetwork, NetForms.family, Laws.NetForms.{family_fits, length_fits, address_fits, network_is, network_again}}

@@ -1,4 +1,4 @@
--- What follows from the definitions of tables, as law functions promise it.
+-- What follows from the definitions of tables; the contracts of law functions say that it holds.
 use Rattle.std.specs.{Prelude.{◌≡◌, ◌≢◌, ℕ, ◌+◌, ◌<◌, ◌≤◌, ◌↔◌, T, Bool, true, false, not, List, length, slice_get, take, filter, Some, None, All, Contains}, FinMap.is_sorted, List.list_any, Option.option_or}
 use Rattle.pf_addr.specs.declared.addr.Addr.{Addr}
 use Rattle.pf_addr.specs.Address.{PlainNet, contains, family_of, IsNetwork}
@@ -7,8 +7,8 @@ use Rattle.pf_addr.specs.NetOrder.{net_order}
 
 -- ---- which entry decides
 
--- what decides in a list in order, so one that has no network twice, is what the relation says, and there is none exactly where no entry
--- contains the address
+-- In a list in order, so without a network twice, what decides is what the relation says, and there is none exactly where no entry contains
+-- the address.
 pub record DecidesAbout (es : List PlainEntry) (a : Addr) : Type 0 where
   pub decides : (e : PlainEntry) → (deciding es a ≡ Some e) ↔ Decides es a e
   pub none : (deciding es a ≡ None) ↔ ((e : PlainEntry) → Contains es e → contains e.0 a ≡ false)
@@ -17,27 +17,27 @@ pub record DecidesAbout (es : List PlainEntry) (a : Addr) : Type 0 where
 abbrev pub TableDecides : Type 0
 TableDecides = (es : List PlainEntry) (a : Addr) → T (is_sorted net_order es) → DecidesAbout es a
 
--- a table matches an address exactly where an entry decides about it that isn't negated
+-- a table matches an address exactly where an entry that isn't negated decides about it
 abbrev pub TableMatches : Type 0
 TableMatches = (es : List PlainEntry) (a : Addr) → T (is_sorted net_order es) →
     (table_holds es a ≡ true) ↔ ((e : PlainEntry) × Decides es a e × (e.1 ≡ false))
 
--- an entry contains addresses of its own family alone
+-- an entry contains only addresses of its own family
 abbrev pub FamiliesApart : Type 0
 FamiliesApart = (e : PlainEntry) (a : Addr) → contains e.0 a ≡ true → e.0.family ≡ family_of a
 
--- two lists in order in which each network has the same sign are one
+-- two lists in order in which each network has the same sign are equal
 abbrev pub OneTable : Type 0
 OneTable = (es fs : List PlainEntry) → T (is_sorted net_order es) → T (is_sorted net_order fs) → ((q : PlainNet) → sign_of q es ≡ sign_of q fs) →
     es ≡ fs
 
 -- ---- what an edit leaves
 
--- adding gives a network that had no sign that of the first entry that names it; a sign that was there stays
+-- adding gives a network without a sign that of the first entry that names it; a sign that was there stays
 abbrev pub AddsWhatIsNamed : Type 0
 AddsWhatIsNamed = (es xs : List PlainEntry) (q : PlainNet) → sign_of q (added es xs) ≡ option_or (sign_of q es) (sign_of q xs)
 
--- deleting takes a network's sign away where the list names the network with it
+-- deleting takes away a network's sign if the list names the network with it
 abbrev pub DeletesWhatIsNamed : Type 0
 DeletesWhatIsNamed = (es xs : List PlainEntry) (q : PlainNet) → sign_of q (deleted es xs) ≡ sign_left xs q (sign_of q es)
 
@@ -50,7 +50,7 @@ abbrev pub AllElseStays : Type 0
 AllElseStays = (es xs : List PlainEntry) (q : PlainNet) → sign_of q xs ≡ None →
     (sign_of q (added es xs) ≡ sign_of q es) × (sign_of q (deleted es xs) ≡ sign_of q es)
 
--- a table stays one, but for the number of its entries
+-- a table stays one, if it has few enough entries
 pub record LeavesTables (es xs : List PlainEntry) : Type 0 where
   pub added : All (λ x. IsNetwork x.0) xs → length (added es xs) ≤ TABLE_LIMIT → IsTable (added es xs)
   pub deleted : IsTable (deleted es xs)
@@ -63,8 +63,8 @@ StaysTable = (es xs : List PlainEntry) → IsTable es → LeavesTables es xs
 abbrev pub OneAnswerEach : Type 0
 OneAnswerEach = (es xs : List PlainEntry) → (length (additions es xs) ≡ length xs) × (length (deletions es xs) ≡ length xs)
 
--- The answer to the entry at a place goes by the sign that its network has in the table before the edit, and by whether an entry
--- before it in the list names its network.
+-- The answer for the entry at a place depends on the sign of its network in the table before the edit, and on whether an earlier entry of
+-- the list names its network.
 pub record AnswersEntry (es xs : List PlainEntry) (i : ℕ) (x : PlainEntry) : Type 0 where
   pub added : sign_of x.0 es ≡ None → sign_of x.0 (take i xs) ≡ None → slice_get (additions es xs) i ≡ Some Added
   pub added_before : sign_of x.0 es ≡ None → sign_of x.0 (take i xs) ≢ None → slice_get (additions es xs) i ≡ Some Same
@@ -104,9 +104,9 @@ pub record AnswersRepeats (es : List PlainEntry) (x : PlainEntry) : Type 0 where
 abbrev pub RepeatsChangeNothing : Type 0
 RepeatsChangeNothing = (es : List PlainEntry) (x : PlainEntry) → AnswersRepeats es x
 
--- ---- when it is refused for its list
+-- ---- when an edit is refused for its list
 
--- the network of the entry at a place stood before it with the other sign
+-- whether the network of the entry at a place came before it with the other sign
 abbrev pub Conflicts : List PlainEntry → ℕ → Bool → Type 0
 Conflicts xs i answer = (x : PlainEntry) → slice_get xs i ≡ Some x → list_any (is_opposite x) (take i xs) ≡ answer
 

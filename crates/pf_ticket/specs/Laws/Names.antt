@@ -1,4 +1,4 @@
--- Two names of one ruleset are alike, and one.
+-- Whether two names are of one ruleset is an equivalence, and such names are equal.
 use Rattle.std.specs.{Prelude.{◌≡◌, ℕ, true, List}, Cmp.IsEquivalence}
 use Rattle.std.proofs.{Common.{refl, ap, ◌∙◌}, lemmas.Cmp.{eq_by_cmp_equiv, nat_list_cmp_total, and_equiv, on_equiv}, lemmas.Bool.and_parts}
 use Rattle.pf_ticket.specs.{declared.{name.RulesetKind.RulesetKind, name.RulesetKind.TheVariants.Filter, name.RulesetKind.TheVariants.Table, name.RulesetName.RulesetName}, Names.{filter_at, table_ruleset_at, same_kind, same_name}}
@@ -30,7 +30,7 @@ kinds_alike = record { refl = kind-refl; symm = kind-symm; congr = kind-congr }
 pub names_alike : IsEquivalence same_name
 names_alike = and_equiv (on_equiv (λ (n : RulesetName). n.kind) kinds_alike) (on_equiv (λ (n : RulesetName). n.path) paths_alike)
 
--- and one
+-- such names are equal
 kind_is : (a b : RulesetKind) → same_kind a b ≡ true → a ≡ b
 kind_is Filter Filter h = refl
 kind_is Filter Table h = absurd (cc (h))
@@ -43,7 +43,7 @@ name_is a b h =
     let each : (same_kind a.kind b.kind ≡ true) × (same_path a.path b.path ≡ true) = and_parts (same_kind a.kind b.kind) (same_path a.path b.path) h in
     ap (λ (k : RulesetKind). named k a.path) (kind_is a.kind b.kind each.0) ∙ ap (λ (p : List ℕ). named b.kind p) (same_path_is a.path b.path each.1)
 
--- a name is its kind's at its path
+-- a name is that of its kind at its path
 abbrev named_as : RulesetKind → List ℕ → RulesetName
 named_as k p = record { kind = k; path = p }
 

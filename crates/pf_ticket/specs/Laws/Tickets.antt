@@ -1,4 +1,4 @@
--- What follows from the definitions, as law functions promise it.
+-- What follows from the definitions; the contracts of law functions say that it holds.
 use Rattle.std.specs.{Prelude.{◌≡◌, T, ℕ, ◌+◌, ◌≤◌, ◌&&◌, Bool, true, false, cond, List, [], ◌∷◌, ◌++◌, length, map, flat_map, is_some, Some, None, Ok}, FinMap.{find, is_sorted}, List.{AllByRecursion, list_any, slice_get, last_or}}
 use Rattle.pf_addr.specs.Path.Names.{name_order, same_name as same_table}
 use Rattle.pf_table.specs.{Edits.replaced, Entries.PlainEntry, Tables.AreEntries}
@@ -8,7 +8,7 @@ use Rattle.pf_ticket.specs.{declared.{entry.RulesetTicket.RulesetTicket, limits.
 
 -- ---- which ticket is valid, and what is offered with it
 
--- whether a mention touches a ruleset whose valid ticket is this one
+-- whether a mention changes which ticket is valid for a ruleset whose valid ticket is this one
 abbrev pub touches : RulesetName → Ticket → Mention → Bool
 touches name t (gave n) = same_name n name
 touches name t (added n u r) = false
@@ -20,7 +20,7 @@ abbrev pub AreQuiet : RulesetName → Ticket → List Mention → Type 0
 AreQuiet name t [] = Unit {0}
 AreQuiet name t (m ∷ ms) = (touches name t m ≡ false) × AreQuiet name t ms
 
--- of the mentions since this, the latest that touched a ruleset is a begin's, which gave it this ticket
+-- of the mentions from `first` on, the latest that touched a ruleset is a begin's, which gave it this ticket
 pub record IsGivenLast (first : PlainTickets) (ms : List Mention) (name : RulesetName) (t : Ticket) : Type 0 where
   pub before : List Mention
   pub given : RulesetName
@@ -30,7 +30,7 @@ pub record IsGivenLast (first : PlainTickets) (ms : List Mention) (name : Rulese
   pub ticket : t ≡ next_ticket (after first before)
   pub quiet : AreQuiet name t behind
 
--- that ticket is the valid one, and no other
+-- exactly that ticket is the valid one
 abbrev pub ValidIsGivenLast : Type 0
 ValidIsGivenLast = (epoch : ℕ) (ms : List Mention) (name : RulesetName) (t : Ticket) → valid_ticket (opened epoch ms) name ≡ Some t →
     IsGivenLast (fresh epoch) ms name t
@@ -44,7 +44,7 @@ abbrev pub StartsWithNothing : Type 0
 StartsWithNothing = (t : PlainTickets) (names : List RulesetName) (name : RulesetName) → is_named names name ≡ true →
     content (after t (gives names)) name ≡ nothing_for name.kind
 
--- the rule that a mention adds for a ruleset with a ticket
+-- the rules that a mention adds for a ruleset with a ticket: one, or none
 abbrev pub rules_added : RulesetName → Ticket → Mention → List PlainRule
 rules_added name t (added n u r) = cond (same_name n name && same_ticket t u) (r ∷ []) []
 rules_added name t m = []
@@ -54,19 +54,19 @@ abbrev pub OffersTheAdded : Type 0
 OffersTheAdded = (epoch : ℕ) (ms : List Mention) (path : List ℕ) (t : Ticket) → (given : IsGivenLast (fresh epoch) ms (filter_at path) t) →
     rules_in (content (opened epoch ms) (filter_at path)) ≡ flat_map (rules_added (filter_at path) t) given.behind
 
--- the table that a mention defines under a name, for a ruleset with a ticket
+-- the tables that a mention defines under a name, for a ruleset with a ticket: one, or none
 abbrev pub tables_defined : RulesetName → Ticket → List ℕ → Mention → List (List PlainEntry)
 tables_defined name t table (defined n u other xs) =
     cond (same_name n name && same_ticket t u && same_table table other) (replaced xs ∷ []) []
 tables_defined name t table m = []
 
--- under each name there is the table of the last of these mentions that defines one, and none where none does; and the tables stand
--- in the order of their names, each name once
+-- under each name there is the table of the last of these mentions that defines one, and none if none does; the tables are in the order of
+-- their names, each name once
 pub record AreDefined (name : RulesetName) (t : Ticket) (ms : List Mention) (tables : List PlainDefinedTable) : Type 0 where
   pub last : (table : List ℕ) → find name_order table tables ≡ last_or None (flat_map (tables_defined name t table) ms)
   pub order : T (is_sorted name_order tables)
 
--- under each name what the last accepted define with the valid ticket handed in is offered, and no other table is
+-- under each name the table of the last accepted define with the valid ticket is offered, and no other table is
 abbrev pub OffersTheDefined : Type 0
 OffersTheDefined = (epoch : ℕ) (ms : List Mention) (path : List ℕ) (t : Ticket) →
     (given : IsGivenLast (fresh epoch) ms (table_ruleset_at path) t) →
@@ -97,14 +97,14 @@ RollbackDropsExactly = (t : PlainTickets) (entries : List RulesetTicket) (name :
 abbrev pub Agrees : PlainTickets → List Mention → Type 0
 Agrees t ms = t ≡ opened t.epoch ms
 
--- they agree with no mention at first, and go on so with each list of mentions
+-- they agree with no mentions at first, and stay so with each list of mentions
 pub record GoesOnAgreeing : Type 0 where
   pub first : (epoch : ℕ) → Agrees (fresh epoch) []
   pub on : (t : PlainTickets) (ms more : List Mention) → Agrees t ms → Agrees (after t more) (ms ++ more)
 
 -- ---- how many tickets and rulesets
 
--- each ruleset with a valid ticket stands once among the open ones, and no other does
+-- each ruleset with a valid ticket is among the open ones once, and no other is
 pub record AreCounted (t : PlainTickets) : Type 0 where
   pub once : IsDistinct (open_rulesets t)
   pub valid : (name : RulesetName) → is_named (open_rulesets t) name ≡ is_some (valid_ticket t name)
@@ -112,27 +112,27 @@ pub record AreCounted (t : PlainTickets) : Type 0 where
 abbrev pub CountsTheOpen : Type 0
 CountsTheOpen = (epoch : ℕ) (ms : List Mention) → AreCounted (opened epoch ms)
 
--- no ticket stands twice
+-- no ticket is there twice
 abbrev pub AreOnce : List Ticket → Type 0
 AreOnce [] = Unit {0}
 AreOnce (t ∷ ts) = (list_any (λ u. same_ticket u t) ts ≡ false) × AreOnce ts
 
--- tickets that are numbered are given once
+-- numbered tickets are given once each
 abbrev pub GivesEachOnce : Type 0
 GivesEachOnce = (epoch count number : ℕ) → AreOnce (tickets_from epoch count number)
 
--- a begin tells at each ruleset's place the ticket that is then valid for it, where it isn't named again behind
+-- for each ruleset that a begin names, its reply has at that place the ticket that is then valid, unless the ruleset is named again later
 abbrev pub TellsWhatIsGiven : Type 0
 TellsWhatIsGiven = (t : PlainTickets) (range : TicketRange) (before : List RulesetName) (name : RulesetName) (behind : List RulesetName) →
     begin_reply t (before ++ name ∷ behind) ≡ Ok range → is_named behind name ≡ false
     → valid_ticket (after t (gives (before ++ name ∷ behind))) name ≡ slice_get (tickets_of range) (length before)
 
--- so many tickets were given
+-- this many tickets were given
 pub record AreGiven (number : ℕ) (t new : PlainTickets) : Type 0 where
   pub epoch : new.epoch ≡ t.epoch
   pub next : new.next ≡ t.next + number
 
--- a begin gives as many as it names rulesets, and tells them; no other step gives one
+-- a begin gives as many as it names rulesets, and its reply has them; no other step gives one
 pub record BeginsGive : Type 0 where
   pub told : (t : PlainTickets) (names : List RulesetName) (range : TicketRange) → begin_reply t names ≡ Ok range →
       tickets_of range ≡ tickets_from t.epoch t.next (length names)
@@ -144,14 +144,14 @@ pub record BeginsGive : Type 0 where
 
 -- ---- the limits
 
--- so many rules, tables, and entries of each table at most, no table's name and no network of a table twice
+-- at most this many rules, tables, and entries of each table, with no table's name and no network of a table twice
 pub record IsFew (o : Offered) : Type 0 where
   pub rules : length (rules_in o) ≤ RULE_LIMIT
   pub tables : length (tables_in o) ≤ OFFERED_TABLE_LIMIT
   pub entries : AllByRecursion (λ n. AreEntries n.1) (tables_in o)
   pub order : T (is_sorted name_order (tables_in o))
 
--- as many rulesets of both kinds at most as there may be, and as much offered for each
+-- at most as many rulesets of both kinds as there may be, and at most as much offered for each
 pub record IsWithin (t : PlainTickets) : Type 0 where
   pub given : t.next ≤ LAST_COUNT + 1
   pub opened : length t.offers ≤ RULESET_LIMIT
@@ -185,10 +185,10 @@ pub record IsFirstAgain (names : List RulesetName) (place : ℕ) : Type 0 where
   pub again : is_named before name ≡ true
   pub once : IsDistinct before
 
--- where a ruleset is named twice, that place is the first at which one is named again
+-- if a ruleset is named twice, the answer is the first place at which one is named again
 abbrev pub TwiceIsFirstAgain : Type 0
 TwiceIsFirstAgain = (entries : List RulesetTicket) (place : ℕ) → twice_in entries ≡ Some place → IsFirstAgain (names_of entries) place
 
--- and otherwise each ruleset is named once
+-- else each ruleset is named once
 abbrev pub OtherwiseOnce : Type 0
 OtherwiseOnce = (entries : List RulesetTicket) → twice_in entries ≡ None → IsDistinct (names_of entries)

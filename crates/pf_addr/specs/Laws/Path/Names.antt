@@ -1,4 +1,4 @@
--- What follows from the definitions of names, as law functions promise it.
+-- What follows from the definitions of names, as laws in contracts.
 use Rattle.std.specs.Prelude.{◌≡◌, ℕ, List, Ok}
 use Rattle.pf_addr.specs.Path.Names.{IsName, name_of}
 use Rattle.pf_form.specs.Form.Words.{Word}

@@ -1,4 +1,4 @@
--- What follows from the definitions of paths, as law functions promise it.
+-- What follows from the definitions of paths, as laws in contracts.
 use Rattle.std.specs.Prelude.{◌≡◌, ℕ, true, List, Ok}
 use Rattle.pf_addr.specs.Path.{Paths.{path_of, path_text, is_path, same_path}, PathGrammar.SpellsPath}
 use Rattle.pf_form.specs.Form.Words.{Word}

@@ -1,4 +1,4 @@
--- What follows from the definitions of references, as law functions promise it.
+-- What follows from the definitions of references, as laws in contracts.
 use Rattle.std.specs.Prelude.{◌≡◌, Ok}
 use Rattle.pf_addr.specs.Path.{References.{PlainReference, reference_of}, ReferenceGrammar.SpellsReference}
 use Rattle.pf_form.specs.Form.Words.{Word}

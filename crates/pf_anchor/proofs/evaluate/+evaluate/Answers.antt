@@ -11,7 +11,7 @@ use Rattle.pf_anchor.proofs.Blocks.{block_goes_on, block_ends, rule_ends, none_s
 use Rattle.pf_anchor.proofs.evaluate.+evaluate.Goals.{evaluate-then-stopping-eq0, evaluate-else-stopping-eq0+in-Open, each_match-then-is_set+in-Open, each_match-else-is_set}
 use Rattle.pf_anchor.proofs.evaluate.+evaluate.Goals as goal
 
--- the blocks that a step passes over
+-- the blocks that a step skips
 passes : (rulesets : List PlainPlaced) (tables : List PlainPlacedTable) (packet : PlainPacket) (placed : PlainPlaced) (last : Option PlainMatch) (from to : ℕ) → from ≤ to → NoneBetween (asked placed.1 packet) from to →
     and_then (Open last) (rules_at_path (evaluation rulesets (matching tables packet)) rulesets (matching tables packet) placed.0 (8 * from) (drop (8 * from) placed.1))
     ≡ and_then (Open last) (rules_at_path (evaluation rulesets (matching tables packet)) rulesets (matching tables packet) placed.0 (8 * to) (drop (8 * to) placed.1))

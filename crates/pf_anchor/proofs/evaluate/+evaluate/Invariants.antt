@@ -23,7 +23,7 @@ decreases-evaluate_targets l = 4 * (DEPTH_LIMIT - depth l.path.now)
 abbrev pub decreases-evaluate_children : goal.decreases-evaluate_children
 decreases-evaluate_children l = 4 * (DEPTH_LIMIT - depth l.path.now) + 1
 
--- what the rules left give comes after the last match so far
+-- what the remaining rules give comes after the last match so far
 abbrev pub invariant-evaluate-loop-block : goal.invariant-evaluate-loop-block
 invariant-evaluate-loop-block l =
     evaluation l.config.rulesets (matching l.config.tables l.packet) l.placed
@@ -37,7 +37,7 @@ invariant-each_match-loop-lane l =
     rules_at_path (evaluation l.config.rulesets (matching l.config.tables l.packet)) l.config.rulesets (matching l.config.tables l.packet) l.placed.0 (8 * l.block) (eight_from (8 * l.block) l.placed.1)
     ≡ and_then (Open l.last) (rules_give (λ n r. effected (evaluation l.config.rulesets (matching l.config.tables l.packet)) l.config.rulesets l.placed.0 n r.effect) (matching l.config.tables l.packet l.placed.0) (8 * l.block + l.lane) (drop l.lane (eight_from (8 * l.block) l.placed.1)))
 
--- and so does what the rulesets left give
+-- so does what the remaining rulesets give
 abbrev pub invariant-evaluate_children-loop-placed : goal.invariant-evaluate_children-loop-placed
 invariant-evaluate_children-loop-placed l =
     in_turn (evaluation l.config.rulesets (matching l.config.tables l.packet)) (filter (λ e. is_child l.path e.0) l.config.rulesets)

@@ -5,7 +5,7 @@ use Rattle.pf_store.specs.{Groups.{can_be_wanted, made_all}, Stores.FollowInTurn
 use Rattle.pf_book.specs.Courses.{IsCalm, ready_of}
 use Rattle.pf_book.proofs.course.course_of.Given as goal
 
--- what the commands so far came to, with what those that are left are due behind them, is what all are due
+-- what the commands so far came to, followed by what is due to those that are left, is what is due to all
 abbrev pub invariant-loop-command : goal.invariant-loop-command
 invariant-loop-command l = record {
   core : l.core ≡ l.fn.core;

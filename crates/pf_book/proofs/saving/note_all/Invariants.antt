@@ -3,7 +3,7 @@ use Rattle.std.specs.Arc.{arc_value}
 use Rattle.std.specs.Vec.Iter.{into_iter_items, into_iter_len}
 use Rattle.pf_book.proofs.saving.note_all.Given as goal
 
--- what was noted so far, and what is left of the changes
+-- what was noted so far, and the changes that are left
 abbrev pub invariant-loop-change : goal.invariant-loop-change
 invariant-loop-change g l = record {
   all : l.yielded ++ into_iter_items l.change-iterator ≡ into_iter_items l.initial.change-iterator;

@@ -1,4 +1,4 @@
--- The words that the two ends are written as spell them, and their text, part by part.
+-- The words written for the two ends spell them, and their text, part by part.
 use Rattle.std.proofs.{Common.{◌≡◌, ℕ, List, [], ◌∷◌, ◌++◌, Some, None, inl, inr, refl, ap, ◌∙◌}, lemmas.List.Folds.list_all-append}
 use Rattle.std.specs.Prelude.{codes}
 use Rattle.pf_rule.specs.{Value.Ports.port_words, Laws.Value.Ports.port_written, Value.Spacing.{is_word, spaced, spaced-append}, Value.Written.{Written, both}, Host.Hosts.host_words, Laws.Host.Hosts.host_written, Host.Ends.{End, IsEnd, end, destination, ends, end_words, from_to_words, ends_words}}

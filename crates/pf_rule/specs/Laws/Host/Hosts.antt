@@ -1,4 +1,4 @@
--- A host's word is read exactly where it spells a host, and the words that a host is written as spell it.
+-- A host's word is read exactly where it spells a host, and the words written for a host spell it.
 use Rattle.std.proofs.{Common.{◌≡◌, ℕ, ◌==◌, Bool, true, false, [], ◌∷◌, ◌++◌, length, drop, Option, Some, None, Result, Ok, Err, inl, inr, refl, sym, ap, ◌∙◌, subst, arith}, lemmas.Bool.lt-ltb, lemmas.List.Elements.All-head, lemmas.List.Folds.list_all-append, lemmas.List.Sums.list_all-from_AllPass}
 use Rattle.std.specs.{Prelude.{codes, nat_lt, if◌then◌else◌}, List.slice_index_or, Option.option_and_then}
 use Rattle.pf_addr.specs.{Address.{PlainNet, IsNetwork}, Grammar.SpellsNet, Reading.net_at, Laws.{Reading.{net_found, net_only, net_without}, Places.without, Spelling.{IsNetByte, net_text_spells, net_text_is_word}}, Spelling.net_text, Path.{Names.{IsTableName, table_name_of}, References.{behind, before}}}
@@ -28,7 +28,7 @@ net_given (Err f) n e = absurd cc
 net_found_of : (w : Word) (n : PlainNet) → net_of w ≡ Ok n → SpellsNet w n
 net_found_of w n e = net_found w n (net_given (net_at w) n e)
 
--- no network's text begins so
+-- no network's text begins with "!" or "<"
 net_without_front : (b : ℕ) (w : Word) (n : PlainNet) → without b w → begins_with (b ∷ []) w ≡ false
 net_without_front b [] n all = refl
 net_without_front b (c ∷ cs) n all = let other : (c == b) ≡ false = All-head (λ c. (c == b) ≡ false) c cs all in rw other refl
@@ -43,7 +43,7 @@ net_unbracketed w n is =
 
 -- ---- without its mark
 
--- the host is negated as was said, and the word spells it
+-- the host is negated as given, and the word spells it
 abbrev pub Unmarked : Bool → Word → Host → Type 0
 Unmarked negated w h = (is_negated h ≡ negated) × SpellsUnmarked w h
 

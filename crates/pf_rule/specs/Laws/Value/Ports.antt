@@ -1,4 +1,4 @@
--- The words that a port test is written as spell it.
+-- The words written for a port test spell it.
 use Rattle.std.proofs.{Common.{◌≡◌, ℕ, ◌<◌, true, List, [], ◌∷◌, ◌++◌, length, decimal, Option, Some, None, Ok, inl, inr, refl, arith}, lemmas.Bool.{and_parts, lt-ltb}, lemmas.Fmt.{decimal_is_IsNumeral, length-decimal-le}, lemmas.List.length-append, lemmas.List.Folds.list_all-append}
 use Rattle.std.specs.{Prelude.{IfSome, nat_lt}, List.list_all}
 use Rattle.pf_form.specs.{Form.Words.Word, Form.Forms.Spells, Laws.Form.Numbers.number_only}

@@ -8,7 +8,7 @@ use Rattle.pf_rule.specs.declared.value.protocol.TheConstants.Protocol as protoc
 use Rattle.pf_rule.specs.declared.{value.ports.Comparison.Comparison, value.ports.Comparison.TheVariants.{Equal, NotEqual, Less, AtMost, Greater, AtLeast}, value.ports.PortRange.TheVariants.{Including, Excluding, Except}, value.ports.PortTest.TheVariants.{Compared, Ranged}, value.port_words.PortStart.PortStart, value.port_words.PortStart.TheVariants.{Test, Number}}
 use Rattle.pf_rule.specs.{Value.Values.{IsProtocol, protocol_names, IsNamed, SpellsProtocol, number_named, protocol_numbered, named_or, protocol_of, begins_with, port_numbered, port_of}, Value.Ports.{operator_word, IsPort, SpellsStart, split_by, operators, split_operator, joined, number_or, range_of, is_colon, start_at, start_of}}
 
--- a word that begins so, taken apart
+-- a word with this front, taken apart
 pub front_is : (front w : Word) → begins_with front w ≡ true → w ≡ front ++ drop (length front) w
 front_is front w e = sym (take-append-drop (length front) w) ∙ ap (λ (f : Word). f ++ drop (length front) w) (word_is (take (length front) w) front e)
 
@@ -39,7 +39,7 @@ protocol_found w n e = by (number_named protocol_names w) refl e where
   by (Some m) h e = let is : m ≡ n = cc in inl (name_found protocol_names w n (h ∙ ap (λ (k : ℕ). Some k) is))
   by None h e = inr (numbered_found w n e)
 
--- a number is no name
+-- a number isn't a name
 unnamed : (w : Word) (n : ℕ) → IsNumber 3 w n → number_named protocol_names w ≡ None
 unnamed [] n is = refl
 unnamed (d ∷ ds) n is =
@@ -141,7 +141,7 @@ operator_alone AtMost digits = no_number 60 (61 ∷ digits) refl
 operator_alone Greater digits = no_number 62 digits refl
 operator_alone AtLeast digits = no_number 62 (61 ∷ digits) refl
 
--- a digit is no "="
+-- a digit isn't "="
 first_differs : (d : ℕ) (ds : Word) (n : ℕ) → IsPort (d ∷ ds) n → (d == 61) ≡ false
 first_differs d ds n is = let digit = digit_at (d ∷ ds) 0 is.0.digits.1 (omega arith) in grind (arith, nat_tests)
 

@@ -1,4 +1,4 @@
--- The words that a test of the direction, the interface, the family or the protocol is written as spell it.
+-- The words written for a test of the direction, the interface, the family or the protocol spell it.
 use Rattle.std.proofs.{Common.{◌≡◌, ℕ, ◌<◌, true, false, [], ◌∷◌, length, decimal, Option, Some, None, Ok, inl, inr, refl, sym, ap, ◌∙◌, arith}, lemmas.Bool.lt-ltb, lemmas.Bool.Decides.nat_tests, lemmas.Slice.Eq.bytes_eq-Decides}
 use Rattle.std.specs.{Prelude.{codes, IfSome}, Str.bytes_eq}
 use Rattle.pf_addr.specs.Laws.Spelling.{IsNumber-decimal}

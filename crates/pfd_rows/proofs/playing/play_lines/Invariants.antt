@@ -1,7 +1,7 @@
 use Rattle.pf_book.specs.Books.{setting_of}
 use Rattle.pfd_rows.proofs.playing.play_lines.Given as goal
 
--- the opening is named by what it gave, its history, and what it keeps within
+-- the opening is named by what it gave, its history, and its limits
 abbrev pub ghosts-play_in_turn-J-Naming : goal.ghosts-play_in_turn-J-Naming
 ghosts-play_in_turn-J-Naming g a = record { base = a.opening.given; history = a.opening.history }
 

@@ -2,7 +2,7 @@ use Rattle.pf_book.specs.Books.{setting_of}
 use Rattle.pfd_words.specs.declared.words.TheConstants.{HISTORY_LIMIT}
 use Rattle.pfd_tests.proofs.tables.lists_have_any_number_of_entries.Given as goal
 
--- the opening is named by what it gave, its history, and what it keeps within
+-- the opening is named by what it gave, its history, and its limits
 abbrev pub ghosts-play-J-Naming : goal.ghosts-play-J-Naming
 ghosts-play-J-Naming g a = record { base = a.opening.given; history = a.opening.history }
 

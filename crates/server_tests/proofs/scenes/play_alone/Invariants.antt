@@ -2,7 +2,7 @@ use Rattle.pf_book.specs.Books.{setting_of}
 use Rattle.pfd_words.specs.declared.words.TheConstants.{HISTORY_LIMIT}
 use Rattle.server_tests.proofs.scenes.play_alone.Given as goal
 
--- the opening is named by what it gave, its history, and what it keeps within
+-- the opening is named by what it gave, its history, and its limits
 abbrev pub ghosts-play-J-Naming : goal.ghosts-play-J-Naming
 ghosts-play-J-Naming g a = record { base = a.opening.given; history = a.opening.history }
 

@@ -19,7 +19,7 @@ returns-then-may_change-clause-any_moment g c =
     subst (λ (l : PlainBook g.row.D.Denot). (h : CurrentOpening) → IsAt h (world_book l) → EachMoment g.D.Disk.moment g.D.Disk.left_since l.disk l.disk (HoldsLeft h (calling k))) c.self.view_is
     (λ h at. still-left g.D.Disk.seen g.D.Disk.unsynced g.D.Disk.moment g.D.Disk.left_since h _ (calling k) c.self.inside.store.disk (g.met.D.Disk.only_now c.self.inside.store.disk) c.self.invariant.images at)
 
--- what a step was answered leaves the transactions within their limits
+-- the step's result leaves the transactions within their limits
 pub invariant_of-self : goal.invariant_of-self
 invariant_of-self g c =
     let s = c.self.inside in

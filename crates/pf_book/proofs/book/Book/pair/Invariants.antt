@@ -3,7 +3,7 @@ use Rattle.std.specs.{Arc.arc_value, List.AllByRecursion, Vec.Iter.{into_iter_it
 use Rattle.pf_book.specs.{Books.{world_book, log_in}, Groups.{kept_count, paired}, Receipts.ShownFits}
 use Rattle.pf_book.proofs.book.Book.pair.Given as goal
 
--- the answers so far, with those to the replies that are left, are the answers to all
+-- the answers so far, with those to the replies that are left, are all the answers
 abbrev pub invariant-loop-reply : goal.invariant-loop-reply
 invariant-loop-reply g l = record {
   all : l.yielded ++ into_iter_items l.reply-iterator ≡ into_iter_items l.initial.reply-iterator;

@@ -186,7 +186,7 @@ returns-in-Err-Memory-clause-err g c =
       c.requires.room,
     )
 
--- where it finds room it isn't full
+-- if the changes find room the store isn't full
 pub unreachable-requires : goal.unreachable-requires
 unreachable-requires g c =
     let s = c.self.inside in
@@ -299,7 +299,7 @@ returns-in-Err-Fault-clause-openable g c =
     saved-openable g.D.Disk.seen g.D.Disk.unsynced g.D.Disk.moment g.D.Disk.left_since _ _ _ c.self.view_is f.generation_stays f.generation f.size (f.generations going)
     (λ room. f.roomy going (i.roomy room (g.D.Disk.seen disk) (itself (g.D.Disk.seen disk) (g.D.Disk.unsynced disk))))
 
--- it isn't halted where nothing is pending
+-- the store isn't halted if nothing is pending
 pub returns-clause-err : goal.returns-clause-err
 returns-clause-err g c =
     let s = c.self.inside in

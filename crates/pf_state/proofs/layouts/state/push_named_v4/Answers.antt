@@ -9,7 +9,7 @@ mapped : {A E P Q : Type 0} (r : Result A E) → (P → Q) → OnOk r P → OnOk
 mapped (Ok x) f p = f p
 mapped (Err e) f p = tt
 
--- the bytes of all, one by one, behind these
+-- the bytes of all parts, appended to these one by one
 abbrev put : List ℕ → ℕ → ℕ → List ℕ → List ℕ → List ℕ → List ℕ → List ℕ → List ℕ → List ℕ → List ℕ
 put out direction protocol i c g s d p q =
     out ++ get_or i 0 0 ∷ get_or i 1 0 ∷ get_or i 2 0 ∷ get_or i 3 0 ∷ get_or i 4 0 ∷ get_or i 5 0 ∷ get_or i 6 0 ∷ get_or i 7 0

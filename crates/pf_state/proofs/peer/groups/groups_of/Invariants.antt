@@ -2,7 +2,7 @@ use Rattle.std.proofs.Common.{◌++◌, List, length}
 use Rattle.pf_state.specs.{declared.{peer.message.Group.Group, peer.fault.PeerFault.PeerFault}, Peer.Groups.{AreGroups, BreakBehind}}
 use Rattle.pf_state.proofs.peer.groups.groups_of.Given as goal
 
--- what is left are groups, or has a fault, as the whole is or has
+-- what is left is groups, or has a fault, as the whole is or has
 abbrev pub invariant-loop-rest : goal.invariant-loop-rest
 invariant-loop-rest l = record {
   good : (gs : List Group) → AreGroups l.rest gs → AreGroups l.fn.bytes (l.groups.items ++ gs);

@@ -7,7 +7,7 @@ use Rattle.pf_store.specs.declared.groups.change.Recorded.TheVariants.{Made as m
 use Rattle.pf_store.proofs.RecordedForms.{as_made, formed_as, spelled}
 use Rattle.pf_store.proofs.groups.group.push_group.Goals as goal
 
--- of two things of a result a third
+-- from two facts about a result to a third
 on_both : {T E : Type 0} (r : Result T E) (P Q R : Type 0) → (P → Q → R) → OnOk r P → OnOk r Q → OnOk r R
 on_both (Ok x) P Q R f p q = f p q
 on_both (Err e) P Q R f p q = tt

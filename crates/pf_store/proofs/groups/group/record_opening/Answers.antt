@@ -7,7 +7,7 @@ use Rattle.pf_store.proofs.groups.group.record_opening.Goals as goal
 abbrev opening : ℕ → List ℕ
 opening epoch = 1 ∷ 7 ∷ [] ++ number_bytes 4 epoch
 
--- what stands behind the bytes of the length
+-- what comes after the bytes of the length
 pushed : (epoch : ℕ) (front mid out : List ℕ) → mid ≡ front ++ 1 ∷ 7 ∷ [] → out ≡ mid ++ number_bytes 4 epoch → out ≡ front ++ opening epoch
 pushed epoch front mid out first second = second ∙ ap (λ (l : List ℕ). l ++ number_bytes 4 epoch) first ∙ append_assoc front (1 ∷ 7 ∷ []) (number_bytes 4 epoch)
 

@@ -3,7 +3,7 @@ use Rattle.pf_store.specs.Durables.{IsDurable}
 use Rattle.pf_store.proofs.Sized.{snapshot_long}
 use Rattle.pf_store.proofs.snapshots.durable.write_durable.Goals as goal
 
--- nothing stood in front of it
+-- nothing came before it
 alone : (front snapshot bytes : List ℕ) → front ≡ [] → bytes ≡ front ++ snapshot → snapshot ≡ bytes
 alone front snapshot bytes none is = sym (is ∙ ap (λ (l : List ℕ). l ++ snapshot) none)
 

@@ -2,7 +2,7 @@ use Rattle.std.proofs.Common.{◌≡◌, map}
 use Rattle.pf_anchor.specs.Forms.{plain_ruled, ruled_in}
 use Rattle.pf_store.proofs.snapshots.telling.tell_rulesets.Given as goal
 
--- where the rest is told all is
+-- if data determine the rest, they determine all
 abbrev pub invariant-loop-placed : goal.invariant-loop-placed
 invariant-loop-placed l =
     map ruled_in (map plain_ruled l.placed-iterator) ≡ l.placed-iterator

@@ -9,7 +9,7 @@ mapped : {A E P Q : Type 0} (r : Result A E) → (P → Q) → OnOk r P → OnOk
 mapped (Ok x) f p = f p
 mapped (Err e) f p = tt
 
--- so many bytes as a snapshot has, where the gate is put behind it
+-- when the gate is appended, the bank's length is that of a snapshot
 so_long : (c : goal.After-close) → c.start.new.self.length ≡ snapshot_length c.args.durable.now
 so_long c = omega (arith, c.in_ok-start.ensures.long, c.byte_length-length.ensures.exact NEWEST, c.requires.fits)
 

@@ -31,7 +31,7 @@ returns-clause-first g c =
     ap (λ (k : Content). k.generation) (one_content image held.content (begun NEWEST 1 (replicate 16 0)) held.bank there))
     c.format.ensures.holds
 
--- a bank of the least size has room behind a snapshot of nothing
+-- a bank of the least size has room after a snapshot of nothing
 leaves_room : (image : List ℕ) (other : ℕ) → HoldsAt 0 other image (begun NEWEST 1 (replicate 16 0)) → LeavesRoom image
 leaves_room image other bank = λ d has.
     let same : kept_nothing 0 ≡ d = one_held image (kept_nothing 0) d (holding image other bank) has in

@@ -2,6 +2,6 @@ use Rattle.std.proofs.Common.{◌≡◌, ◌+◌, drop}
 use Rattle.pf_store.specs.Lengths.{item_length, total}
 use Rattle.pf_store.proofs.store.lengths.behind_items.Given as goal
 
--- what is left behind the rest
+-- the rest is still to be taken off what is left
 abbrev pub invariant-loop-item : goal.invariant-loop-item
 invariant-loop-item l = l.room + total item_length (drop l.item-index l.items) ≡ total item_length l.items + l.left

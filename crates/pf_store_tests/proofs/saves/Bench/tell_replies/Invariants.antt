@@ -2,7 +2,7 @@ use Rattle.pf_book.specs.Books.{setting_of}
 use Rattle.pf_store_tests.specs.declared.books.TheConstants.{HISTORY_LIMIT}
 use Rattle.pf_store_tests.proofs.saves.Bench.tell_replies.Given as goal
 
--- the opening is named by what it gave, its history, and what it keeps within
+-- the opening is named by what it gave, its history, and its limits
 abbrev pub ghosts-replies_over-J-Naming : goal.ghosts-replies_over-J-Naming
 ghosts-replies_over-J-Naming g a = record { base = a.opening.given; history = a.opening.history }
 

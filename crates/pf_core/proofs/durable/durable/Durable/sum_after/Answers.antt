@@ -4,7 +4,7 @@ use Rattle.pf_core.specs.Durable.Changes.{PlainDurable, sum_of}
 use Rattle.pf_core.proofs.MainRules.{stays}
 use Rattle.pf_core.proofs.durable.durable.Durable.sum_after.Goals as goal
 
--- the main ruleset isn't replaced, and its checksum is that of before
+-- the main ruleset isn't replaced, and its checksum stays
 pub returns-then-not-replaces_main : goal.returns-then-not-replaces_main
 returns-then-not-replaces_main c =
     c.self.invariant

@@ -23,7 +23,7 @@ returns-in-Err-clause-any_moment g c going =
     before d.seen d.unsynced d.moment d.left_since old.disk old.disk c.args.before.now c.args.after.now
     (unmoved d.seen d.unsynced d.moment d.left_since old.disk c.args.before.now s.synced s.holds (g.met.D.Disk.only_now old.disk))
 
--- it finds room, and so it has bytes, fewer than a bank has
+-- it finds room, so it has bytes, fewer than a bank has
 pub record_group-requires : goal.record_group-requires
 record_group-requires g c =
     let disk = c.self.inside.banks.journal.disk in
