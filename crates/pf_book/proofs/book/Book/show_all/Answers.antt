@@ -26,8 +26,8 @@ invariant_of-self-2 g c =
     shown-book g.D.Disk.seen g.D.Disk.unsynced s.store g.J.Naming.base s.core (arc_value s.durable) log s.sizes.items s.acked s.offered
     (setting_in s.store s.limit) s.shower c.show.new.self s.tip s.front i (c.show.ensures.offered ∙ offered) (subst (λ (l : List PlainChange). IsPrefix c.show.new.self.shown l) (sym c.show.ensures.offered) shown)
 
-pub returns-clause-page : goal.returns-clause-page
-returns-clause-page g c =
+pub returns-clause-world_book : goal.returns-clause-world_book
+returns-clause-world_book g c =
     let s = c.self.inside in
     let log : List PlainChange = map arc_value s.log.items in
     let setting : Setting = setting_in s.store s.limit in

@@ -24,4 +24,4 @@ returns-then-show_all-clause-told g c =
     let s = c.self.inside in
     let acked : s.acked ≡ length (flat c.args.self.now.acked) = counted-acked (map arc_value s.log.items) s.sizes.items s.acked c.self.invariant.cuts c.self.invariant.low ∙ ap (λ (l : PlainBook g.row.D.Denot). length (flat l.acked)) c.self.view_is in
     subst (λ (x : HistoryCommand). IsTold x (Answer (answer.Shown s.acked)) (world_book c.args.self.now) (world_book c.show_all.new.self)) (sym c.in-Publish.is)
-    (inl (ap (λ (n : ℕ). Answer (answer.Shown n)) acked, c.if-show_all.ensures.page))
+    (inl (ap (λ (n : ℕ). Answer (answer.Shown n)) acked, c.if-show_all.ensures.world_book))
