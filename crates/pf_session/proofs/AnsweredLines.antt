@@ -2,21 +2,12 @@
 use Rattle.std.proofs.{Common.{◌≡◌, ℕ, suc, ◌+◌, ◌<◌, ◌≤◌, List, [], ◌∷◌, ◌++◌, length, take, drop, get_or, Option, Result, Ok, Err, refl, sym, ap, ◌∙◌, subst, append_assoc, append-nil, arith, length-append}, KnownBytes.{Appends-nil, Appends-trans}, lemmas.Bool.ne_eqb, lemmas.List.{length-take, take_all, take_more, take-append-le, take-append-drop}}
 use Rattle.std.specs.{Prelude.{◌≢◌, ◌==◌, cond}, Io.KnownBytes.{Appends, Keeps}}
 use Rattle.pf_addr.specs.Writing.{WritesFront, Appends-kept}
-use Rattle.pf_session.specs.{LineEngine.Lines.{newline, last_line, seen}, LineEngine.Sessions.{Answered, CutOff}, LineEngine.Pieces.{Answers, SoFar, Failed}}
-use Rattle.pf_session.proofs.Cutting.{cut-nothing, cut-newline, cut-byte, cut-more}
+use Rattle.pf_session.specs.{LineEngine.Chains.Chain, LineEngine.Lines.{newline, last_line, seen}, LineEngine.Sessions.{Answered, CutOff}, LineEngine.Pieces.{Answers, SoFar, Failed}}
+use Rattle.pf_session.proofs.{Chains.{chain-none, chain-one, chain-then}, Cutting.{cut-nothing, cut-newline, cut-byte, cut-more}}
 
--- what serves lines, and the three laws of it
-abbrev pub Server : Type 0 → Type 1
-Server S = S → S → List (List ℕ) → List ℕ → Type 0
-
-abbrev pub ServesNone : {S : Type 0} → Server S → Type 0
-ServesNone {S = S} Serves = (state : S) → Serves state state [] []
-
-abbrev pub ServesThen : {S : Type 0} → Server S → Type 0
-ServesThen {S = S} Serves = (old mid new : S) (lines others : List (List ℕ)) (text more : List ℕ) → Serves old mid lines text → Serves mid new others more → Serves old new (lines ++ others) (text ++ more)
-
-abbrev pub ServesSeen : {S : Type 0} → Server S → Type 0
-ServesSeen {S = S} Serves = (old new : S) (line text : List ℕ) → Serves old new (seen line ∷ []) text → Serves old new (line ∷ []) text
+-- what isn't looked at of a line makes no difference
+abbrev pub TakesSeen : {S : Type 0} → (List ℕ → S → S → List ℕ → Type 0) → Type 0
+TakesSeen {S = S} Takes = (old new : S) (line text : List ℕ) → Takes (seen line) old new text → Takes line old new text
 
 -- ---- what is kept of a line, and a byte more
 
@@ -40,23 +31,23 @@ kept-more kept b low rest is =
 pub kept-full : (kept : List ℕ) (b : ℕ) → 4097 ≤ length kept → (rest : List ℕ) → kept ≡ seen rest → kept ≡ seen (rest ++ b ∷ [])
 kept-full kept b full rest is = is ∙ sym (take-append-le 4097 rest (b ∷ []) (omega (arith, length-take 4097 rest, ap length is)))
 
--- ---- one line more
+module _ {S : Type 0} (Takes : List ℕ → S → S → List ℕ → Type 0) where
+  -- ---- one line more
 
-served-whole : {S : Type 0} (Serves : Server S) → ServesSeen Serves → {kept : List ℕ} (line text : List ℕ) (a b : S) → kept ≡ seen line → Serves a b (kept ∷ []) text → Serves a b (line ∷ []) text
-served-whole Serves law line text a b is served = law a b line text (subst (λ (l : List ℕ). Serves a b (l ∷ []) text) is served)
+  taken-whole : TakesSeen Takes → {kept : List ℕ} (line text : List ℕ) (a b : S) → kept ≡ seen line → Takes kept a b text → Chain Takes a b (line ∷ []) text
+  taken-whole law line text a b is takes = chain-one Takes a b line text (law a b line text (subst (λ (l : List ℕ). Takes l a b text) is takes))
 
-module _ {S : Type 0} {Serves : Server S} where
-  pub line-answered : ServesThen Serves → ServesSeen Serves → {lines : List (List ℕ)} {kept : List ℕ} (line text : List ℕ) {a b : S} (c : S) {h i : Option (List ℕ)} (j : Option (List ℕ)) → kept ≡ seen line → Answered Serves lines a b h i →
-      Serves b c (kept ∷ []) text → Appends i j text → Answered Serves (lines ++ line ∷ []) a c h j
-  line-answered then law {lines = lines} line text {a = a} {b = b} c {h = h} {i = i} j is all served written = record {
+  pub line-answered : TakesSeen Takes → {lines : List (List ℕ)} {kept : List ℕ} (line text : List ℕ) {a b : S} (c : S) {h i : Option (List ℕ)} (j : Option (List ℕ)) → kept ≡ seen line → Answered (Chain Takes) lines a b h i →
+      Takes kept b c text → Appends i j text → Answered (Chain Takes) (lines ++ line ∷ []) a c h j
+  line-answered law {lines = lines} line text {a = a} {b = b} c {h = h} {i = i} j is all takes written = record {
     text = all.text ++ text;
-    served = then a b c lines (line ∷ []) all.text text all.served (served-whole Serves law line text b c is served);
+    served = chain-then Takes a b c lines (line ∷ []) all.text text all.served (taken-whole law line text b c is takes);
     written = Appends-trans h i j all.text text all.written written;
   }
 
-  pub line-cut_off : ServesSeen Serves → {lines : List (List ℕ)} {kept : List ℕ} (line : List ℕ) (others : List (List ℕ)) (text : List ℕ) {a b : S} (c : S) {h i : Option (List ℕ)} (j : Option (List ℕ)) → kept ≡ seen line → Answered Serves lines a b h i →
-      Serves b c (kept ∷ []) text → WritesFront i j text → CutOff Serves ((lines ++ line ∷ []) ++ others) a c h j
-  line-cut_off law {lines = lines} line others text {b = b} c {i = i} j is all served front = record {
+  pub line-cut_off : TakesSeen Takes → {lines : List (List ℕ)} {kept : List ℕ} (line : List ℕ) (others : List (List ℕ)) (text : List ℕ) {a b : S} (c : S) {h i : Option (List ℕ)} (j : Option (List ℕ)) → kept ≡ seen line → Answered (Chain Takes) lines a b h i →
+      Takes kept b c text → WritesFront i j text → CutOff (Chain Takes) ((lines ++ line ∷ []) ++ others) a c h j
+  line-cut_off law {lines = lines} line others text {b = b} c {i = i} j is all takes front = record {
     earlier = lines;
     last = line ∷ [];
     others = others;
@@ -66,14 +57,14 @@ module _ {S : Type 0} {Serves : Server S} where
     mid = i;
     answered = all;
     text = text;
-    served = served-whole Serves law line text b c is served;
+    served = taken-whole law line text b c is takes;
     front = front;
   }
 
   -- a flush, whether it fails or not
-  pub flushed : {A E : Type 0} → ServesNone Serves → (r : Result A E) {lines : List (List ℕ)} {a b : S} {h i : Option (List ℕ)} (j : Option (List ℕ)) → Answered Serves lines a b h i → Keeps i j → Answers Serves r lines a b h j
-  flushed none (Ok x) {h = h} {i = i} j all keeps = record { text = all.text; served = all.served; written = Appends-kept h i j all.text all.written keeps }
-  flushed none (Err e) {lines = lines} {b = b} {i = i} j all keeps = record {
+  pub flushed : {A E : Type 0} (r : Result A E) {lines : List (List ℕ)} {a b : S} {h i : Option (List ℕ)} (j : Option (List ℕ)) → Answered (Chain Takes) lines a b h i → Keeps i j → Answers (Chain Takes) r lines a b h j
+  flushed (Ok x) {h = h} {i = i} j all keeps = record { text = all.text; served = all.served; written = Appends-kept h i j all.text all.written keeps }
+  flushed (Err e) {lines = lines} {b = b} {i = i} j all keeps = record {
     earlier = lines;
     last = [];
     others = [];
@@ -83,27 +74,27 @@ module _ {S : Type 0} {Serves : Server S} where
     mid = i;
     answered = all;
     text = [];
-    served = none b;
+    served = chain-none Takes b;
     front = (0, Appends-kept i i j [] (Appends-nil i) keeps);
   }
 
   -- ---- a session so far
 
-  pub nothing-yet : ServesNone Serves → (state : S) (held : Option (List ℕ)) → SoFar Serves [] [] state state held held
-  nothing-yet none state held = record { lines = []; rest = []; cut = cut-nothing; kept_is = refl; answered = record { text = []; served = none state; written = Appends-nil held } }
+  pub nothing-yet : (state : S) (held : Option (List ℕ)) → SoFar (Chain Takes) [] [] state state held held
+  nothing-yet state held = record { lines = []; rest = []; cut = cut-nothing; kept_is = refl; answered = record { text = []; served = chain-none Takes state; written = Appends-nil held } }
 
-  pub still-so_far : ServesNone Serves → {text kept : List ℕ} {a b : S} {h i : Option (List ℕ)} (j : Option (List ℕ)) → Keeps i j → SoFar Serves text kept a b h i → SoFar Serves text kept a b h j
-  still-so_far none j keeps s = let ok : Result ℕ ℕ = Ok 0 in record { lines = s.lines; rest = s.rest; cut = s.cut; kept_is = s.kept_is; answered = flushed none ok j s.answered keeps }
+  pub still-so_far : {text kept : List ℕ} {a b : S} {h i : Option (List ℕ)} (j : Option (List ℕ)) → Keeps i j → SoFar (Chain Takes) text kept a b h i → SoFar (Chain Takes) text kept a b h j
+  still-so_far j keeps s = let ok : Result ℕ ℕ = Ok 0 in record { lines = s.lines; rest = s.rest; cut = s.cut; kept_is = s.kept_is; answered = flushed ok j s.answered keeps }
 
-  pub byte-so_far : {text kept kept' : List ℕ} {a b : S} {h i : Option (List ℕ)} (byte : ℕ) → byte ≢ newline → ((rest : List ℕ) → kept ≡ seen rest → kept' ≡ seen (rest ++ byte ∷ [])) → SoFar Serves text kept a b h i → SoFar Serves (text ++ byte ∷ []) kept' a b h i
+  pub byte-so_far : {text kept kept' : List ℕ} {a b : S} {h i : Option (List ℕ)} (byte : ℕ) → byte ≢ newline → ((rest : List ℕ) → kept ≡ seen rest → kept' ≡ seen (rest ++ byte ∷ [])) → SoFar (Chain Takes) text kept a b h i → SoFar (Chain Takes) (text ++ byte ∷ []) kept' a b h i
   byte-so_far byte other more s = record { lines = s.lines; rest = s.rest ++ byte ∷ []; cut = cut-byte byte other s.cut; kept_is = more s.rest s.kept_is; answered = s.answered }
 
-  pub line-so_far : ServesThen Serves → ServesSeen Serves → {text kept : List ℕ} (reply : List ℕ) {a b : S} (c : S) {h i : Option (List ℕ)} (j : Option (List ℕ)) → Serves b c (kept ∷ []) reply → Appends i j reply → SoFar Serves text kept a b h i →
-      SoFar Serves (text ++ newline ∷ []) [] a c h j
-  line-so_far then law reply c j served written s = record { lines = s.lines ++ s.rest ∷ []; rest = []; cut = cut-newline s.cut; kept_is = refl; answered = line-answered then law s.rest reply c j s.kept_is s.answered served written }
+  pub line-so_far : TakesSeen Takes → {text kept : List ℕ} (reply : List ℕ) {a b : S} (c : S) {h i : Option (List ℕ)} (j : Option (List ℕ)) → Takes kept b c reply → Appends i j reply → SoFar (Chain Takes) text kept a b h i →
+      SoFar (Chain Takes) (text ++ newline ∷ []) [] a c h j
+  line-so_far law reply c j takes written s = record { lines = s.lines ++ s.rest ∷ []; rest = []; cut = cut-newline s.cut; kept_is = refl; answered = line-answered law s.rest reply c j s.kept_is s.answered takes written }
 
-  pub line-failed : ServesSeen Serves → {text kept : List ℕ} (reply more : List ℕ) {a b : S} (c : S) {h i : Option (List ℕ)} (j : Option (List ℕ)) → Serves b c (kept ∷ []) reply → WritesFront i j reply → SoFar Serves text kept a b h i →
-      Failed Serves ((text ++ newline ∷ []) ++ more) a c h j
-  line-failed law reply more c j served front s =
+  pub line-failed : TakesSeen Takes → {text kept : List ℕ} (reply more : List ℕ) {a b : S} (c : S) {h i : Option (List ℕ)} (j : Option (List ℕ)) → Takes kept b c reply → WritesFront i j reply → SoFar (Chain Takes) text kept a b h i →
+      Failed (Chain Takes) ((text ++ newline ∷ []) ++ more) a c h j
+  line-failed law reply more c j takes front s =
       let (others, rest, cut) = cut-more more (cut-newline s.cut) in
-      record { lines = (s.lines ++ s.rest ∷ []) ++ others; rest = rest; cut = cut; cut_off = line-cut_off law s.rest others reply c j s.kept_is s.answered served front }
+      record { lines = (s.lines ++ s.rest ∷ []) ++ others; rest = rest; cut = cut; cut_off = line-cut_off law s.rest others reply c j s.kept_is s.answered takes front }

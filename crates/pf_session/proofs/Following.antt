@@ -13,8 +13,8 @@ use Rattle.pf_session.specs.declared.line_engine.fault.EngineFault.{EngineFault}
 use Rattle.pf_session.specs.declared.line_engine.fault.EngineFault.TheVariants as fault
 use Rattle.pf_session.specs.LineEngine.Sessions as sessions
 use Rattle.pf_session.specs.Server.Streams as streams
-use Rattle.pf_session.specs.{LineEngine.Sessions.{Answered, CutOff}, Server.{Chains.Chain, Sittings.{RunsBy, Sitting, TakesLine, at_next_line}, Streams.{CutShort, Item, Part, Taken, TakesPart, asked, last_receipt}}, Laws.Receipts.{AreWithin, ChainWithin, IsWithin, SitsWithin, TakesPartWithin, TakesWithin}}
-use Rattle.pf_session.proofs.Sitting.{line-moves}
+use Rattle.pf_session.specs.{LineEngine.Chains.Chain, LineEngine.Sessions.{Answered, CutOff}, Server.{Sittings.{RunsBy, Sitting, TakesLine, at_next_line}, Streams.{CutShort, Item, Part, Taken, TakesPart, asked, last_receipt}}, Laws.Receipts.{AreWithin, ChainWithin, IsWithin, SitsWithin, TakesPartWithin, TakesWithin}}
+use Rattle.pf_session.proofs.{Chains.chain-moves, Sitting.line-moves}
 
 -- ---- two receipts
 
@@ -36,9 +36,8 @@ module _ {S L : Type 0} (receipt : S → Option PlainReceipt) (Step : L → S �
     (rises : (x : L) (a b : S) (text : List ℕ) → Step x a b text → IsWithin (receipt a) (receipt b))
     (within : (last : Option PlainReceipt) (x : L) (a b : S) (text : List ℕ) → Step x a b text → IsWithin (receipt b) last → Within last x a b text) where
   chain-rises : (a b : S) (xs : List L) (text : List ℕ) → Chain Step a b xs text → IsWithin (receipt a) (receipt b)
-  chain-rises a b [] text (same, none) = within-same (receipt a) (receipt b) (ap receipt same)
-  chain-rises a b (x ∷ xs) text (mid, first, rest, step, more, is) =
-      within-then (receipt a) (receipt mid) (receipt b) (rises x a mid first step) (chain-rises mid b xs rest more)
+  chain-rises = chain-moves Step (λ (a b : S). IsWithin (receipt a) (receipt b)) (λ a b same. within-same (receipt a) (receipt b) (ap receipt same))
+      (λ a b c p q. within-then (receipt a) (receipt b) (receipt c) p q) rises
 
   chain-within : (last : Option PlainReceipt) (a b : S) (xs : List L) (text : List ℕ) → IsWithin (receipt b) last → Chain Step a b xs text → Chain (Within last) a b xs text
   chain-within last a b [] text end (same, none) = (same, none)

@@ -1,3 +1,4 @@
+pub mod Chains
 pub mod Cutting
 pub mod AnsweredLines
 pub mod Moving

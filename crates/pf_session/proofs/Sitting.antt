@@ -1,10 +1,11 @@
 -- A session over a shared Book, by its lines.
-use Rattle.std.proofs.Common.{◌≡◌, ◌∙◌, ℕ, List, [], ◌∷◌, Option, Some, None, Result, Ok, Err, inl, inr, refl, sym, subst}
+use Rattle.std.proofs.Common.{◌≡◌, ◌∙◌, ℕ, List, [], ◌∷◌, Option, Some, None, Result, Ok, Err, inl, inr, refl, sym, ap, subst}
 use Rattle.pf_rule.specs.Packets.{PlainPacket}
 use Rattle.pf_core.specs.declared.{command.Command.Command, reply.Refusal.Refusal}
 use Rattle.pf_core.specs.{Durable.Changes.PlainDurable, Worlds.Setting}
 use Rattle.pf_session.specs.declared.server.session.Session.{Session}
-use Rattle.pf_session.specs.{Laws.Server.chain-one, Telling.{IsToldBy, Says}, Server.Sittings.{RunsNothing, Runs, RunsBy, TakesLines, Sitting, TakesLine, next_line, packet_in}, Server.SessionRuns.{RunsSession, IsSame, sitting}}
+use Rattle.pf_session.specs.{LineEngine.Chains.Chain, Telling.{IsToldBy, Says}, Server.Sittings.{Runs, RunsBy, TakesLines, Sitting, next_line, packet_in}, Server.SessionRuns.{IsSame, RunsInSession, TakesInSession, sitting}}
+use Rattle.pf_session.proofs.LineReplies.{told-moves}
 
 module _ {W D J H G : Type 0} where
   pub same-still : (s : Session W D J H G) → IsSame s s
@@ -13,32 +14,50 @@ module _ {W D J H G : Type 0} where
   pub same-then : {a b c : Session W D J H G} → IsSame a b → IsSame b c → IsSame a c
   same-then p q = record { seer = q.seer ∙ p.seer; last = q.last ∙ p.last; number = q.number ∙ p.number; gate = q.gate ∙ p.gate }
 
+  stays-same : (start a b : Session W D J H G) → b ≡ a → IsSame start a → IsSame start b
+  stays-same start a b is same = subst (λ (s : Session W D J H G). IsSame start s) (sym is) same
+
+  stays-sitting : (a b : Session W D J H G) → b ≡ a → sitting b ≡ sitting a
+  stays-sitting a b is = ap (λ (s : Session W D J H G). sitting s) is
+
+module _ {W D J H G : Type 0} (base : PlainDurable) (setting : Setting) where
+  says-sitting : (meant : Result (Option Command) Refusal) (a b : Session W D J H G) (text : List ℕ) → Says (RunsInSession base setting) meant a b text
+      → IsSame a b × Says (Runs base setting) meant (sitting a) (sitting b) text
+  says-sitting (Ok None) a b text says = (stays-same a a b says.0 (same-still a), (stays-sitting a b says.0, says.1))
+  says-sitting (Ok (Some c)) a b text says = (says.same, says.runs)
+  says-sitting (Err e) a b text says = (stays-same a a b says.0 (same-still a), (stays-sitting a b says.0, says.1))
+
+  -- the reply to a line, as far as the session moves on by it
+  told-sitting : (line : List ℕ) (a b : Session W D J H G) (text : List ℕ) → IsToldBy (RunsInSession base setting) line a b text
+      → IsSame a b × IsToldBy (Runs base setting) line (sitting a) (sitting b) text
+  told-sitting line a b text (inl (meant, means, says)) = let (same, ran) = says-sitting meant a b text says in (same, inl (meant, means, ran))
+  told-sitting line a b text (inr none) =
+      (stays-same a a b none.same (same-still a), inr (record { speaks = none.speaks; same = stays-sitting a b none.same; told = none.told }))
+
 module _ {W D J H G : Type 0} (passed : G → ℕ → ℕ → Type 0) (base : PlainDurable) (setting : Setting) where
   -- the line that comes next, which has this number
   pub attends-one : (old new : Session W D J H G) (line text : List ℕ) (n : ℕ) → n ≡ next_line old.line → passed old.gate.now old.number n
-      → IsSame (record old { line = n }) new → IsToldBy RunsNothing (Runs base setting) line (record (sitting old) { line = n }, sitting new) text
-      → RunsSession passed base setting old new (line ∷ []) text
-  attends-one old new line text n is gate same told = record {
-    same = record { seer = same.seer; last = same.last; number = same.number; gate = same.gate };
-    sits = chain-one (TakesLine (passed old.gate.now old.number) base setting) (sitting old) (sitting new) line text (record {
-      gate = subst (λ (k : ℕ). passed old.gate.now old.number k) is gate;
-      told = subst (λ (k : ℕ). IsToldBy RunsNothing (Runs base setting) line (record (sitting old) { line = k }, sitting new) text) is told;
-    });
-  }
+      → IsToldBy (RunsInSession base setting) line (record old { line = n }) new text → TakesInSession passed base setting line old new text
+  attends-one old new line text n is gate told =
+      let (same, by) = told-sitting base setting line (record old { line = n }) new text told in
+      record {
+        same = record { seer = same.seer; last = same.last; number = same.number; gate = same.gate };
+        takes = record {
+          gate = subst (λ (k : ℕ). passed old.gate.now old.number k) is gate;
+          told = subst (λ (k : ℕ). IsToldBy (Runs base setting) line (record (sitting old) { line = k }) (sitting new) text) is by;
+        };
+      }
 
   -- what it does is done by the session that it began as
-  pub sat : (start a b : Session W D J H G) (lines : List (List ℕ)) (text : List ℕ) → IsSame start a → RunsSession passed base setting a b lines text
+  pub sat : (start a b : Session W D J H G) (lines : List (List ℕ)) (text : List ℕ) → IsSame start a → Chain (TakesInSession passed base setting) a b lines text
       → TakesLines (passed start.gate.now start.number) base setting (sitting a) (sitting b) lines text × IsSame start b
-  sat start a b lines text same p = (rw (sym same.gate, sym same.number) p.sits, same-then same p.same)
+  sat start a b [] text same (is, none) = ((stays-sitting a b is, none), stays-same start a b is same)
+  sat start a b (line ∷ lines) text same (mid, first, rest, step, more, told) =
+      let (others, still) = sat start mid b lines rest (same-then same step.same) more in
+      ((sitting mid, first, rest, rw (sym same.gate, sym same.number) step.takes, others, told), still)
 
 -- what holds of a session where nothing is run and where a command is holds of it whatever its line
-module _ (base : PlainDurable) (setting : Setting) (Moves : Sitting → Sitting → Type 0) (still : (a b : Sitting) → b ≡ a → Moves a b)
-    (runs : (o : Option PlainPacket) (c : Command) (a b : Sitting) (text : List ℕ) → RunsBy o base setting c a b text → Moves a b) where
-  says-moves : (meant : Result (Option Command) Refusal) (a b : Sitting) (text : List ℕ) → Says RunsNothing (Runs base setting) meant (a, b) text → Moves a b
-  says-moves (Ok None) a b text says = still a b says.0
-  says-moves (Ok (Some c)) a b text says = runs (packet_in c) c a b text says
-  says-moves (Err e) a b text says = still a b says.0
-
-  pub line-moves : (line : List ℕ) (a b : Sitting) (text : List ℕ) → IsToldBy RunsNothing (Runs base setting) line (a, b) text → Moves a b
-  line-moves line a b text (inl (meant, means, says)) = says-moves meant a b text says
-  line-moves line a b text (inr none) = still a b none.no_call
+pub line-moves : (base : PlainDurable) (setting : Setting) (Moves : Sitting → Sitting → Type 0) (still : (a b : Sitting) → b ≡ a → Moves a b)
+    (runs : (o : Option PlainPacket) (c : Command) (a b : Sitting) (text : List ℕ) → RunsBy o base setting c a b text → Moves a b)
+    (line : List ℕ) (a b : Sitting) (text : List ℕ) → IsToldBy (Runs base setting) line a b text → Moves a b
+line-moves base setting Moves still runs line a b text told = told-moves (Runs base setting) Moves still (λ c s t said ran. runs (packet_in c) c s t said ran) line a b text told

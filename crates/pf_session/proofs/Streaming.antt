@@ -8,7 +8,8 @@ use Rattle.pf_core.specs.{Durable.Changes.PlainDurable, Worlds.Setting}
 use Rattle.pf_book.specs.Receipts.{PlainReceipt}
 use Rattle.pf_session.specs.declared.{line_engine.fault.EngineFault.EngineFault, server.stream.Progress.Progress, server.stream.Progress.TheVariants.{On, Over}}
 use Rattle.pf_session.specs.declared.line_engine.fault.EngineFault.TheVariants as fault
-use Rattle.pf_session.specs.{Laws.Server.{chain-one, chain-then}, LineEngine.Sessions.Answered, Server.Streams.{CutShort, Ends, Item, Part, RunsFed, SoFar, Taken, Takes, TakesPart, TakesPiece, TellsEnd, TellsFault, end_text, items, items_in, told, told_text, wrong}}
+use Rattle.pf_session.specs.{LineEngine.Sessions.Answered, Server.Streams.{CutShort, Ends, Item, Part, RunsFed, SoFar, Taken, Takes, TakesPart, TakesPiece, TellsEnd, TellsFault, end_text, items, items_in, told, told_text, wrong}}
+use Rattle.pf_session.proofs.Chains.{chain-one, chain-then}
 
 -- ---- what was read
 
@@ -73,7 +74,7 @@ module _ (base : PlainDurable) (setting : Setting) where
     answered = record { text = p.answered.text; served = p.answered.served; written = Appends-kept h i j p.answered.text p.answered.written keeps };
   }
 
-  -- a write failed at a part, behind others
+  -- a write failed at a part, after others
   pub part-cut : {xs : List Item} (part : Part) (others : List Item) {a b : Option PlainReceipt} (c : Option PlainReceipt) {h i j : Option (List ℕ)} (text : List ℕ) → Taken (Takes base setting) xs a b h i → TakesPart base setting part b c text → WritesFront i j text
       → CutShort (Takes base setting) (xs ++ (items_in part ++ others)) a c h j
   part-cut {xs} part others {b = b} c {i = i} text p step front = record {
@@ -153,7 +154,7 @@ module _ (base : PlainDurable) (setting : Setting) where
     };
   }
 
-  -- a fault was told behind others, if there was one
+  -- a fault was written after others, if there was one
   pub fault-told : (f : Option PeerFault) {xs : List Item} {a b : Option PlainReceipt} {h i : Option (List ℕ)} (j : Option (List ℕ)) → Taken (Takes base setting) xs a b h i → Appends i j (told_text f) → Taken (Takes base setting) (xs ++ told f) a b h j
   fault-told None {xs} {a} {b} {h} {i} j p written = rw (append-nil xs) (record {
     parts = p.parts;
@@ -166,7 +167,7 @@ module _ (base : PlainDurable) (setting : Setting) where
   fault-cut None {xs} {a} {b} {h} {i} j p front = rw (append-nil xs) (flush-cut j front p)
   fault-cut (Some f) {b = b} j p front = part-cut (Err f) [] b (told_text (Some f)) p (refl, refl) front
 
-  -- the messages of a piece were run, and its fault was told
+  -- the messages of a piece were run, and its fault was written
   pub fed-told : (r : Result Progress EngineFault) (ms : List Message) (f : Option PeerFault) {a b : Option PlainReceipt} {h i : Option (List ℕ)} (j : Option (List ℕ)) → Taken (Takes base setting) (items ms) a b h i → TellsFault r f i j → RunsFed (Takes base setting) r ms f a b h j
   fed-told (Ok goes) ms f j all tells = (tells.0, fault-told f j all tells.1)
   fed-told (Err fault.Read) ms f j all tells = absurd tells

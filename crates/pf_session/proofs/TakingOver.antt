@@ -9,7 +9,7 @@ use Rattle.pf_line.specs.{Laws.Exports.{Message, Step as StateStep, message_text
 use Rattle.pf_line.proofs.{ExportedLines.exports_are_read, Lines.one_meaning, TakenOver.takes_over as states_taken}
 use Rattle.std.specs.Prelude.{nat_lt}
 use Rattle.pf_book.specs.Books.{PlainBook, world_book}
-use Rattle.pf_session.specs.{Serving.{NoCall, CallsBook, IsTold, Served, Serves}, Telling.Says, Laws.Takeover.{held_in, IsReadyFor, IsWant, WasRefused, TakesOver, FreshTakesOver}}
+use Rattle.pf_session.specs.{Serving.{CallsBook, Serves}, Telling.{IsToldBy, Says}, Laws.Takeover.{held_in, IsReadyFor, IsWant, WasRefused, TakesOver, FreshTakesOver}}
 
 -- ---- steps in two parts
 
@@ -114,13 +114,44 @@ refused-all h c failed r (inl is) = (Full, tt, is)
 refused-all h c failed (Refused Memory) (inr stands) = (Memory, tt, refl)
 refused-all h c failed r (inr stands) = absurd stands
 
--- ---- all of them
+-- ---- a Book's openings
 
--- the events lead to an opening with the states that the steps leave
-record Comes (h : CurrentOpening) (d : PlainDurable) (steps : List StateStep) (events : List Event) : Type 0 where
-  held : CurrentOpening
-  comes : state_after (up h) events ≡ up held
-  states : (durable_of held).states ≡ stepped_on d.states steps
+legal-behind : (st : State) (xs ys : List Event) → IsLegalFrom st (xs ++ ys) → IsLegalFrom (state_after st xs) ys
+legal-behind st [] ys legal = legal
+legal-behind st (x ∷ xs) ys legal = legal-behind (next st x) xs ys legal.1
+
+up-is : (h k : CurrentOpening) → up h ≡ up k → h ≡ k
+up-is h k e = cc (e)
+
+held-at : (h : CurrentOpening) (b : WorldBook) → IsAt h b → held_in b ≡ durable_of h
+held-at h b at = ap (λ (k : PlainDurable). after k (flat b.acked)) at.base ∙ ap (λ (l : List (List PlainChange)). after h.base (flat l)) at.acked
+
+-- a Book stands for a world that leads to this opening
+record Stands (start : PlainDurable) (h : CurrentOpening) (b : WorldBook) : Type 0 where
+  world : List Event
+  stands : StandsFor start b world
+  comes : state_after (down start) world ≡ up h
+
+is-at : (start : PlainDurable) (h : CurrentOpening) (b : WorldBook) → Stands start h b → IsAt h b
+is-at start h b s = subst (λ (k : CurrentOpening). IsAt k b) (up-is s.stands.held h (sym s.stands.comes ∙ s.comes)) s.stands.at
+
+-- a call of the Book is legal, and leads to what it leaves
+stands-on : (start : PlainDurable) (h : CurrentOpening) (c : Command) (r : Reply) (t : Upshot) (a b : WorldBook) → Stands start h a
+    → ((first : PlainDurable) (world : List Event) → StandsFor first a world → StandsFor first b (world ++ called (call c r) t ∷ []))
+    → LegalCall h (call c r) t × Stands start (heard h (call c r) t) b
+stands-on start h c r t a b s worlds =
+    let all : StandsFor start b (s.world ++ called (call c r) t ∷ []) = worlds start s.world s.stands in
+    let here : IsLegalFrom (up h) (called (call c r) t ∷ []) =
+    subst (λ (st : State). IsLegalFrom st (called (call c r) t ∷ [])) s.comes (legal-behind (down start) s.world (called (call c r) t ∷ []) all.legal) in (
+      here.0,
+      record {
+        world = s.world ++ called (call c r) t ∷ [];
+        stands = all;
+        comes = fold-append next (down start) s.world (called (call c r) t ∷ []) ∙ ap (λ (st : State). state_after st (called (call c r) t ∷ [])) s.comes;
+      },
+    )
+
+-- ---- all of them
 
 refused-first : (reply replies text : List ℕ) (why : Refusal) → IsWant why → text ≡ reply ++ replies → reply ≡ reply_text (Refused why) → WasRefused text
 refused-first reply replies text why want is told = record { why = why; is = want; front = []; behind = replies; text_is = is ∙ ap (λ (l : List ℕ). l ++ replies) told }
@@ -134,83 +165,63 @@ refused-later reply replies text is was = record {
   text_is = is ∙ ap (λ (l : List ℕ). reply ++ l) was.text_is ∙ sym (append_assoc reply was.front (reply_text (Refused was.why) ++ was.behind));
 }
 
-abbrev Told : CurrentOpening → PlainDurable → List Message → List Event → List ℕ → Type 0
-Told h d ms events text = Comes h d (flat_map (steps_here d) ms) events ⊎ WasRefused text
+-- a Book has the states that the steps of these messages leave, or some line was refused
+abbrev Told : PlainDurable → List Message → WorldBook → List ℕ → Type 0
+Told d ms b text = ((held_in b).states ≡ stepped_on d.states (flat_map (steps_here d) ms)) ⊎ WasRefused text
 
--- one line, where what follows it is told too
-one-line : (m : Message) (ms : List Message) (h : CurrentOpening) (d : PlainDurable) (events : List Event) (text : List ℕ) → durable_of h ≡ d → h.pending ≡ [] → TellsOf m (message_text m) → passes_limit d.states (flat_map (steps_here d) (m ∷ ms)) ≡ false →
-    length (log_of h) + length (m ∷ ms) ≤ h.setting.limit → Served (map message_text (m ∷ ms)) events text → IsLegalFrom (up h) events
-    → ((r : Reply) (t : Upshot) (rest : List Event) (replies : List ℕ) → IsThen h d m (then h m r t) → passes_limit (applied d (change d m)).states (flat_map (steps_here d) ms) ≡ false
-    → length (log_of (then h m r t)) + length ms ≤ h.setting.limit → Served (map message_text ms) rest replies → IsLegalFrom (up (then h m r t)) rest → Told (then h m r t) (applied d (change d m)) ms rest replies) → Told h d (m ∷ ms) events text
-one-line m ms h d events text is free told fits room (first, rest, reply, replies, by, more, events_are, text_is) legal on = of by where
-  c : Command
-  c = States (Peer m)
+module _ {D : Type 0} (faults : D → ℕ) (start : PlainDurable) where
+  -- one line, and then those that follow it
+  one-line : (m : Message) (ms : List Message) (h : CurrentOpening) (d : PlainDurable) (a mid b : PlainBook D) (reply replies text : List ℕ) → durable_of h ≡ d → h.pending ≡ [] → TellsOf m (message_text m) → passes_limit d.states (flat_map (steps_here d) (m ∷ ms)) ≡ false →
+      length (log_of h) + length (m ∷ ms) ≤ h.setting.limit → Stands start h (world_book a) → IsToldBy (CallsBook faults) (message_text m) a mid reply → text ≡ reply ++ replies
+      → ((r : Reply) (t : Upshot) → IsThen h d m (then h m r t) → passes_limit (applied d (change d m)).states (flat_map (steps_here d) ms) ≡ false
+      → length (log_of (then h m r t)) + length ms ≤ h.setting.limit → Stands start (then h m r t) (world_book mid) → Told (applied d (change d m)) ms (world_book b) replies) → Told d (m ∷ ms) (world_book b) text
+  one-line m ms h d a mid b reply replies text is free told fits room stands by text_is on = of by where
+    c : Command
+    c = States (Peer m)
 
-  apart : (passes_limit d.states (steps_here d m) ≡ false) × (passes_limit (stepped_on d.states (steps_here d m)) (flat_map (steps_here d) ms) ≡ false)
-  apart = fit-apart d.states (steps_here d m) (flat_map (steps_here d) ms) fits
+    apart : (passes_limit d.states (steps_here d m) ≡ false) × (passes_limit (stepped_on d.states (steps_here d m)) (flat_map (steps_here d) ms) ≡ false)
+    apart = fit-apart d.states (steps_here d m) (flat_map (steps_here d) ms) fits
 
-  by_reply : (r : Reply) (t : Upshot) → first ≡ called (call c r) t ∷ [] → reply ≡ reply_text r → Told h d (m ∷ ms) events text
-  by_reply r t first_is reply_is = judged (taken h d m is free apart.0 (omega (arith, room))) where
-    all : events ≡ called (call c r) t ∷ rest
-    all = events_are ∙ ap (λ (l : List Event). l ++ rest) first_is
+    by_reply : (r : Reply) (t : Upshot) → reply ≡ reply_text r → LegalCall h (call c r) t × Stands start (then h m r t) (world_book mid) → Told d (m ∷ ms) (world_book b) text
+    by_reply r t reply_is here = judged (taken h d m is free apart.0 (omega (arith, room))) where
+      longer : Told (applied d (change d m)) ms (world_book b) replies → Told d (m ∷ ms) (world_book b) text
+      longer (inl states) = inl (states ∙ sym (fold-append stepped d.states (steps_here d m) (flat_map (steps_here d) ms)))
+      longer (inr was) = inr (refused-later reply replies text text_is was)
 
-    here : LegalCall h (call c r) t × IsLegalFrom (up (then h m r t)) rest
-    here = subst (IsLegalFrom (up h)) all legal
+      hindered : IsHindered r → Told d (m ∷ ms) (world_book b) text
+      hindered (why, want, told_is) = inr (refused-first reply replies text why want text_is (reply_is ∙ ap reply_text told_is))
 
-    longer : Told (then h m r t) (applied d (change d m)) ms rest replies → Told h d (m ∷ ms) events text
-    longer (inl come) = inl (record {
-      held = come.held;
-      comes = ap (state_after (up h)) all ∙ come.comes;
-      states = come.states ∙ sym (fold-append stepped d.states (steps_here d m) (flat_map (steps_here d) ms));
-    })
-    longer (inr was) = inr (refused-later reply replies text text_is was)
+      answered : (to : IsTaken h d m) → Acknowledges r (group_in h c) ⊎ IsHindered r → Told d (m ∷ ms) (world_book b) text
+      answered to (inl keeps) =
+          let next : IsThen h d m (then h m r t) = now h d m r t is free to keeps in
+          longer (on r t next apart.1 (omega (arith, room, next.long)) here.1)
+      answered to (inr none) = hindered none
 
-    hindered : IsHindered r → Told h d (m ∷ ms) events text
-    hindered (why, want, told_is) = inr (refused-first reply replies text why want text_is (reply_is ∙ ap reply_text told_is))
+      judged : IsTaken h d m ⊎ (due h c ≡ Refused Full) → Told d (m ∷ ms) (world_book b) text
+      judged (inl to) = answered to (kept-or-refused h c t.failed to.number to.outcome r (group_in h c) (subst (λ (x : Reply). (r ≡ x) ⊎ StandsIn h c t.failed x r) to.reply here.0.reply))
+      judged (inr full) = hindered (refused-all h c t.failed r (subst (λ (x : Reply). (r ≡ x) ⊎ StandsIn h c t.failed x r) full here.0.reply))
 
-    answered : (to : IsTaken h d m) → Acknowledges r (group_in h c) ⊎ IsHindered r → Told h d (m ∷ ms) events text
-    answered to (inl keeps) =
-        let next : IsThen h d m (then h m r t) = now h d m r t is free to keeps in
-        longer (on r t rest replies next apart.1 (omega (arith, room, next.long)) more here.1)
-    answered to (inr none) = hindered none
+    of : IsToldBy (CallsBook faults) (message_text m) a mid reply → Told d (m ∷ ms) (world_book b) text
+    of (inl (meant, means, says)) =
+        let same = one_meaning (line_at (message_text m)) meant (Ok (Some c)) means told.means in
+        let ran : CallsBook faults c a mid reply = subst (λ (x : Result (Option Command) Refusal). Says (CallsBook faults) x a mid reply) same says in
+        by_reply ran.reply ran.upshot ran.told (stands-on start h c ran.reply ran.upshot (world_book a) (world_book mid) stands ran.worlds)
+    of (inr none) = inr (refused-first reply replies text Memory tt text_is none.told)
 
-    judged : IsTaken h d m ⊎ (due h c ≡ Refused Full) → Told h d (m ∷ ms) events text
-    judged (inl to) = answered to (kept-or-refused h c t.failed to.number to.outcome r (group_in h c) (subst (λ (x : Reply). (r ≡ x) ⊎ StandsIn h c t.failed x r) to.reply here.0.reply))
-    judged (inr full) = hindered (refused-all h c t.failed r (subst (λ (x : Reply). (r ≡ x) ⊎ StandsIn h c t.failed x r) full here.0.reply))
-
-  of : IsTold (message_text m) first reply → Told h d (m ∷ ms) events text
-  of (inl (meant, means, says)) =
-      let same = one_meaning (line_at (message_text m)) meant (Ok (Some c)) means told.means in
-      let (r, t, first_is, reply_is) = subst (λ (x : Result (Option Command) Refusal). Says NoCall CallsBook x first reply) same says in
-      by_reply r t first_is reply_is
-  of (inr none) = inr (refused-first reply replies text Memory tt text_is none.told)
-
-given : (ms : List Message) (h : CurrentOpening) (d : PlainDurable) (events : List Event) (text : List ℕ) → durable_of h ≡ d → h.pending ≡ [] → Each (λ m. TellsOf m (message_text m)) ms
-    → passes_limit d.states (flat_map (steps_here d) ms) ≡ false → length (log_of h) + length ms ≤ h.setting.limit → Served (map message_text ms) events text → IsLegalFrom (up h) events → Told h d ms events text
-given [] h d events text is free told fits room served legal = inl (record { held = h; comes = ap (state_after (up h)) served.0; states = ap (λ (k : PlainDurable). k.states) is })
-given (m ∷ ms) h d events text is free told fits room served legal =
-    one-line m ms h d events text is free told.0 fits room served legal
-    (λ r t rest replies next next_fits next_room more next_legal. given ms (then h m r t) (applied d (change d m)) rest replies next.held next.none told.1 next_fits next_room more next_legal)
-
--- ---- a Book
-
-legal-behind : (st : State) (xs ys : List Event) → IsLegalFrom st (xs ++ ys) → IsLegalFrom (state_after st xs) ys
-legal-behind st [] ys legal = legal
-legal-behind st (x ∷ xs) ys legal = legal-behind (next st x) xs ys legal.1
-
-up-is : (h k : CurrentOpening) → up h ≡ up k → h ≡ k
-up-is h k e = cc (e)
-
-held-at : (h : CurrentOpening) (b : WorldBook) → IsAt h b → held_in b ≡ durable_of h
-held-at h b at = ap (λ (k : PlainDurable). after k (flat b.acked)) at.base ∙ ap (λ (l : List (List PlainChange)). after h.base (flat l)) at.acked
+  given : (ms : List Message) (h : CurrentOpening) (d : PlainDurable) (a b : PlainBook D) (text : List ℕ) → durable_of h ≡ d → h.pending ≡ [] → Each (λ m. TellsOf m (message_text m)) ms
+      → passes_limit d.states (flat_map (steps_here d) ms) ≡ false → length (log_of h) + length ms ≤ h.setting.limit → Stands start h (world_book a) → Serves faults a b (map message_text ms) text → Told d ms (world_book b) text
+  given [] h d a b text is free told fits room stands (same, none) =
+      inl (ap (λ (book : PlainBook D). (held_in (world_book book)).states) same ∙ ap (λ (k : PlainDurable). k.states) (held-at h (world_book a) (is-at start h (world_book a) stands) ∙ is))
+  given (m ∷ ms) h d a b text is free told fits room stands (mid, reply, replies, by, more, text_is) =
+      one-line m ms h d a mid b reply replies text is free told.0 fits room stands by text_is
+      (λ r t next next_fits next_room there. given ms (then h m r t) (applied d (change d m)) mid b replies next.held next.none told.1 next_fits next_room there more)
 
 -- what it comes to where it is ready for the lines
-arrived : {D : Type 0} (faults : D → ℕ) (ours : List ℕ) (es : List PlainState) (first : PlainDurable) (world : List Event) (old new : PlainBook D) (text : List ℕ) (stands : StandsFor first (world_book old) world) → IsReadyFor (length (exported_lines ours es)) (world_book old) →
-    (served : Serves faults old new (exported_lines ours es) text) → CanBeExported ours es → Told stands.held (held_in (world_book old)) (exported_messages ours es) served.events text
+arrived : {D : Type 0} (faults : D → ℕ) (ours : List ℕ) (es : List PlainState) (first : PlainDurable) (world : List Event) (old new : PlainBook D) (text : List ℕ) → StandsFor first (world_book old) world → IsReadyFor (length (exported_lines ours es)) (world_book old) →
+    Serves faults old new (exported_lines ours es) text → CanBeExported ours es → Told (held_in (world_book old)) (exported_messages ours es) (world_book new) text
 arrived faults ours es first world old new text stands ready served can =
     let ms = exported_messages ours es in
     let b : WorldBook = world_book old in
-    let all : StandsFor first (world_book new) (world ++ served.events) = served.book.worlds first world stands in
     let at = stands.at in
     let left = states_taken ours (main_sum (held_in b)) (main_count (held_in b)) es can.table ready.rules in
     let fits : passes_limit (held_in b).states (flat_map (steps_here (held_in b)) ms) ≡ false =
@@ -218,8 +229,8 @@ arrived faults ours es first world old new text stands ready served can =
     let none : stands.held.pending ≡ [] = sym at.pending ∙ ready.none_pending in
     let log : length (log_of stands.held) ≡ length (flat b.acked) = ap (λ (l : List (List PlainChange)). length (flat (stands.held.acked ++ l))) none ∙ ap (λ (l : List (List PlainChange)). length (flat l)) (append-nil stands.held.acked ∙ sym at.acked) in
     let limit : b.setting.limit ≡ stands.held.setting.limit = ap (λ (s : Setting). s.limit) at.setting in
-    given ms stands.held (held_in b) served.events text (sym (held-at stands.held b at)) none (exports_are_read ours es can.sum can.bytes can.numbers) fits
-    (omega (arith, log, ready.room, limit, length-map ms message_text)) served.served (subst (λ (st : State). IsLegalFrom st served.events) stands.comes (legal-behind (down first) world served.events all.legal))
+    given faults first ms stands.held (held_in b) old new text (sym (held-at stands.held b at)) none (exports_are_read ours es can.sum can.bytes can.numbers) fits
+    (omega (arith, log, ready.room, limit, length-map ms message_text)) (record { world = world; stands = stands; comes = stands.comes }) served
 
 pub takes_over : {D : Type 0} (faults : D → ℕ) → TakesOver faults
 takes_over faults ours es first world old new text can stands ready served = of (arrived faults ours es first world old new text stands ready served can) where
@@ -229,16 +240,10 @@ takes_over faults ours es first world old new text can stands ready served = of 
   b : WorldBook
   b = world_book old
 
-  all : StandsFor first (world_book new) (world ++ served.events)
-  all = served.book.worlds first world stands
-
-  of : Told stands.held (held_in b) ms served.events text → ((held_in (world_book new)).states ≡ states_there (held_in b) ours es) ⊎ WasRefused text
-  of (inl come) =
-      let same : all.held ≡ come.held =
-      up-is all.held come.held (sym all.comes ∙ fold-append next (down first) world served.events ∙ ap (λ (st : State). state_after st served.events) stands.comes ∙ come.comes) in
+  of : Told (held_in b) ms (world_book new) text → ((held_in (world_book new)).states ≡ states_there (held_in b) ours es) ⊎ WasRefused text
+  of (inl states) =
       let left = states_taken ours (main_sum (held_in b)) (main_count (held_in b)) es can.table ready.rules in
-      inl (ap (λ (k : PlainDurable). k.states) (held-at all.held (world_book new) all.at ∙ ap durable_of same) ∙ come.states
-      ∙ ap (λ (ss : List PlainState). stepped_on ss (flat_map (steps_here (held_in b)) ms)) ready.no_states ∙ left.left)
+      inl (states ∙ ap (λ (ss : List PlainState). stepped_on ss (flat_map (steps_here (held_in b)) ms)) ready.no_states ∙ left.left)
   of (inr was) = inr was
 
 begun-held : (setting : Setting) (old : WorldBook) (stands : StandsFor (kept_nothing 0) old (opened setting ∷ [])) → stands.held ≡ begun setting (raised (kept_nothing 0))

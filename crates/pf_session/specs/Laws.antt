@@ -1,5 +1,4 @@
 pub mod Seeing
-pub mod Serving
 pub mod Server
 pub mod Sittings
 pub mod Acknowledged

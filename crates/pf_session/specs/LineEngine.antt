@@ -1,3 +1,4 @@
+pub mod Chains
 pub mod Lines
 pub mod Sessions
 pub mod Pieces

@@ -1,4 +1,3 @@
-pub mod Chains
 pub mod Sittings
 pub mod SessionRuns
 pub mod Streams

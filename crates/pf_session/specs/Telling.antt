@@ -1,22 +1,23 @@
--- What a line is told, whoever runs the command that it means. Of what happens to a line, `Idle what` says that nothing is run, and `Runs c
--- what text` that this command is and that its reply is this text.
+-- The reply to a line, whoever runs the command that it means: `Runs c old new text` says that this command took the old state to the new
+-- one, and that its reply is this text.
 use Rattle.std.specs.Prelude.{◌≡◌, ℕ, List, [], Option, Some, None, Result, Ok, Err, ◌⊎◌}
 use Rattle.pf_core.specs.declared.{command.Command.Command, reply.Refusal.Refusal, reply.Refusal.TheVariants.Memory, reply.Reply.TheVariants.Refused}
 use Rattle.pf_line.specs.{Lines.{line_at, Means, Speaks}, Reply.Replies.reply_text}
 
 -- What a line means, and what is written for it: nothing for a silent line, the refusal of a line that is refused, the reply to a command.
-abbrev pub Says : {X : Type 0} → (X → Type 0) → (Command → X → List ℕ → Type 0) → Result (Option Command) Refusal → X → List ℕ → Type 0
-Says Idle Runs (Ok None) what text = Idle what × (text ≡ [])
-Says Idle Runs (Ok (Some c)) what text = Runs c what text
-Says Idle Runs (Err e) what text = Idle what × (text ≡ reply_text (Refused e))
+-- Where no command is run, the state stays.
+abbrev pub Says : {S : Type 0} → (Command → S → S → List ℕ → Type 0) → Result (Option Command) Refusal → S → S → List ℕ → Type 0
+Says Runs (Ok None) old new text = (new ≡ old) × (text ≡ [])
+Says Runs (Ok (Some c)) old new text = Runs c old new text
+Says Runs (Err e) old new text = (new ≡ old) × (text ≡ reply_text (Refused e))
 
--- in place of reading what a line means there was no memory: then nothing is run
-pub record HasNoMemory {X : Type 0} (Idle : X → Type 0) (line : List ℕ) (what : X) (text : List ℕ) : Type 0 where
+-- there was no memory to read what the line means, and nothing was run
+pub record HasNoMemory {S : Type 0} (line : List ℕ) (old new : S) (text : List ℕ) : Type 0 where
   pub speaks : Speaks line
-  pub no_call : Idle what
+  pub same : new ≡ old
   pub told : text ≡ reply_text (Refused Memory)
 
--- A line is told what it means; one that is neither bad nor silent may be told that memory was refused.
-abbrev pub IsToldBy : {X : Type 0} → (X → Type 0) → (Command → X → List ℕ → Type 0) → List ℕ → X → List ℕ → Type 0
-IsToldBy Idle Runs line what text =
-    ((meant : Result (Option Command) Refusal) × Means (line_at line) meant × Says Idle Runs meant what text) ⊎ HasNoMemory Idle line what text
+-- A line gets the reply to what it means; one that is neither bad nor silent may be told that there was no memory.
+abbrev pub IsToldBy : {S : Type 0} → (Command → S → S → List ℕ → Type 0) → List ℕ → S → S → List ℕ → Type 0
+IsToldBy Runs line old new text =
+    ((meant : Result (Option Command) Refusal) × Means (line_at line) meant × Says Runs meant old new text) ⊎ HasNoMemory line old new text

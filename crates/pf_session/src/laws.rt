@@ -5,34 +5,34 @@ ghost use Rattle.pf_session.specs.Laws.{Acknowledged.{AcknowledgesNoLess, Acknow
 use crate::server::Gate;
 use pf_disk::Disk;
 
-/// A Book without states that is given the lines of a peer's export, one by one, holds the states that were exported, unless a line
-/// was refused for want of memory or of room on the device, or for a fault of it: each with its name, its generation and its flow, and
-/// bound to its rule only where the main rules there and here have one checksum, else to the default rule. So does a fresh Book, whose
+/// A Book without states that is given the lines of a peer's export, one by one, holds the states that were exported, unless a line was
+/// refused for want of memory or of room on the device, or for a fault of it. Each has its name, its generation and its flow, and is
+/// bound to its rule only if the main rules there and here have one checksum, else to the default rule. So does a fresh Book whose
 /// history has room for as many changes.
 pub fn takes_over<D: Disk>()
     ensures any { TakesOver D.fault_count }
     ensures fresh { FreshTakesOver D.fault_count }
 {}
 
-/// What the seer of a session over a shared Book has learnt behind a line begins with what it had learnt before it, and behind a change that
-/// the session was told is applied with the whole history at that reply, which has as many changes as the change's number says: with what
-/// `Seer::judge` promises each verdict from then on is by a front of the history that begins with it.
+/// What the seer of a session over a shared Book has learnt after a line begins with what it had learnt before it. After a change that
+/// the session was told is applied it begins with the whole history at that reply, which has as many changes as the change's number says.
+/// By what `Seer::judge` promises, each verdict from then on is by a front of the history that begins with it.
 pub fn sessions_learn<G: Gate>()
     ensures kept { (gate : G) (session : ℕ) → LearnsNoLess (G.passed gate session) }
     ensures applied { LearnsApplied }
 {}
 
-/// A change that a session over a shared Book was told is applied or stored is acknowledged, with all before it, and stays so: the receipt
-/// of that call and of each later one says no fewer, and each later call finds no fewer, whatever else was asked in between.
+/// A change that a session over a shared Book was told is applied or stored is acknowledged, with all before it, and stays so: the
+/// receipt of that call and of each later one says no fewer, and each later call finds no fewer, whatever else was asked in between.
 pub fn what_is_told_stays_acknowledged<G: Gate>()
     ensures told { AcknowledgesTold }
     ensures stays { (gate : G) (session : ℕ) → AcknowledgesNoLess (G.passed gate session) }
     ensures found { FindsAcknowledged }
 {}
 
-/// Each reply that a session or a peer over a shared Book was written was answered by a history with which that of the last receipt begins:
-/// the front of the reply's receipt begins that of the receipt which the caller then has, as `serve_from` and `serve_peer_from` give it.
-/// So does that of the receipt which it handed in first. Of a peer's messages those have no receipt whose group was refused whole.
+/// Each reply to a session or a peer over a shared Book comes of a history with which that of the last receipt begins: the front of the
+/// reply's receipt begins that of the receipt that the caller then has, as `serve_from` and `serve_peer_from` give it. So does the front
+/// of the receipt that it handed in first. A peer's message has no receipt if its group was refused whole.
 pub fn the_last_receipt_has_all<G: Gate>()
     ensures sessions { (gate : G) (session : ℕ) → SitsWithin (G.passed gate session) }
     ensures peers { TakesWithin }

@@ -1,5 +1,4 @@
-//! The engine: bytes from a reader, cut into lines, each answered, and the replies to a writer; over whatever answers a
-//! line.
+//! The engine: cuts the bytes of a reader into lines, has each answered, and has the replies written; over whatever answers a line.
 
 mod answer_line;
 mod engine;

@@ -5,7 +5,7 @@ use Rattle.pf_core.specs.{Durable.Changes.PlainDurable, Worlds.{Setting, flat}}
 use Rattle.pf_book.specs.Receipts.{PlainReceipt}
 use Rattle.pf_session.specs.Server.Sittings.{IsCommandRun, TakesLines, Sitting}
 
--- the number of a change that is told as kept
+-- the number of a change that a reply says is kept
 abbrev pub number_in : Reply → Option ℕ
 number_in (Answer a) = None
 number_in (Applied seq outcome) = Some seq

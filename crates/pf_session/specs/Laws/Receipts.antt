@@ -5,13 +5,13 @@ use Rattle.pf_core.specs.declared.reply.Refusal.{Refusal}
 use Rattle.pf_core.specs.{Durable.Changes.PlainDurable, Worlds.Setting}
 use Rattle.pf_book.specs.{Groups.{Answered as Receipted}, Receipts.PlainReceipt}
 use Rattle.pf_session.specs.declared.line_engine.fault.EngineFault.{EngineFault}
-use Rattle.pf_session.specs.{LineEngine.Sessions.IsSession, Server.{Chains.Chain, Sittings.{TakesLines, Sitting, TakesLine}, Streams.{IsStream, Part, RunsGroup, Takes, TakesPart}}}
+use Rattle.pf_session.specs.{LineEngine.Chains.Chain, LineEngine.Sessions.IsSession, Server.{Sittings.{TakesLines, Sitting, TakesLine}, Streams.{IsStream, Part, RunsGroup, Takes, TakesPart}}}
 
 -- the front of the one receipt, if there is one, begins that of the other
 abbrev pub IsWithin : Option PlainReceipt → Option PlainReceipt → Type 0
 IsWithin slip last = ForSome slip (λ s. (l : PlainReceipt) × (last ≡ Some l) × IsPrefix s.front l.front)
 
--- Steps one after the other, where the receipt that there is behind each of them is within the last one. Behind a call it is that of its reply.
+-- Steps one after the other, where the receipt after each of them is within the last one. After a call it is that of its reply.
 abbrev pub ChainWithin : {S L : Type 0} → Option PlainReceipt → (S → Option PlainReceipt) → (L → S → S → List ℕ → Type 0) → S → S → List L → List ℕ → Type 0
 ChainWithin last receipt Step old new xs text = Chain (λ x a b told. Step x a b told × IsWithin (receipt b) last) old new xs text
 
@@ -27,7 +27,7 @@ abbrev pub AreWithin : Result (List Receipted) Refusal → Option PlainReceipt �
 AreWithin (Ok answers) last = All (λ a. IsWithin (Some a.1) last) answers
 AreWithin (Err e) last = ⊤
 
--- A part of a peer's stream was taken, and the receipt of each of its answers is within the last one, as is the one that there is behind it.
+-- A part of a peer's stream was taken, and the receipt of each of its answers is within the last one, as is the receipt after it.
 abbrev pub TakesPartWithin : Option PlainReceipt → PlainDurable → Setting → Part → Option PlainReceipt → Option PlainReceipt → List ℕ → Type 0
 TakesPartWithin last base setting (Ok ms) old new text = (run : RunsGroup base setting ms old new text) × AreWithin run.result last × IsWithin new last
 TakesPartWithin last base setting (Err f) old new text = TakesPart base setting (Err f) old new text × IsWithin new last

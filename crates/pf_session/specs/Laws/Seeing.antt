@@ -17,6 +17,6 @@ seen-speaks line is = elim (cases_lt 4097 (length line)) [
   | inr h ↦ subst Speaks (take_all 4097 line h) is
 ]
 
-pub seen-told : {X : Type 0} (Idle : X → Type 0) (Runs : Command → X → List ℕ → Type 0) (line : List ℕ) (what : X) (text : List ℕ) → IsToldBy Idle Runs (seen line) what text → IsToldBy Idle Runs line what text
-seen-told Idle Runs line what text (inl (meant, means, says)) = inl (meant, subst (λ (said : Result (Option Spoken) Refusal). Means said meant) (seen-says line) means, says)
-seen-told Idle Runs line what text (inr none) = inr (record { speaks = seen-speaks line none.speaks; no_call = none.no_call; told = none.told })
+pub seen-told : {S : Type 0} (Runs : Command → S → S → List ℕ → Type 0) (old new : S) (line text : List ℕ) → IsToldBy Runs (seen line) old new text → IsToldBy Runs line old new text
+seen-told Runs old new line text (inl (meant, means, says)) = inl (meant, subst (λ (said : Result (Option Spoken) Refusal). Means said meant) (seen-says line) means, says)
+seen-told Runs old new line text (inr none) = inr (record { speaks = seen-speaks line none.speaks; same = none.same; told = none.told })

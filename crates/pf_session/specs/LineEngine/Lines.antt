@@ -13,7 +13,7 @@ IsLine line = All (λ b. b ≢ newline) line
 abbrev pub ended : List (List ℕ) → List ℕ
 ended lines = flat_map (λ line. line ++ newline ∷ []) lines
 
--- A text is these whole lines, each with its newline, and behind the last newline this rest.
+-- A text is these whole lines, each with its newline, and after the last newline this rest.
 pub record IsCut (text : List ℕ) (lines : List (List ℕ)) (rest : List ℕ) : Type 0 where
   pub joined : ended lines ++ rest ≡ text
   pub whole : All IsLine lines

@@ -29,9 +29,9 @@ pub record CutOff {S L : Type 0} (Serves : S → S → List L → List ℕ → T
   pub served : Serves before new last text
   pub front : WritesFront mid held' text
 
--- What was done for an input that is cut into these whole lines and this rest. At its end all its lines are answered,
--- and where no more could be read all its whole lines. Where a write failed, some lines from the front on are, and the
--- rest is one only at the input's end. Where the line buffer was refused, nothing is.
+-- What was done for an input that is cut into these whole lines and this rest. At its end all its lines are answered, and where no more
+-- could be read all its whole lines. Where a write failed, some lines from the front on are, and the rest is one only at the input's end.
+-- Where there was no memory for the line buffer, nothing is.
 abbrev pub Ends : {S : Type 0} → (S → S → List (List ℕ) → List ℕ → Type 0)
     → Result (Unit {0}) EngineFault → List ℕ → List (List ℕ) → List ℕ → Option (List ℕ) → S → S → Option (List ℕ) → Option (List ℕ) → Type 0
 Ends Serves (Ok u) input lines rest unread old new held held' =

@@ -1,8 +1,9 @@
 -- A session's struct, as far as it moves on.
 use Rattle.std.specs.Prelude.{◌≡◌, ℕ, List}
+use Rattle.pf_core.specs.declared.command.Command.{Command}
 use Rattle.pf_core.specs.{Durable.Changes.PlainDurable, Worlds.Setting}
 use Rattle.pf_session.specs.declared.server.session.Session.{Session}
-use Rattle.pf_session.specs.Server.Sittings.{TakesLines, Sitting}
+use Rattle.pf_session.specs.Server.Sittings.{Runs, TakesLine, Sitting}
 
 abbrev pub sitting : {W D J H G : Type 0} → Session W D J H G → Sitting
 sitting s = record { line = s.line; last = s.last.now; seer = s.seer.now }
@@ -14,8 +15,14 @@ pub record IsSame {W D J H G : Type 0} (old new : Session W D J H G) : Type 0 wh
   pub number : new.number ≡ old.number
   pub gate : new.gate ≡ old.gate
 
--- these lines took it from the one to the other
-pub record RunsSession {W D J H G : Type 0} (passed : G → ℕ → ℕ → Type 0) (base : PlainDurable) (setting : Setting)
-    (old new : Session W D J H G) (lines : List (List ℕ)) (text : List ℕ) : Type 0 where
+-- this command took it from the one to the other
+pub record RunsInSession {W D J H G : Type 0} (base : PlainDurable) (setting : Setting) (c : Command)
+    (old new : Session W D J H G) (text : List ℕ) : Type 0 where
   pub same : IsSame old new
-  pub sits : TakesLines (passed old.gate.now old.number) base setting (sitting old) (sitting new) lines text
+  pub runs : Runs base setting c (sitting old) (sitting new) text
+
+-- this line took it from the one to the other
+pub record TakesInSession {W D J H G : Type 0} (passed : G → ℕ → ℕ → Type 0) (base : PlainDurable) (setting : Setting) (line : List ℕ)
+    (old new : Session W D J H G) (text : List ℕ) : Type 0 where
+  pub same : IsSame old new
+  pub takes : TakesLine (passed old.gate.now old.number) base setting line (sitting old) (sitting new) text

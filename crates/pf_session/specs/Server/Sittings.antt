@@ -1,4 +1,4 @@
--- A session over a Book that others use too: which lines come to which calls, and what they are told.
+-- A session over a Book that others use too: which lines come to which calls, and their replies.
 use Rattle.std.specs.{Prelude.{◌≡◌, ℕ, ◌+◌, List, [], ◌∷◌, ◌++◌, codes, min, Option, Some, None, Result, ◌⊎◌}, Option.ForSome}
 use mathlib.Core.List.{IsPrefix}
 use Rattle.pf_rule.specs.Packets.{PlainPacket}
@@ -8,7 +8,7 @@ use Rattle.pf_view.specs.Seers.{PlainSeer}
 use Rattle.pf_line.specs.Reply.Replies.{reply_text}
 use Rattle.pf_book.specs.Receipts.{PlainReceipt, IsAnswered, learns_from}
 use Rattle.pf_session.specs.declared.line_engine.fault.EngineFault.{EngineFault}
-use Rattle.pf_session.specs.{LineEngine.Sessions.IsSession, Server.Chains.Chain, Telling.IsToldBy}
+use Rattle.pf_session.specs.{LineEngine.Chains.Chain, LineEngine.Sessions.IsSession, Telling.IsToldBy}
 
 -- Where a session has come to: the number of its last line, the receipt of its last call, and what its seer saw and learnt.
 pub record Sitting : Type 0 where
@@ -30,18 +30,18 @@ at_next_line s = record s { line = next_line s.line }
 
 -- ---- calls
 
--- what is told where no published copy could judge a packet
+-- the reply where no published copy could judge a packet
 abbrev pub gone_text : List ℕ
 gone_text = codes "err gone" ++ 10 ∷ []
 
--- The packet was judged by a published copy that this seer saw, whose changes begin with all that it learnt; or none was found that could,
+-- The packet was judged by a published copy that this seer saw, whose changes begin with all that it learnt; or no copy could judge it,
 -- and the seer saw nothing new.
 abbrev pub IsVerdict : PlainDurable → PlainPacket → PlainSeer → PlainSeer → List ℕ → Type 0
 IsVerdict base packet old new text =
     (IsPrefix old.learnt new.seen × (text ≡ reply_text (Answer (Judged (verdict (after base new.seen) packet)))))
     ⊎ ((new.seen ≡ old.seen) × (text ≡ gone_text))
 
--- A seer judged the packet, and learnt nothing by it.
+-- A seer judged the packet, and learnt nothing from it.
 pub record HasJudged (base : PlainDurable) (packet : PlainPacket) (old new : PlainSeer) (text : List ℕ) : Type 0 where
   pub sees : IsPrefix old.seen new.seen
   pub learnt : new.learnt ≡ old.learnt
@@ -63,7 +63,7 @@ pub record IsCommandRun (base : PlainDurable) (setting : Setting) (c : Command) 
   pub learnt : ForSome slip.token (λ token. IsPrefix token new.seer.learnt)
   pub still : IsPrefix old.seer.learnt new.seer.learnt
 
--- the packet of which it is asked what happens to it
+-- the packet that a command asks to judge, if it does
 abbrev pub packet_in : Command → Option PlainPacket
 packet_in (Ask (Judge packet)) = Some packet
 packet_in c = None
@@ -73,26 +73,22 @@ RunsBy (Some packet) base setting c old new text = IsJudged base packet old new 
 RunsBy None base setting c old new text = IsCommandRun base setting c old new text
 
 -- a packet is judged by the session's seer, any other command is run by the Book: from where the session was to where it then is
-abbrev pub Runs : PlainDurable → Setting → Command → Sitting × Sitting → List ℕ → Type 0
-Runs base setting c moved text = RunsBy (packet_in c) base setting c moved.0 moved.1 text
-
--- nothing was run
-abbrev pub RunsNothing : Sitting × Sitting → Type 0
-RunsNothing moved = moved.1 ≡ moved.0
+abbrev pub Runs : PlainDurable → Setting → Command → Sitting → Sitting → List ℕ → Type 0
+Runs base setting c old new text = RunsBy (packet_in c) base setting c old new text
 
 -- ---- lines
 
--- A line passed the gate with its number, and was told this.
+-- A line passed the gate with its number, and this is its reply.
 pub record TakesLine (passed : ℕ → Type 0) (base : PlainDurable) (setting : Setting) (line : List ℕ) (old new : Sitting) (text : List ℕ) : Type 0 where
   pub gate : passed (next_line old.line)
-  pub told : IsToldBy RunsNothing (Runs base setting) line (at_next_line old, new) text
+  pub told : IsToldBy (Runs base setting) line (at_next_line old) new text
 
--- These lines passed the gate one after the other, and were told this.
+-- These lines passed the gate one after the other, and this is the text of their replies.
 abbrev pub TakesLines : (ℕ → Type 0) → PlainDurable → Setting → Sitting → Sitting → List (List ℕ) → List ℕ → Type 0
 TakesLines passed base setting old new lines text = Chain (TakesLine passed base setting) old new lines text
 
--- What was done for what was read, by a session that had one receipt and then has the other, and whose seer knew the one and then knows the
--- other.
+-- What was done for what was read, by a session whose caller had the one receipt before it and the other after it, and whose seer knew
+-- the one before and the other after.
 pub record IsSharedSession (passed : ℕ → Type 0) (base : PlainDurable) (setting : Setting) (result : Result (Unit {0}) EngineFault)
     (unread still_unread : Option (List ℕ)) (last last' : Option PlainReceipt) (known known' : PlainSeer) (held held' : Option (List ℕ)) : Type 0 where
   -- the number of its last line

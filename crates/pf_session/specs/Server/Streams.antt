@@ -9,13 +9,13 @@ use Rattle.pf_line.specs.Reply.Replies.{reply_text}
 use Rattle.pf_book.specs.{Groups.{Answered as Receipted, IsGroupAnswered}, Receipts.PlainReceipt}
 use Rattle.pf_session.specs.declared.{line_engine.fault.EngineFault.EngineFault, server.stream.Progress.Progress, server.stream.Progress.TheVariants.{On, Over}}
 use Rattle.pf_session.specs.declared.line_engine.fault.EngineFault.TheVariants as fault
-use Rattle.pf_session.specs.{LineEngine.Sessions.{Answered, CutOff}, Server.Chains.Chain}
+use Rattle.pf_session.specs.{LineEngine.Chains.Chain, LineEngine.Sessions.{Answered, CutOff}}
 
--- what comes in a stream: a message, or what is wrong behind the last one
+-- what comes in a stream: a message, or what is wrong after the last one
 abbrev pub Item : Type 0
 Item = Result Message PeerFault
 
--- where the stream ends so, this is wrong: its fault, or that it ends within a message
+-- what is wrong where the stream ends so: its fault, or that it ends within a message
 abbrev pub wrong : Ending → List Item
 wrong (Unfinished []) = []
 wrong (Unfinished (b ∷ bytes)) = Err Ended ∷ []
@@ -26,7 +26,7 @@ items ms = map Ok ms
 
 -- ---- parts
 
--- what is done at once: a group of messages is run, or a fault is told
+-- what is done at once: a group of messages is run, or a fault is written
 abbrev pub Part : Type 0
 Part = Result (List Message) PeerFault
 
@@ -43,7 +43,7 @@ abbrev pub group_text : List Message → Result (List Receipted) Refusal → Lis
 group_text ms (Ok answers) = flat_map (λ a. reply_text a.0) answers
 group_text ms (Err e) = flat_map (λ m. reply_text (Refused e)) ms
 
--- the receipt that there is behind a group: that of its last message, or the old one where it was refused whole
+-- the receipt after a group: that of its last message, or the old one if it was refused whole
 abbrev pub last_receipt : Option PlainReceipt → Result (List Receipted) Refusal → Option PlainReceipt
 last_receipt old (Ok answers) = fold (λ last a. Some a.1) old answers
 last_receipt old (Err e) = old
@@ -57,24 +57,24 @@ pub record RunsGroup (base : PlainDurable) (setting : Setting) (ms : List Messag
   pub told : text ≡ group_text ms result
   pub kept : new ≡ last_receipt old result
 
--- A group was run, or a fault was told.
+-- A group was run, or a fault was written.
 abbrev pub TakesPart : PlainDurable → Setting → Part → Option PlainReceipt → Option PlainReceipt → List ℕ → Type 0
 TakesPart base setting (Ok ms) old new text = RunsGroup base setting ms old new text
 TakesPart base setting (Err f) old new text = (new ≡ old) × (text ≡ reply_text (Refused (BadPeer f)))
 
--- These parts, one after the other, took the receipt of the last call from the one to the other, and were told this.
+-- These parts, one after the other, took the receipt of the last call from the one to the other, and this is their text.
 abbrev pub Takes : PlainDurable → Setting → Option PlainReceipt → Option PlainReceipt → List Part → List ℕ → Type 0
 Takes base setting old new parts text = Chain (TakesPart base setting) old new parts text
 
--- All of this was taken, part by part, and all that was told was written.
+-- All of this was taken, part by part, and all its text was written.
 pub record Taken {S : Type 0} (Serves : S → S → List Part → List ℕ → Type 0)
     (all : List Item) (old new : S) (held held' : Option (List ℕ)) : Type 0 where
   pub parts : List Part
   pub joined : flat_map items_in parts ≡ all
   pub answered : Answered Serves parts old new held held'
 
--- Some of it was taken, part by part from the front on, and then a write failed: all that was told was written but what the last part was
--- told, and some front of that was.
+-- Some of it was taken, part by part from the front on, and then a write failed: all its text was written but that of the last part, and
+-- some front of that was.
 pub record CutShort {S : Type 0} (Serves : S → S → List Part → List ℕ → Type 0)
     (all : List Item) (old new : S) (held held' : Option (List ℕ)) : Type 0 where
   pub parts : List Part
@@ -88,9 +88,9 @@ abbrev pub HasEnded : Ending → Option (List ℕ) → Type 0
 HasEnded (Unfinished rest) unread = IsAtEnd unread
 HasEnded (Faulty f) unread = ⊤
 
--- What was done for this input. At its end, and at a fault, all its messages are run, and what is wrong is told; where no more could be read
--- all its messages are run. Where a write failed, some are, from the front on; some front of what is wrong may be out only where all of it
--- would be told. Where memory was refused, all are that were whole before the last piece of it, which is what one read may give.
+-- What was done for this input. At its end, and at a fault, all its messages are run, and what is wrong is written; where no more could
+-- be read all its messages are run. Where a write failed, some are, from the front on; some front of what is wrong may be out only where
+-- all of it would be written. When out of memory, all are that were whole before the last piece of it, which is what one read may give.
 abbrev pub Ends : {S : Type 0} → (S → S → List Part → List ℕ → Type 0)
     → Result (Unit {0}) EngineFault → List ℕ → Option (List ℕ) → S → S → Option (List ℕ) → Option (List ℕ) → Type 0
 Ends Serves (Ok u) input unread old new held held' =
@@ -122,24 +122,24 @@ abbrev pub told_text : Option PeerFault → List ℕ
 told_text None = []
 told_text (Some f) = reply_text (Refused (BadPeer f))
 
--- what is told where a reader finds this at the end
+-- the text where a reader finds this at the end
 abbrev pub end_text : Result (Option PeerFault) FeedError → List ℕ
 end_text (Ok fault) = told_text fault
 end_text (Err e) = []
 
--- how the stream goes on behind this fault, if it is one
+-- how the stream goes on after this fault, if there is one
 abbrev pub IsGoing : Progress → Option PeerFault → Type 0
 IsGoing On fault = fault ≡ None
 IsGoing Over fault = (f : PeerFault) × (fault ≡ Some f)
 
--- a fault was told, if there was one
+-- a fault was written, if there was one
 abbrev pub TellsFault : Result Progress EngineFault → Option PeerFault → Option (List ℕ) → Option (List ℕ) → Type 0
 TellsFault (Ok goes) fault held held' = IsGoing goes fault × Appends held held' (told_text fault)
 TellsFault (Err fault.Read) fault held held' = ⊥
 TellsFault (Err fault.Write) fault held held' = WritesFront held held' (told_text fault)
 TellsFault (Err fault.Memory) fault held held' = ⊥
 
--- what is wrong at the end was told, if anything is
+-- what is wrong at the end was written, if anything is
 abbrev pub TellsEnd : Result (Unit {0}) EngineFault → Result (Option PeerFault) FeedError → Option (List ℕ) → Option (List ℕ) → Type 0
 TellsEnd (Ok u) end held held' = Appends held held' (end_text end)
 TellsEnd (Err fault.Read) end held held' = ⊥
@@ -152,7 +152,7 @@ abbrev pub RunsAll : {S A E : Type 0} → (S → S → List Part → List ℕ �
 RunsAll Serves (Ok x) ms old new held held' = Taken Serves (items ms) old new held held'
 RunsAll Serves (Err e) ms old new held held' = CutShort Serves (items ms) old new held held'
 
--- messages were run, and a fault was told behind them, if there was one; or a failed write cut that short
+-- messages were run, and a fault was written after them, if there was one; or a failed write cut that short
 abbrev pub RunsFed : {S : Type 0} → (S → S → List Part → List ℕ → Type 0)
     → Result Progress EngineFault → List Message → Option PeerFault → S → S → Option (List ℕ) → Option (List ℕ) → Type 0
 RunsFed Serves (Ok goes) ms fault old new held held' = IsGoing goes fault × Taken Serves (items ms ++ told fault) old new held held'
@@ -165,7 +165,7 @@ pub record Waits {S : Type 0} (old new : S) (held held' : Option (List ℕ)) : T
   pub state : new ≡ old
   pub bytes : held' ≡ held
 
--- what a piece brought was run; or memory was refused for it
+-- what a piece brought was run; or there was no memory for it
 abbrev pub TakesPiece : {S : Type 0} → (S → S → List Part → List ℕ → Type 0)
     → Result Progress EngineFault → List ℕ → Option (List ℕ) → Option (List ℕ) → S → S → Option (List ℕ) → Option (List ℕ) → Type 0
 TakesPiece Serves result piece kept kept' old new held held' =

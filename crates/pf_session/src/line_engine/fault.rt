@@ -10,7 +10,7 @@ pub enum EngineFault {
     /// A write or a flush failed.
     #[error("output")]
     Write,
-    /// The line buffer was refused.
+    /// There was no memory for the line buffer.
     #[error("memory")]
     Memory,
 }

@@ -6,7 +6,7 @@ pub fn is_always_cut()
     ensures { IsAlwaysCut }
 {}
 
-/// A text is cut in one way only.
+/// There is only one way to cut a text.
 pub fn cuts_one_way()
     ensures { CutsOneWay }
 {}

@@ -1,13 +1,13 @@
 //! An input that comes in pieces, cut into lines, and each line answered.
 ghost use Rattle.std.specs.Prelude.{◌≡◌, ℕ, ◌≤◌, ◌++◌, List, length, take, Option, IfOk, MatchResult};
-ghost use Rattle.pf_session.specs.{LineEngine.Lines.{last_line, seen}, LineEngine.Sessions.Answered, LineEngine.Pieces.{Answers, SoFar, Failed}};
+ghost use Rattle.pf_session.specs.{LineEngine.Chains.Chain, LineEngine.Lines.{last_line, seen}, LineEngine.Sessions.Answered, LineEngine.Pieces.{Answers, SoFar, Failed}};
 
 use crate::line_engine::answer_line::{AnswerLine, LOOKED_AT};
 use std::alloc::Global;
 use std::io::{self, Write};
 
-/// Answers each line that ends in this piece of the input. Of the line that has not ended, the first so many bytes of
-/// `line` are kept, as far as it is looked at; it gives how many these are behind the piece. `Err`: a write failed.
+/// Answers each line that ends in this piece of the input. The first `kept` bytes of `line` are what is kept of a line that began before
+/// the piece, as far as it is looked at; the result is how many are kept after it. `Err`: a write failed.
 pub fn answer_piece<A: AnswerLine, W: Write>(
     alloc: Global,
     piece: &[u8],
@@ -20,10 +20,10 @@ pub fn answer_piece<A: AnswerLine, W: Write>(
     requires few { kept ≤ LOOKED_AT }
     ensures few { IfOk result (λ kept. kept ≤ LOOKED_AT) }
     ensures session { (input : List ℕ) (start : A) (held : Option (List ℕ)) →
-        SoFar A.Serves input (take kept line.old) start answerer.old held (W.contents writer.old) →
+        SoFar (Chain A.Takes) input (take kept line.old) start answerer.old held (W.contents writer.old) →
         MatchResult result
-        (λ kept. SoFar A.Serves (input ++ piece.now) (take kept line.new) start answerer.new held (W.contents writer.new))
-        (λ e. Failed A.Serves (input ++ piece.now) start answerer.new held (W.contents writer.new)) }
+        (λ kept. SoFar (Chain A.Takes) (input ++ piece.now) (take kept line.new) start answerer.new held (W.contents writer.new))
+        (λ e. Failed (Chain A.Takes) (input ++ piece.now) start answerer.new held (W.contents writer.new)) }
 {
     let mut len = kept;
     for byte in piece {
@@ -38,8 +38,8 @@ pub fn answer_piece<A: AnswerLine, W: Write>(
     Ok(len)
 }
 
-/// The end of the input: what no newline ends is answered as a last line, unless it is empty, and all is flushed.
-/// `Err`: a write or the flush failed.
+/// The end of the input: what comes after the last newline is answered as a last line, unless it is empty, and all is flushed. `Err`: a
+/// write or the flush failed.
 pub fn answer_rest<A: AnswerLine, W: Write>(
     alloc: Global,
     rest: &[u8],
@@ -47,8 +47,8 @@ pub fn answer_rest<A: AnswerLine, W: Write>(
     answerer: &mut A,
 ) -> io::Result<()>
     ensures { (lines : List (List ℕ)) (line : List ℕ) (start : A) (held : Option (List ℕ)) →
-        rest.now ≡ seen line → Answered A.Serves lines start answerer.old held (W.contents writer.old) →
-        Answers A.Serves result (lines ++ last_line line) start answerer.new held (W.contents writer.new) }
+        rest.now ≡ seen line → Answered (Chain A.Takes) lines start answerer.old held (W.contents writer.old) →
+        Answers (Chain A.Takes) result (lines ++ last_line line) start answerer.new held (W.contents writer.new) }
 {
     if !rest.is_empty() {
         answerer.answer_line(alloc, rest, writer)?;

@@ -3,15 +3,15 @@ ghost use Rattle.std.specs.Prelude.{◌≡◌, ℕ, List, None, Option, option_m
 ghost use Rattle.pf_addr.specs.Writing.{Writes};
 ghost use Rattle.pf_line.specs.Reply.Replies.{reply_text};
 ghost use Rattle.pf_book.specs.Receipts.{PlainReceipt};
-ghost use Rattle.pf_session.specs.{LineEngine.Sessions.IsSession, Telling.IsToldBy, Server.{Sittings.{HasJudged, IsJudged, IsCommandRun, IsSharedSession, RunsNothing, Runs, TakesLines, packet_in}, SessionRuns.{RunsSession, IsSame, sitting}}, Laws.Server.{attends-none, attends-then, attends-seen}};
+ghost use Rattle.pf_session.specs.{LineEngine.Sessions.IsSession, Server.{Sittings.{HasJudged, IsJudged, IsCommandRun, IsSharedSession, Runs, TakesLines, packet_in}, SessionRuns.{IsSame, RunsInSession, TakesInSession, sitting}}, Laws.Server.attends-seen};
 
 use crate::line_engine::{self, AnswerLine, EngineFault};
 use crate::server::gate::Gate;
-use crate::telling::refuse;
+use crate::telling::{RunCommands, answer};
 use pf_addr::write_text;
 use pf_book::{Chapter, Disk, Gone, Receipt, Seer, Shared, learn_from};
 use pf_core::{Command, Question, Reply};
-use pf_line::{may_judge, parse_judge, parse_line, write_judged, write_reply};
+use pf_line::{write_judged, write_reply};
 use pf_rule::Packet;
 use std::alloc::Global;
 use std::io::{self, Read, Write};
@@ -30,7 +30,7 @@ pub(crate) struct Session<'a, W: Wait, D: Disk + Drop, J: Chapter, H: Wait + Dro
     last: &'a mut Option<Receipt<J>>,
 }
 
-// The packet of which a command asks what happens to it.
+// The packet that a command asks to judge, if it does.
 fn packet_in(command: &Command) -> Option<&Packet>
     ensures { option_map (λ packet. packet.now) result ≡ packet_in command.now }
 {
@@ -40,7 +40,8 @@ fn packet_in(command: &Command) -> Option<&Packet>
     }
 }
 
-// What happens to a packet, or that no copy could tell. It has no handle to wait by and no Book to ask: judging waits for the writer alone.
+// Writes what happens to a packet, or that no copy could say. It has no handle to wait by and no Book to ask: judging waits for the
+// writer alone.
 fn write_verdict<J: Chapter, O: Write>(
     seer: &mut Seer<J>,
     packet: &Packet,
@@ -56,7 +57,7 @@ fn write_verdict<J: Chapter, O: Write>(
 }
 
 impl<'a, W: Wait, D: Disk + Drop, J: Chapter, H: Wait + Drop, G: Gate> Session<'a, W, D, J, H, G> {
-    // The Book's reply to a command.
+    // Runs a command by the Book.
     fn run(&mut self, command: Command) -> Reply
         ensures same { IsSame self.old self.new }
         ensures run { IsCommandRun J.base J.setting command (sitting self.old) (sitting self.new) (reply_text result) }
@@ -67,7 +68,7 @@ impl<'a, W: Wait, D: Disk + Drop, J: Chapter, H: Wait + Drop, G: Gate> Session<'
         reply
     }
 
-    // A packet is judged by the session's own seer, without the Book.
+    // Judges a packet by the session's own seer, without the Book.
     fn judge<O: Write>(&mut self, packet: &Packet, writer: &mut O) -> io::Result<()>
         ensures same { IsSame self.old self.new }
         ensures judged { (text : List ℕ) × IsJudged J.base packet.now (sitting self.old) (sitting self.new) text ×
@@ -76,10 +77,10 @@ impl<'a, W: Wait, D: Disk + Drop, J: Chapter, H: Wait + Drop, G: Gate> Session<'
         write_verdict(self.seer, packet, writer)
     }
 
-    // A command is answered.
+    // Answers a command.
     fn obey<O: Write>(&mut self, command: Command, writer: &mut O) -> io::Result<()>
         ensures same { IsSame self.old self.new }
-        ensures runs { (text : List ℕ) × Runs J.base J.setting command (sitting self.old, sitting self.new) text ×
+        ensures runs { (text : List ℕ) × Runs J.base J.setting command (sitting self.old) (sitting self.new) text ×
             Writes result (O.contents writer.old) (O.contents writer.new) text }
     {
         if let Some(packet) = packet_in(&command) {
@@ -88,42 +89,24 @@ impl<'a, W: Wait, D: Disk + Drop, J: Chapter, H: Wait + Drop, G: Gate> Session<'
         let reply = self.run(command);
         write_reply(writer, &reply)
     }
+}
 
-    // A line is answered, whatever it is.
-    fn answer<O: Write>(&mut self, alloc: Global, line: &[u8], writer: &mut O) -> io::Result<()>
-        ensures same { IsSame self.old self.new }
-        ensures told { (text : List ℕ) × IsToldBy RunsNothing (Runs J.base J.setting) line.now (sitting self.old, sitting self.new) text ×
-            Writes result (O.contents writer.old) (O.contents writer.new) text }
-    {
-        match parse_line(alloc, line) {
-            Ok(None) => Ok(()),
-            Ok(Some(command)) => self.obey(command, writer),
-            Err(refusal) => refuse(writer, refusal),
-        }
+impl<'a, W: Wait, D: Disk + Drop, J: Chapter, H: Wait + Drop, G: Gate> RunCommands
+    for Session<'a, W, D, J, H, G> {
+    ghost Runs = { RunsInSession J.base J.setting };
+
+    fn run_command<O: Write>(&mut self, command: Command, writer: &mut O) -> io::Result<()> {
+        self.obey(command, writer)
     }
 
-    // The same, where it may be a judge, for which then no memory is taken.
-    fn answer_judge<O: Write>(
-        &mut self,
-        alloc: Global,
-        line: &[u8],
-        writer: &mut O,
-    ) -> io::Result<()>
-        ensures same { IsSame self.old self.new }
-        ensures told { (text : List ℕ) × IsToldBy RunsNothing (Runs J.base J.setting) line.now (sitting self.old, sitting self.new) text ×
-            Writes result (O.contents writer.old) (O.contents writer.new) text }
-    {
-        match parse_judge(line) {
-            Some(Ok(packet)) => self.judge(&packet, writer),
-            Some(Err(refusal)) => refuse(writer, refusal),
-            None => self.answer(alloc, line, writer),
-        }
+    fn judge_packet<O: Write>(&mut self, packet: &Packet, writer: &mut O) -> io::Result<()> {
+        self.judge(packet, writer)
     }
 }
 
 impl<'a, W: Wait, D: Disk + Drop, J: Chapter, H: Wait + Drop, G: Gate> AnswerLine
     for Session<'a, W, D, J, H, G> {
-    ghost Serves = { RunsSession G.passed J.base J.setting };
+    ghost Takes = { TakesInSession G.passed J.base J.setting };
 
     fn answer_line<O: Write>(
         &mut self,
@@ -133,21 +116,13 @@ impl<'a, W: Wait, D: Disk + Drop, J: Chapter, H: Wait + Drop, G: Gate> AnswerLin
     ) -> io::Result<()> {
         self.line = self.line.saturating_add(1);
         self.gate.pass(self.number, self.line);
-        if may_judge(line) {
-            self.answer_judge(alloc, line, writer)
-        } else {
-            self.answer(alloc, line, writer)
-        }
+        answer(alloc, line, writer, self)
     }
 
-    ghost serves_none = { attends-none G.passed J.base J.setting };
-
-    ghost serves_then = { attends-then G.passed J.base J.setting };
-
-    ghost serves_seen = { attends-seen G.passed J.base J.setting };
+    ghost takes_seen = { attends-seen G.passed J.base J.setting };
 }
 
-// A session to the reader's end.
+// Serves a session until the reader is at its end.
 fn run_session<W: Wait, D: Disk + Drop, J: Chapter, H: Wait + Drop, G: Gate, R: Read, O: Write>(
     alloc: Global,
     reader: &mut R,
@@ -164,13 +139,13 @@ fn run_session<W: Wait, D: Disk + Drop, J: Chapter, H: Wait + Drop, G: Gate, R: 
 
 /// Answers the lines of a reader, as `serve_alone` does, by a Book that other sessions use too, until the reader is at its end.
 ///
-/// Before each line it passes the gate, with the number of the session and that of the line. A `judge` is answered by the session's seer,
-/// with no lock; where no published copy could judge, the reply is `err gone`. Every other command goes through `Shared::run` with the
-/// receipt of the session's last call, so that it is answered by no less than that was. The seer learns each change that this session
-/// was told is applied, with all before it, before its reply is written.
+/// Before each line it passes the gate, with the numbers of the session and of the line. The session's seer answers a `judge`, without a
+/// lock; where no published copy could judge, the reply is `err gone`. Every other command goes through `Shared::run` with the receipt of
+/// the session's last call, so that it is answered by no less than that was. Before the reply to a change that is applied is written, the
+/// seer learns it, with all before it.
 ///
-/// It waits for the reader, the writer, the gate and the Book's lock, and holds that lock within `Shared::run` alone. Faults as
-/// [`serve_alone`](crate::serve_alone)'s; what was learnt stays learnt.
+/// It waits for the reader, the writer, the gate and the Book's lock, and holds that lock only within `Shared::run`. Faults are those of
+/// [`serve_alone`](crate::serve_alone); what was learnt stays learnt.
 pub fn serve<W: Wait, D: Disk + Drop, J: Chapter, H: Wait + Drop, G: Gate, R: Read, O: Write>(
     rt: &W,
     alloc: Global,
@@ -190,8 +165,8 @@ pub fn serve<W: Wait, D: Disk + Drop, J: Chapter, H: Wait + Drop, G: Gate, R: Re
     )
 }
 
-/// The same, where the session's first call hands in the receipt that the caller has, if it has one. Behind it the caller has that of the
-/// session's last call, or its own where there was none.
+/// The same, but the session's first call hands in the receipt that the caller has, if it has one. Afterwards the caller has the receipt
+/// of the session's last call, or its own if there was no call.
 ///
 /// The front of the receipt that the caller then has begins with what each reply was answered by, as
 /// [`the_last_receipt_has_all`](crate::laws::the_last_receipt_has_all) says. So does the history of the Book that confirms it.

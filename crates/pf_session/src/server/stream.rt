@@ -21,10 +21,10 @@ use std::sync::Wait;
 // How many bytes are read at once: a group of messages, each of as many states as an export writes in one.
 const PIECE_LEN: usize = 131_072;
 
-// So many reads are never made.
+// More reads than are ever made.
 const MOST_READS: u64 = 1 << 62;
 
-/// What runs a peer's messages, and the receipt of its last call.
+/// Runs a peer's messages, and keeps the receipt of its last call.
 #[derive(Drop)]
 pub(crate) struct Follower<'a, W: Wait, D: Disk + Drop, J: Chapter, H: Wait + Drop> {
     rt: &'a W,
@@ -32,17 +32,17 @@ pub(crate) struct Follower<'a, W: Wait, D: Disk + Drop, J: Chapter, H: Wait + Dr
     last: Option<Receipt<J>>,
 }
 
-/// How a stream goes on behind a piece.
+/// How a stream goes on after a piece.
 #[derive(Clone, Copy, Debug, PartialEq, Eq)]
 pub(crate) enum Progress {
     /// More may come.
     On,
-    /// It had a fault.
+    /// The stream had a fault.
     Over,
 }
 
 impl<'a, W: Wait, D: Disk + Drop, J: Chapter, H: Wait + Drop> Follower<'a, W, D, J, H> {
-    // Takes the next piece of the stream. All that it needs of memory comes before the first of its messages is run.
+    // Takes the next piece of the stream. All the memory for it is allocated before the first of its messages is run.
     fn take<O: Write>(
         &mut self,
         alloc: Global,
@@ -62,7 +62,7 @@ impl<'a, W: Wait, D: Disk + Drop, J: Chapter, H: Wait + Drop> Follower<'a, W, D,
         self.run_fed(&commands, fault, writer)
     }
 
-    // Runs the messages that a piece brought, and tells its fault.
+    // Runs the messages that a piece brought, and writes its fault.
     fn run_fed<O: Write>(
         &mut self,
         commands: &[Command],
@@ -89,7 +89,7 @@ impl<'a, W: Wait, D: Disk + Drop, J: Chapter, H: Wait + Drop> Follower<'a, W, D,
         Ok(())
     }
 
-    // Runs messages as one group, and tells each its reply.
+    // Runs messages as one group, and writes the reply to each.
     fn run_group<O: Write>(&mut self, commands: &[Command], writer: &mut O) -> io::Result<()>
         requires some { 0 < length commands.now }
         requires few { length commands.now ≤ GROUP_LIMIT }
@@ -117,7 +117,7 @@ impl<'a, W: Wait, D: Disk + Drop, J: Chapter, H: Wait + Drop> Follower<'a, W, D,
     }
 }
 
-// The commands of messages, in one growth.
+// The commands of messages, allocated at once.
 fn commands_of(alloc: Global, messages: Vec<Message>) -> Result<Vec<Command>, AllocError>
     ensures { IfOk result (λ commands. commands.items ≡ asked messages.items) }
 {
@@ -140,7 +140,7 @@ fn write_replies<J: Chapter, O: Write>(
     Ok(())
 }
 
-// Tells each command of a group its refusal.
+// Writes the refusal of a group, once for each of its commands.
 fn refuse_each<O: Write>(commands: &[Command], refusal: Refusal, writer: &mut O) -> io::Result<()>
     ensures { Writes result (O.contents writer.old) (O.contents writer.new) (flat_map (λ c. reply_text (Refused refusal)) commands.now) }
 {
@@ -150,7 +150,7 @@ fn refuse_each<O: Write>(commands: &[Command], refusal: Refusal, writer: &mut O)
     Ok(())
 }
 
-// Tells what is wrong with the stream, if anything is, behind which nothing more is told.
+// Writes what is wrong with the stream, if anything is; nothing more is written after it.
 fn tell_fault<O: Write>(fault: Option<PeerFault>, writer: &mut O) -> Result<Progress, EngineFault>
     ensures { TellsFault result fault (O.contents writer.old) (O.contents writer.new) }
 {
@@ -172,7 +172,7 @@ fn tell<O: Write>(fault: PeerFault, writer: &mut O) -> io::Result<()>
     }
 }
 
-// Tells what is wrong at the end of the stream, if anything is.
+// Writes what is wrong at the end of the stream, if anything is.
 fn tell_end<O: Write>(peer: &mut PeerReader, writer: &mut O) -> Result<(), EngineFault>
     ensures { TellsEnd result (finished peer.old) (O.contents writer.old) (O.contents writer.new) }
 {
@@ -185,18 +185,18 @@ fn tell_end<O: Write>(peer: &mut PeerReader, writer: &mut O) -> Result<(), Engin
     }
 }
 
-/// Has the messages of a peer's stream run by a Book that sessions use too, and writes a reply line for each, until the reader is at its
-/// end. The messages that one read makes whole are given to `Shared::group` in groups of 64 and a last one of what is left, each with the
-/// receipt of the last message before that has one. Where a group is refused whole, each of its messages is told that refusal, and those behind it are run
-/// all the same.
+/// Runs the messages of a peer's stream by a Book that sessions use too, and writes a reply line for each, until the reader is at its
+/// end. The messages that one read completes go to `Shared::group` in groups of 64 and a last one of what is left, each with the receipt
+/// of the last message before it that has one. If a group is refused whole, that refusal is the reply to each of its messages, and the
+/// messages after it are still run.
 ///
-/// A fault of the stream, or its end within a message, is told in a line, as a `peer` line with such bytes is, and nothing is told behind
+/// A fault of the stream, or its end within a message, gets a line, as a `peer` line with such bytes does, and nothing is written after
 /// it. The writer is flushed before each read and at the end. A read that was interrupted is made again; there are fewer than 2^62 reads.
 ///
-/// `Err(Read)`: a read failed, or there were too many; the whole messages before are answered. `Err(Write)`: a write or a flush failed; of
-/// the replies to the last group some front may be out, and no later message was run. `Err(Memory)`: memory was refused for the buffer,
-/// and nothing was read, or for a piece of the stream, of 131,072 bytes at most; the messages that were whole before it are answered, and
-/// those that it made whole weren't run.
+/// `Err(Read)`: a read failed, or there were too many; the whole messages before are answered. `Err(Write)`: a write or a flush failed;
+/// some front of the replies to the last group may be out, and no later message was run. `Err(Memory)`: out of memory, either for the
+/// buffer, and nothing was read, or for a piece of the stream, of 131,072 bytes at most; the messages that were whole before the piece
+/// are answered, and those that it completed weren't run.
 pub fn serve_peer<W: Wait, D: Disk + Drop, J: Chapter, H: Wait + Drop, R: Read, O: Write>(
     rt: &W,
     alloc: Global,
@@ -211,8 +211,8 @@ pub fn serve_peer<W: Wait, D: Disk + Drop, J: Chapter, H: Wait + Drop, R: Read, 
     serve_peer_from(rt, alloc, reader, writer, shared, &mut last)
 }
 
-/// The same, where the first call hands in the receipt that the caller has, if it has one. Behind it the caller has that of the last message
-/// whose group wasn't refused whole, or its own where there was none.
+/// The same, but the first call hands in the receipt that the caller has, if it has one. Afterwards the caller has the receipt of the
+/// last message whose group wasn't refused whole, or its own if there was none.
 ///
 /// The front of the receipt that the caller then has begins with what each reply that has a receipt was answered by, as
 /// [`the_last_receipt_has_all`](crate::laws::the_last_receipt_has_all) says. So does the history of the Book that confirms it.
@@ -266,7 +266,7 @@ fn follow_from<W: Wait, D: Disk + Drop, J: Chapter, H: Wait + Drop, R: Read, O: 
     ended
 }
 
-// Reads to the end, or to a fault. `piece` has what a read gave.
+// Reads to the end, or to a fault. `piece` holds what a read gave.
 fn follow<W: Wait, D: Disk + Drop, J: Chapter, H: Wait + Drop, R: Read, O: Write>(
     alloc: Global,
     piece: &mut [u8],

@@ -1,4 +1,4 @@
-use Rattle.pf_session.specs.Server.{Sittings.TakesLines, SessionRuns.{RunsSession, IsSame, sitting}}
+use Rattle.pf_session.specs.{LineEngine.Chains.Chain, Server.{Sittings.TakesLines, SessionRuns.{IsSame, TakesInSession, sitting}}}
 use Rattle.pf_session.proofs.{Moving.session-as, Sitting.{sat, same-still}}
 use Rattle.pf_session.proofs.server.session.run_session.Goals as goal
 
@@ -8,7 +8,7 @@ returns-clause-same g c =
     let passed = g.G.Gate.passed in
     let base = g.J.Naming.base in
     let setting = g.J.Chapter.setting in
-    (session-as sitting (IsSame start) (RunsSession passed base setting) (TakesLines (passed start.gate.now start.number) base setting) (sat passed base setting start)
+    (session-as sitting (IsSame start) (Chain (TakesInSession passed base setting)) (TakesLines (passed start.gate.now start.number) base setting) (sat passed base setting start)
     (same-still start) c.serve.ensures).1
 
 pub returns-clause-session : goal.returns-clause-session
@@ -17,5 +17,5 @@ returns-clause-session g c =
     let passed = g.G.Gate.passed in
     let base = g.J.Naming.base in
     let setting = g.J.Chapter.setting in
-    (session-as sitting (IsSame start) (RunsSession passed base setting) (TakesLines (passed start.gate.now start.number) base setting) (sat passed base setting start)
+    (session-as sitting (IsSame start) (Chain (TakesInSession passed base setting)) (TakesLines (passed start.gate.now start.number) base setting) (sat passed base setting start)
     (same-still start) c.serve.ensures).0

@@ -1,4 +1,4 @@
--- What comes one after the other, each with a text: `Step x old new text` says that this one took the old state to the new one with this text.
+-- Steps one after the other, each with a text: `Step x old new text` says that this one took the old state to the new one with this text.
 use Rattle.std.specs.Prelude.{◌≡◌, ℕ, List, [], ◌∷◌, ◌++◌}
 
 -- these took the old state to the new one, and their texts are this one
