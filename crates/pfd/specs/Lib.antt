@@ -1,3 +1,4 @@
+pub mod Accepting
 pub mod Program
 pub mod Client
 -- what public clauses cite of the crates below

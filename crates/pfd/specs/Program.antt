@@ -18,7 +18,7 @@ told_of_session session.Read = Input
 told_of_session session.Write = Output
 told_of_session session.Memory = Memory
 
--- what the program tells of a session
+-- what the program says of a session
 abbrev pub ended : Result (Unit {0}) EngineFault → Result (Unit {0}) Fault
 ended (Ok u) = Ok u
 ended (Err fault) = Err (told_of_session fault)
@@ -56,8 +56,8 @@ pub record IsMemorySession {M : Type 0} (faults : M → ℕ) (size history : ℕ
   pub fresh : StandsFor (kept_nothing 0) (world_book old) (opened (on_device history (bank_size size)) ∷ [])
   pub session : IsSession (Serves faults) result unread still_unread old new held held'
 
--- Why there is no session over a disk in memory of so many bytes: it may not have so many; or it may, and memory is refused, the disk fails,
--- or there are no places for workers.
+-- Why there is no session over a disk in memory of so many bytes: it may not have so many; or it may, and there is no memory, the disk
+-- fails, or there are no places for workers.
 abbrev pub Hinders : ℕ → Fault → Type 0
 Hinders size BadSize = ¬ IsSize size
 Hinders size Memory = IsSize size
@@ -72,14 +72,17 @@ IsMemoryRun faults size history result unread still_unread held held' =
     ((session : Result (Unit {0}) EngineFault) × (result ≡ ended session) × IsMemorySession faults size history session unread still_unread held held')
     ⊎ ((fault : Fault) × (result ≡ Err fault) × Hinders size fault × Keeps unread still_unread × Keeps held held')
 
--- What the disk held, in the next epoch. Each of its banks has half of its bytes.
+-- What the disk held, in the next epoch, which there is: so of each world that leaves what the disk held the opening is the next event
+-- (`Follows`), and the replies are legal after it. Each of its banks has half of its bytes.
 pub record Opens {D : Type 0} (seen : List ℕ) (opening : PlainOpening D) : Type 0 where
   pub kept : PlainDurable
   pub held : Holds seen kept
+  pub early : kept.epoch < last_epoch
   pub given : opening.given ≡ raised kept
   pub size : opening.size ≡ bank_size (length seen)
 
--- A session was served over what the disk held; or the disk couldn't be opened, for a cause that there is, and nothing was read or written.
+-- A session was served over what the disk held; or the disk couldn't be opened, for a cause that is there, and nothing was read or
+-- written.
 abbrev pub IsDeviceRun : {D : Type 0} → (D → List ℕ) → (D → ℕ) → D → ℕ → Result (Unit {0}) Fault
     → Option (List ℕ) → Option (List ℕ) → Option (List ℕ) → Option (List ℕ) → Type 0
 IsDeviceRun {D = D} seen faults disk history result unread still_unread held held' =
@@ -107,8 +110,9 @@ IsProgramRun faults history status unread still_unread held held' =
 abbrev pub listening_text : List ℕ → List ℕ
 listening_text address = codes "listening " ++ (address ++ 10 ∷ [])
 
--- What was asked was done: lines are read in a session alone and to be sent to a server, a disk that is formatted tells nothing, and a server
--- where it listens. The functions count the faults of disks in memory, give what a disk on a file reads as, and count the faults of such disks.
+-- What was asked was done. Lines are read only for a session and to be sent to a server; formatting a disk writes nothing, and a server
+-- writes where it listens. The functions count the faults of disks in memory, give what a disk on a file reads as, and count the faults
+-- of such disks.
 abbrev pub IsDone : {M F : Type 0} → (M → ℕ) → (F → List ℕ) → (F → ℕ) → Task → Result (Unit {0}) Fault
     → Option (List ℕ) → Option (List ℕ) → Option (List ℕ) → Option (List ℕ) → Type 0
 IsDone memory seen file (Run size history) result unread still_unread held held' = IsMemoryRun memory size history result unread still_unread held held'
@@ -119,7 +123,7 @@ IsDone memory seen file (Serve service) result unread still_unread held held' =
     Keeps unread still_unread × ((bound : List ℕ) × Writes result held held' (listening_text bound))
 IsDone memory seen file (Connect address) result unread still_unread held held' = Unit {0}
 
--- The status where the words couldn't be had: 1 for want of memory, else 2.
+-- The status if the words couldn't be had: 1 when out of memory, else 2.
 abbrev pub status_without_words : ErrorKind → ℕ
 status_without_words OutOfMemory = 1
 status_without_words _ = 2

@@ -1,4 +1,4 @@
-//! A client: what it reads goes to a server, and what that answers is written.
+//! A client: sends what it reads to a server, and writes what that answers.
 ghost use Rattle.std.specs.Prelude.{◌<◌, length};
 ghost use Rattle.pf_addr.specs.Writing.{Writes};
 ghost use Rattle.pfd.specs.Client.{Carries};
@@ -15,7 +15,7 @@ use std::thread::Threads;
 // How many bytes are carried at once.
 const PIECE_LEN: usize = 65_536;
 
-// So many reads are never made.
+// More reads than are ever made.
 const MOST_READS: u64 = 1 << 62;
 
 // Writes these bytes, and flushes.
@@ -28,7 +28,7 @@ fn pass_on<W: Write>(writer: &mut W, bytes: &[u8]) -> io::Result<()>
     }
 }
 
-// Writes what a reader gives. `piece` has what a read gave.
+// Writes what a reader gives. `piece` holds what a read gave.
 fn carry_pieces<R: Read, W: Write>(
     reader: &mut R,
     writer: &mut W,
@@ -58,11 +58,11 @@ fn carry_pieces<R: Read, W: Write>(
     Err(EngineFault::Read)
 }
 
-/// Writes what a reader gives, as it comes, until the reader is at its end, and flushes the writer behind each piece. A read that was
+/// Writes what a reader gives, as it comes, until the reader is at its end, and flushes the writer after each piece. A read that was
 /// interrupted is made again; there are fewer than 2^62 reads.
 ///
-/// `Err(Read)`: a read failed, or there were too many; all that was read is written. `Err(Write)`: a write or a flush failed, and some front
-/// of what was read is written. `Err(Memory)`: the buffer was refused, and nothing was read.
+/// `Err(Read)`: a read failed, or there were too many; all that was read is written. `Err(Write)`: a write or a flush failed, and some
+/// front of what was read is written. `Err(Memory)`: no memory for the buffer, and nothing was read.
 pub(crate) fn carry<R: Read, W: Write>(
     alloc: Global,
     reader: &mut R,
@@ -90,7 +90,7 @@ fn send<R: Read>(
     carried
 }
 
-// Writes what the server answers, which ends once it was told that no more comes.
+// Writes what the server answers, which ends once the server knows that no more comes.
 fn receive<W: Write>(
     alloc: Global,
     stream: &TcpStream,
@@ -113,8 +113,8 @@ fn receive<W: Write>(
 /// Sends what the reader gives to the server at the address, and writes what it answers, until the reader is at its end and the server has
 /// closed. Both go on at once, so that a reply is written before more is read.
 ///
-/// `Err(Read)`: nobody answers at the address, or a read of the reader failed. `Err(Write)`: the server closed before the reader's end, or
-/// a write failed; where the reader waits then, this returns with what it gives next. `Err(Memory)`: memory was refused.
+/// `Err(Read)`: nobody answers at the address, or a read of the reader failed. `Err(Write)`: the server closed before the reader's end,
+/// or a write failed; if the reader waits then, this returns with what it gives next. `Err(Memory)`: out of memory.
 pub(crate) fn connect<
     N: Net<Listener = TcpListener, Stream = TcpStream> + Threads,
     R: Read,

@@ -7,7 +7,7 @@ pub use pf_session::laws::{
     sessions_learn, takes_over, the_last_receipt_has_all, what_is_told_stays_acknowledged,
 };
 
-/// Where the words don't say, the history of a session may have 65,536 changes, of 1,048,576 at most, and its disk has 1,048,576 bytes; a
+/// If the words don't say, the history of a session may have 65,536 changes, of 1,048,576 at most, and its disk has 1,048,576 bytes; a
 /// server has 4 workers, of 64 at most. 4,097 bytes of a line are looked at.
 pub fn the_limits_of_sessions()
     ensures history { HISTORY_LIMIT ≡ 65536 }

@@ -1,23 +1,30 @@
 //! A control plane for rulesets of pf: commands come as lines, and each gets a reply. The program is a `main` over this.
 //!
-//! `program` does what the program's words ask, which `pfd_words` reads, and ends with a status. Lines and peers' streams are answered by
-//! `pf_session`, over a `Book` of `pf_book`, one history over a device; disks on files are `pfd_files`'. What callers need of all of them is
-//! given out again.
+//! - `program`: does what the program's words ask, which `pfd_words` reads, and ends with a status.
+//! - `accepting`: which connections are served, and under which numbers, by what accepting them gives.
+//! - `listener`: TCP connections, each served by a worker as a session or a peer's stream, over one Book that all share.
+//! - `client`: the other end of a connection. Only these last two know sockets.
+//! - `laws`: the limits of the program, and the laws of sessions.
 //!
-//! `listener` has the connections of TCP, each served by a worker as a session or a peer's stream of one Book that all share; `client` is
-//! the other end of one. These two alone know sockets.
+//! `pf_session` answers lines and peers' streams, by a `Book` of `pf_book`, one history over a device; disks on files are `pfd_files`'.
+//! What callers need of these crates is re-exported.
 //!
-//! The crate knows no text of a command or a reply, and doesn't judge, compare, change or keep rules, tables and states itself. What is the
-//! crate's own: what the program does with its words, and the statuses that it ends with.
+//! The crate knows no text of a command or a reply, and doesn't judge, compare, change or keep rules, tables and states itself. Its own
+//! are what the program does with its words, and the statuses that it ends with.
 //!
-//! Read `specs/Program.antt`, behind `pf_session`'s definitions of a session. `start` carries the promises.
+//! Proved: what `start` does with its words, and its status; which connections a listener serves. Only tested: what listeners and clients do with sockets, what becomes of
+//! files, the texts of help and of faults, and which words are refused.
+//!
+//! Read `specs/Program.antt` after `pf_session`'s definitions of a session.
 #![tactic(auto)]
 
+mod accepting;
 mod client;
 pub mod laws;
 mod listener;
 mod program;
 
+pub use accepting::Accept;
 pub use listener::serve_listener;
 pub use pf_book::{Book, Chapter, Disk, FuseDisk, MemDisk, Opening, Receipt, Seer, Shared, format};
 pub use pf_session::{

@@ -1,10 +1,11 @@
-//! Connections, and the workers that serve them. What a socket gives and takes no clause can say, so this is only tested.
+//! Connections, and the workers that serve them. No clause can say what a socket gives and takes, so this is only tested.
 ghost use Rattle.std.specs.Prelude.{◌≡◌, ◌⊎◌, IfErr};
 
+use crate::accepting::{Accept, Acceptor};
 use pf_book::{Chapter, Disk, Seer, Shared};
 use pf_session::{EngineFault, Gate, serve, serve_peer};
 use std::alloc::Global;
-use std::io::{BufWriter, ErrorKind, Read};
+use std::io::{self, BufWriter, ErrorKind, Read};
 use std::net::{Shutdown, TcpListener, TcpStream};
 use std::sync::{Mutex, Wait};
 use std::thread;
@@ -14,45 +15,17 @@ use std::time::Duration;
 // What a peer's stream begins with, and no line does.
 const PEER: u8 = 5;
 
-// So many reads are made at most of what a peer sends behind a fault.
+// At most so many reads are made of what a peer sends after a fault.
 const MOST_DROPPED: usize = 64;
 
-// How many connections were accepted, and whether an accept failed.
-#[derive(Drop)]
-struct Acceptor {
-    accepted: u32,
-    has_failed: bool,
-}
+impl Accept for TcpListener {
+    type Connection = TcpStream;
 
-impl Acceptor {
-    fn new() -> Acceptor {
-        Acceptor {
-            accepted: 0,
-            has_failed: false,
+    fn accept(&self) -> io::Result<TcpStream> {
+        match TcpListener::accept(self) {
+            Ok((stream, _)) => Ok(stream),
+            Err(error) => Err(error),
         }
-    }
-
-    // The next connection, and the number of its session. `None`: so many were accepted, unless it is 0, or an accept failed. A connection
-    // that its client gave up before it was accepted is passed over.
-    fn next(&mut self, listener: &TcpListener, sessions: u32) -> Option<(TcpStream, u32)> {
-        if self.has_failed || (sessions != 0 && self.accepted >= sessions) {
-            return None;
-        }
-        for _ in 0..u64::MAX {
-            match listener.accept() {
-                Ok((stream, _)) => {
-                    self.accepted = self.accepted.saturating_add(1);
-                    return Some((stream, self.accepted));
-                }
-                Err(error) => {
-                    if error.kind() != ErrorKind::ConnectionAborted {
-                        self.has_failed = true;
-                        return None;
-                    }
-                }
-            }
-        }
-        None
     }
 }
 
@@ -73,8 +46,8 @@ fn first_byte(stream: &TcpStream) -> Option<u8> {
     None
 }
 
-// Drops what a peer sends behind a fault, for some reads, until it sends nothing for a second or closes: a connection that is closed with
-// bytes that weren't read is reset by the system, and the peer might not read of its fault.
+// Drops what a peer sends after a fault, for some reads, until it sends nothing for a second or closes: the system resets a connection
+// that is closed with unread bytes, and the peer might not read of its fault.
 fn drop_rest(stream: &TcpStream) {
     let _ = stream.shutdown(Shutdown::Write);
     if stream
@@ -106,7 +79,7 @@ fn serve_connection<W: Wait, D: Disk + Drop, J: Chapter, H: Wait + Drop, G: Gate
     let Some(first) = first_byte(stream) else {
         return Ok(());
     };
-    // a reply goes out as it is, and doesn't wait for the next
+    // a reply goes out at once, and doesn't wait for the next
     let _ = stream.set_nodelay(true);
     let mut reader = stream;
     let Ok(mut writer) = BufWriter::new(alloc, stream) else {
@@ -133,18 +106,24 @@ fn serve_connection<W: Wait, D: Disk + Drop, J: Chapter, H: Wait + Drop, G: Gate
 }
 
 // Serves one connection after the other, with one seer.
-fn work<W: Wait, D: Disk + Drop, J: Chapter, H: Wait + Drop, G: Gate>(
+fn work<
+    W: Wait,
+    A: Accept<Connection = TcpStream>,
+    D: Disk + Drop,
+    J: Chapter,
+    H: Wait + Drop,
+    G: Gate,
+>(
     rt: &W,
     alloc: Global,
-    listener: &TcpListener,
+    listener: &A,
     acceptor: &Mutex<Acceptor>,
     shared: &Shared<D, J, H>,
     mut seer: Seer<J>,
     gate: &G,
-    sessions: u32,
 ) {
     for _ in rt.forever() {
-        let next = acceptor.lock(rt).next(listener, sessions);
+        let next = acceptor.lock(rt).next(listener);
         let Some((stream, session)) = next else {
             return;
         };
@@ -153,21 +132,22 @@ fn work<W: Wait, D: Disk + Drop, J: Chapter, H: Wait + Drop, G: Gate>(
     }
 }
 
-/// Serves the connections of a listener by one worker for each seer, and returns once so many connections were accepted and have ended, or
-/// never where it is 0.
+/// Serves the connections of a listener by one worker for each seer, and returns once `sessions` connections were accepted and have
+/// ended; with 0 it never does.
 ///
 /// A worker serves one connection at a time; further ones wait until a worker is free. Sessions are numbered from 1 in the order in which
-/// their connections were accepted, and the number stays at 4,294,967,295 once it has come so far. A connection whose first byte is 5 is a
-/// peer's stream, as [`serve_peer`] has it, any other a session, as [`serve`] has it. What ends one before its client does, as a reset or a
-/// want of memory, ends it alone. What a peer sends behind a fault of its stream is dropped before its connection is closed, in 64 reads of
-/// 16,384 bytes at most, and until nothing comes for a second, so that it can read of its fault.
+/// their connections were accepted, and the number stays at 4,294,967,295 once it has come so far. A connection whose first byte is 5 is
+/// a peer's stream, as in [`serve_peer`], any other a session, as in [`serve`]. What ends one before its client does, as a reset or a
+/// lack of memory, ends it alone. What a peer sends after a fault of its stream is dropped before its connection is closed, in at most 64
+/// reads of 16,384 bytes, and until nothing comes for a second, so that it can read of its fault.
 ///
-/// Each worker has a thread, where the system gives it one; workers without one begin when others have ended.
+/// Each worker has a thread, if the system gives it one; workers without one begin when others have ended.
 ///
-/// `Err(Read)`: an accept failed; no more connections are accepted, and those that were have ended. `Err(Memory)`: memory was refused for
-/// the threads.
+/// `Err(Read)`: an accept failed; no more connections are accepted, and those that were have ended. `Err(Memory)`: out of memory for the
+/// threads.
 pub fn serve_listener<
     M: Wait + Threads + Sync,
+    A: Accept<Connection = TcpStream> + Sync,
     D: Disk + Drop + Send,
     J: Chapter + Send + Sync,
     H: Wait + Drop + Send + Sync,
@@ -175,7 +155,7 @@ pub fn serve_listener<
 >(
     rt: &M,
     alloc: Global,
-    listener: &TcpListener,
+    listener: &A,
     shared: &Shared<D, J, H>,
     seers: Vec<Seer<J>>,
     gate: &G,
@@ -183,28 +163,17 @@ pub fn serve_listener<
 ) -> Result<(), EngineFault>
     ensures { IfErr result (λ fault. (fault ≡ EngineFault.Read) ⊎ (fault ≡ EngineFault.Memory)) }
 {
-    let acceptor = Mutex::new(Acceptor::new());
+    let acceptor = Mutex::new(Acceptor::new(sessions));
     let the_acceptor = &acceptor;
     let served = thread::map_vec(
         rt,
         seers,
-        &|seer| {
-            work(
-                rt,
-                alloc,
-                listener,
-                the_acceptor,
-                shared,
-                seer,
-                gate,
-                sessions,
-            )
-        },
+        &|seer| { work(rt, alloc, listener, the_acceptor, shared, seer, gate) },
     );
     if served.is_err() {
         return Err(EngineFault::Memory);
     }
-    if acceptor.into_inner().has_failed {
+    if acceptor.into_inner().has_failed() {
         return Err(EngineFault::Read);
     }
     Ok(())

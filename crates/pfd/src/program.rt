@@ -2,7 +2,7 @@
 //!
 //! - `fresh`: disks that hold nothing, opened.
 //! - `serving`: a server over the disk on a file.
-//! - `ended`: what the program tells of a session.
+//! - `ended`: what the program says of a session.
 ghost use Rattle.std.specs.{Prelude.{◌≡◌, ◌≤◌, ◌<◌, ◌^◌, ◌⊎◌, IfErr, IfOk, Result, map, string_bytes}, Io.KnownBytes.Keeps, IoError.error_kind};
 ghost use Rattle.clap.specs.Words.{kind_of, subcommand_of};
 ghost use Rattle.pfd_files.specs.declared.fault.Fault.{Fault};
@@ -74,7 +74,7 @@ fn run<H: Wait + Drop, R: Read, W: Write>(
     serve_opening::<Brand, _, _, _, _>(waits, alloc, opening, history, reader, writer)
 }
 
-// A session over a disk that is there, whatever it holds.
+// A session over a disk that exists, whatever it holds.
 fn run_on<D: Disk + Drop, H: Wait + Drop, R: Read, W: Write>(
     waits: H,
     alloc: Global,
@@ -96,7 +96,7 @@ fn run_on<D: Disk + Drop, H: Wait + Drop, R: Read, W: Write>(
     }
 }
 
-// Does what the words ask. Of what is done with a file only this much is known: what it holds no clause can say.
+// Does what the words ask. No clause can say what a file holds, so of what is done with one only this much is known.
 fn perform<
     N: Wait + Threads + Net<Listener = TcpListener, Stream = TcpStream> + Sync,
     S: Files<File = File>,
@@ -145,7 +145,7 @@ fn print<W: Write>(error: &Error, writer: &mut W) -> io::Result<()> {
     writer.flush()
 }
 
-// Help and the version are written and are no fault; refused words are told to the faults.
+// Help and the version are written and are no fault; what is wrong with refused words goes to the faults.
 fn explain<W: Write, F: Write>(error: &Error, writer: &mut W, faults: &mut F) -> u8
     ensures status { result ≤ 2 }
     ensures memory { kind_of error.now ≡ ErrorKind.OutOfMemory →
@@ -168,20 +168,20 @@ fn explain<W: Write, F: Write>(error: &Error, writer: &mut W, faults: &mut F) ->
 /// The program, with its words as `env::args` gives them, the program's own name first, and the files that it opens.
 ///
 /// `pfd run [--size N] [--history N]` serves the reader's lines to the writer from a fresh Book, whose history may have so many changes,
-/// 65,536 where the words don't say, over a fresh disk in memory of so many bytes, 1,048,576 where they don't. `pfd run --disk FILE` opens
-/// the disk that lies on the file in its place, whose length has to be the size if one is said. It waits by the machine's handle. `pfd format --disk
-/// FILE --size N` makes the file so many bytes long, and a disk that holds nothing. `pfd show --disk FILE` tells the writer what the disk
-/// holds that lies on the file, and doesn't write the file.
+/// 65,536 if the words don't say, over a fresh disk in memory of so many bytes, 1,048,576 if they don't. `pfd run --disk FILE` opens the
+/// disk on the file instead, whose length has to be the size if one is said. It waits by the machine's handle. `pfd format --disk FILE
+/// --size N` makes the file so many bytes long, and a disk that holds nothing. `pfd show --disk FILE` writes what the disk on the file
+/// holds, and leaves the file as it is.
 ///
-/// `pfd serve --listen ADDR --disk FILE --size N [--workers N] [--history N] [--sessions N]` opens the disk that lies on the file, whose
-/// length has to be the size, listens on the address, and tells the writer `listening ADDR`, with the address that it got, once it can be
-/// connected to. It serves so many connections at once, 4 where the words don't say, each as `serve_listener` has it, and ends once so many
-/// have ended, or never. `pfd connect ADDR` sends what the reader gives to such a server, and tells the writer what it answers.
+/// `pfd serve --listen ADDR --disk FILE --size N [--workers N] [--history N] [--sessions N]` opens the disk on the file, whose length has
+/// to be the size, listens on the address, and writes `listening ADDR`, with the address that it got, once it can be connected to. It
+/// serves so many connections at once, 4 if the words don't say, each as in `serve_listener`, and ends once so many have ended, or never.
+/// `pfd connect ADDR` sends what the reader gives to such a server, and writes what it answers.
 ///
-/// Status 0: the input ended, the disk was made or told, or help or the version was asked for, whose text goes to the writer. Status 1: one
-/// line on the faults says what failed, as [`Fault`] has it; what is wrong with the file is found before what is wrong with the disk.
-/// Status 2: the words were refused, as where there are none; the faults have clap's text, and nothing was read or written. Where the
-/// faults can't be written, the status alone tells. Words that aren't text don't come here but to `without_words`.
+/// Status 0: the input ended, the disk was made or shown, or help or the version was asked for, whose text goes to the writer. Status 1:
+/// one line on the faults says what failed, as in [`Fault`]; what is wrong with the file is found before what is wrong with the disk.
+/// Status 2: the words were refused, as when there are none; the faults have clap's text, and nothing was read or written. If the faults
+/// can't be written, only the status says it. Words that aren't text go to `without_words` instead.
 ///
 /// Whatever the words are, it is what they ask, or nothing is read. What the texts are, what becomes of files, and which other words are
 /// help or the version and which are refused, is only tested.
@@ -221,8 +221,8 @@ pub fn start<
     }
 }
 
-/// What the program does where its words couldn't be had: status 1 and `pfd: memory` on the faults where memory was
-/// refused, else status 2 and `pfd: a word isn't text`.
+/// What the program does if its words couldn't be had: status 1 and `pfd: memory` on the faults when out of memory, else status 2 and
+/// `pfd: a word isn't text`.
 pub fn without_words<F: Write>(error: &io::Error, faults: &mut F) -> u8
     ensures { result ≡ status_without_words (error_kind error.now) }
 {
@@ -235,8 +235,8 @@ pub fn without_words<F: Write>(error: &io::Error, faults: &mut F) -> u8
     }
 }
 
-// The same with the process's files and streams, and these words. Standard input is read as it is: the engine's own buffer takes all that is
-// there in one read.
+// The same with the process's files and streams, and these words. Standard input is read unbuffered: the engine's own buffer takes all
+// that is there in one read.
 fn start_with<N: Wait + Threads + Net<Listener = TcpListener, Stream = TcpStream> + Sync, F: Write>(
     machine: &N,
     rt: &HostRuntime,
@@ -251,7 +251,7 @@ fn start_with<N: Wait + Threads + Net<Listener = TcpListener, Stream = TcpStream
     Ok(start(machine, alloc, rt, words, &mut reader, &mut writer, faults))
 }
 
-// The same with the process's words; an error where they can't be had.
+// The same with the process's words; an error if they can't be had.
 fn start_on<N: Wait + Threads + Net<Listener = TcpListener, Stream = TcpStream> + Sync, F: Write>(
     machine: &N,
     rt: &HostRuntime,
@@ -263,8 +263,8 @@ fn start_on<N: Wait + Threads + Net<Listener = TcpListener, Stream = TcpStream> 
     start_with(machine, rt, words.as_slice(), faults)
 }
 
-/// The program over this process: its words, files, standard input, output and error. It gives the status to end with, as
-/// `start` and `without_words` say. It waits by a handle of its own, which is the process's too.
+/// The program over this process: its words, files, standard input, output and error. It returns the status to end with, as `start` and
+/// `without_words` say. It waits by a handle of its own, which is the process's too.
 pub fn run_process<N: Wait + Threads + Net<Listener = TcpListener, Stream = TcpStream> + Sync>(
     machine: &N,
     rt: &HostRuntime,

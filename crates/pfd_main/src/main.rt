@@ -1,4 +1,4 @@
-//! The program.
+//! The program: a `main` over `pfd`, which has all of it.
 #![tactic(auto)]
 
 use std::process::ExitCode;

@@ -90,10 +90,14 @@ fn follow<J: Chapter, R: Wait>(
     shared: Shared<Device, J, &R>,
     case: &Case,
 ) -> Result<Outcome, AllocError> {
-    let bytes = line_bytes(alloc, case.line.as_str())?;
-    let mut reader = bytes.as_slice();
+    let line = case.line.as_str();
+    let (input, limits) = line.split_once(" > ").unwrap_or((line, ""));
+    let input = line_bytes(alloc, input)?;
+    let waiting = &AtomicBool::new(false);
     let mut written = Vec::new(alloc);
-    let ended = serve_peer(rt, alloc, &mut reader, &mut written, &shared);
+    let mut reader = Script::new(input.as_slice(), waiting);
+    let mut writer = Tight::new(&mut written, limits, waiting);
+    let ended = serve_peer(rt, alloc, &mut reader, &mut writer, &shared);
     let end = end_of(alloc, ended, shared.close().log_len(), false)?;
     Ok(Outcome { end, written })
 }

@@ -1,30 +1,37 @@
 //! Readers and writers that follow a script.
 
 use std::io::{self, ErrorKind, Read, Write};
-use std::str::Split;
 use std::sync::atomic::{AtomicBool, Ordering};
 
 /// A reader whose reads each give the next piece, and after the last one are at the end. A piece `~` is an interruption, and `!` a fault. A
 /// read also fails while replies wait to be flushed.
 #[derive(Drop)]
 pub(crate) struct Script<'a> {
-    pieces: Split<'a, char>,
+    rest: &'a [u8],
     waiting: &'a AtomicBool,
 }
 
 impl<'a> Script<'a> {
-    /// The reader of a text with `|` between its pieces.
-    pub(crate) fn new(text: &'a [u8], waiting: &'a AtomicBool) -> Script<'a> {
+    /// The reader of these bytes, with `|` between its pieces.
+    pub(crate) fn new(bytes: &'a [u8], waiting: &'a AtomicBool) -> Script<'a> {
         Script {
-            pieces: std::str::from_utf8(text).unwrap_or("").split('|'),
+            rest: bytes,
             waiting,
         }
+    }
+
+    fn next_piece(&mut self) -> &'a [u8] {
+        let rest = self.rest;
+        let end = rest.iter().position(|byte| *byte == b'|');
+        let end = end.unwrap_or(rest.len());
+        self.rest = rest.get(end.saturating_add(1)..).unwrap_or(&[]);
+        rest.get(..end).unwrap_or(rest)
     }
 }
 
 impl Read for Script<'_> {
     fn read(&mut self, buf: &mut [u8]) -> io::Result<usize> {
-        let mut piece = self.pieces.next().unwrap_or("").as_bytes();
+        let mut piece = self.next_piece();
         if self.waiting.load(Ordering::SeqCst) || piece == b"!".as_slice() {
             return Err(io::Error::from(ErrorKind::Other));
         }

@@ -119,7 +119,7 @@ fn the_last_ticket_is_given_once(rt: HostRuntime) -> Result<(), Fail> {
     // No other is left, and this one stays valid.
     let refused = tickets.begin(&two[1..]);
     assert!(rt; refused == Err(TicketRefusal::TicketsExhausted));
-    let entry = pf_ticket::Entry {
+    let entry = pf_ticket::RulesetTicket {
         name: main,
         ticket: LAST,
     };

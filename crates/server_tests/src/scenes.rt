@@ -2,7 +2,7 @@
 ghost use Rattle.pfd_words.specs.declared.words.TheConstants.{HISTORY_LIMIT};
 ghost use Rattle.pf_book.specs.Books.{IsNamed};
 
-use crate::servers::{Answering, serve_clients};
+use crate::servers::{Answering, serve_clients, serve_until_it_fails};
 use crate::sharing::{answer_one, commit_at_once, judge_beside};
 use pfd::{Book, Chapter, HISTORY_LIMIT, MEMORY_SIZE, MemDisk, Opening, Shared, open_fresh};
 use std::alloc::Global;
@@ -24,6 +24,8 @@ enum Scene {
     Judges,
     /// The clients of a listener.
     Serves(Answering),
+    /// The clients of a listener that fails.
+    Fails,
 }
 
 fn play<
@@ -41,6 +43,7 @@ fn play<
         Scene::Commits => commit_at_once(rt, alloc, shared),
         Scene::Judges => judge_beside(rt, alloc, shared, seers),
         Scene::Serves(answering) => serve_clients(rt, alloc, &shared, seers, answering),
+        Scene::Fails => serve_until_it_fails(rt, alloc, &shared, seers),
     }
 }
 
@@ -79,4 +82,9 @@ fn sessions_overlap(rt: HostRuntime) -> Result<(), Fail> {
 #[test]
 fn connections_end_alone(rt: HostRuntime) -> Result<(), Fail> {
     play_alone(&rt, rt.alloc(), Scene::Serves(Answering::OneByOne))
+}
+
+#[test]
+fn a_failed_accept_ends_the_server(rt: HostRuntime) -> Result<(), Fail> {
+    play_alone(&rt, rt.alloc(), Scene::Fails)
 }

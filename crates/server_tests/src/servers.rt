@@ -1,12 +1,12 @@
 //! A listener with its sessions and its peers.
 use crate::peers::MESSAGE;
-use pfd::{Chapter, Gate, MemDisk, Seer, Shared, serve_listener};
+use pfd::{Accept, Chapter, EngineFault, Gate, MemDisk, Seer, Shared, serve_listener};
 use std::alloc::Global;
-use std::io::{self, Read, Write};
+use std::io::{self, ErrorKind, Read, Write};
 use std::net::{Net, Shutdown, SocketAddr, TcpListener, TcpStream};
 use std::process::Abort;
 use std::sync::Wait;
-use std::sync::atomic::{AtomicBool, Ordering};
+use std::sync::atomic::{AtomicBool, AtomicU32, Ordering};
 use std::test::*;
 use std::thread;
 use std::thread::Threads;
@@ -175,6 +175,63 @@ fn ask<N: Net<Listener = TcpListener, Stream = TcpStream> + Abort>(
         Answering::TwoAtOnce => ask_in_turn(net, alloc, server, gate),
         Answering::OneByOne => ask_one_by_one(net, alloc, server),
     }
+}
+
+/// A listener whose accepts say at first that a client gave up, then give two connections, and then fail.
+#[derive(Drop)]
+struct Unsteady<'a> {
+    listener: &'a TcpListener,
+    calls: AtomicU32,
+}
+
+impl Accept for Unsteady<'_> {
+    type Connection = TcpStream;
+
+    fn accept(&self) -> io::Result<TcpStream> {
+        match self.calls.fetch_add(1, Ordering::SeqCst) {
+            0 => Err(io::Error::from(ErrorKind::ConnectionAborted)),
+            1 | 2 => self.listener.accept().map(|accepted| accepted.0),
+            _ => Err(io::Error::from(ErrorKind::Other)),
+        }
+    }
+}
+
+// Two clients, each served to its end.
+fn ask_two<N: Net<Listener = TcpListener, Stream = TcpStream> + Abort>(
+    net: &N,
+    alloc: Global,
+    server: SocketAddr,
+) -> io::Result<()> {
+    for number in 1..3 {
+        let told = asked(net, alloc, server, b"log\n")?;
+        assert!(net;
+            told.as_str() == "log 0 acked 0 shown 0\n",
+            "client {number}"
+        );
+    }
+    Ok(())
+}
+
+/// Serves two clients by a listener that fails behind them, though it may have any number.
+pub(crate) fn serve_until_it_fails<
+    J: Chapter + Send + Sync,
+    R: Net<Listener = TcpListener, Stream = TcpStream> + Wait + Threads + Abort + Sync,
+>(rt: &R, alloc: Global, shared: &Shared<MemDisk, J, &R>, seers: Vec<Seer<J>>) -> Result<(), Fail> {
+    let listener = &TcpListener::bind(rt, "127.0.0.1:0")?;
+    let server = listener.local_addr()?;
+    let unsteady = &Unsteady {
+        listener,
+        calls: AtomicU32::new(0),
+    };
+    let gate = &Holding::new(true);
+    let (served, told) = thread::join(
+        rt,
+        || serve_listener(rt, alloc, unsteady, shared, seers, gate, 0),
+        || ask_two(rt, alloc, server),
+    );
+    told?;
+    assert!(rt; served == Err(EngineFault::Read));
+    Ok(())
 }
 
 /// Serves clients by a listener until all have ended.

@@ -1,11 +1,11 @@
-//! What the program tells of a session.
+//! What the program says of a session.
 ghost use Rattle.std.specs.Prelude.{◌≡◌};
 ghost use Rattle.pfd.specs.Program.{ended};
 
 use pf_session::EngineFault;
 use pfd_files::Fault;
 
-/// A session's end, with its fault as the program tells it.
+/// A session's end, with its fault as the program says it.
 pub(crate) fn told(session: Result<(), EngineFault>) -> Result<(), Fault>
     ensures { result ≡ ended session }
 {

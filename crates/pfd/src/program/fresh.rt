@@ -10,7 +10,7 @@ use pf_store::format;
 use pfd_files::{Fault, is_size};
 use std::alloc::Global;
 
-/// Makes a disk hold nothing, whatever it held, and opens it. `Err` says what kept it from that, and the disk is dropped.
+/// Makes a disk hold nothing, whatever it held, and opens it. `Err` says what prevented that, and the disk is dropped.
 pub fn open_fresh<D: Disk + Drop>(alloc: Global, mut disk: D) -> Result<Opening<D>, Fault>
     requires few { D.fault_count disk < 2 ^ 63 }
     ensures size { IfOk result (λ _. IsSize (length (D.seen disk))) }

@@ -1,4 +1,4 @@
-//! The server of the program: what it listens on and serves no clause can say, so this is only tested.
+//! The program's server. No clause can say what it listens on and serves, so this is only tested.
 ghost use Rattle.std.specs.Prelude.{◌≡◌, ℕ, List};
 ghost use Rattle.pf_addr.specs.Writing.{Writes};
 ghost use Rattle.pf_book.specs.Books.{IsNamed};
@@ -72,7 +72,7 @@ fn serve_opening<
     ))
 }
 
-// Listens on an address, and tells which one it got.
+// Listens on an address, and writes which one it got.
 fn listen<N: Net<Listener = TcpListener, Stream = TcpStream>, W: Write>(
     net: &N,
     alloc: Global,
