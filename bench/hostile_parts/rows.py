@@ -121,12 +121,17 @@ def play_sessions(table, count):
 
 
 def play_peers(table, count):
+    """Streams whose reads and writes all go well, in whatever pieces they come."""
     for row in itertools.chain.from_iterable(table.played()):
-        given, _, reply = row.split(" -> ") if row.count(" -> ") == 2 else (*row.split(" -> "), "")
+        given, *rest = row.split(" -> ")
+        given, _, limits = given.partition(" > ")
+        pieces = [piece for piece in bytes_of(given).split(b"|") if piece != b"~"]
+        if b"!" in pieces or not re.fullmatch(r"(interrupted \d+)?", limits):
+            continue
         session = table.session()
-        messages, fault = read_stream(bytes_of(given))
+        messages, fault = read_stream(b"".join(pieces))
         said = session.stream(messages) + ([f"err peer {fault}"] if fault else [])
-        count.compare(f"{table.name}: {row}", reply_of(reply), "".join(f"{line}\n" for line in said))
+        count.compare(f"{table.name}: {row}", reply_of(rest[1] if len(rest) > 1 else ""), "".join(f"{line}\n" for line in said))
 
 
 def play_table(table, count):
