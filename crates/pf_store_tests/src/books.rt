@@ -4,9 +4,11 @@ ghost use Rattle.pf_store_tests.specs.declared.books.TheConstants.{HISTORY_LIMIT
 
 use crate::rows::GROUPED;
 use pf_book::{Book, Chapter, Disk, Opening, Reply};
+use pf_core::{Command, StateCommand};
 use pf_disk::MemDisk;
 use pf_line::{parse_line, write_reply};
 use pf_snap::look;
+use pf_state::Message;
 use std::alloc::{AllocError, Global};
 use std::sync::Wait;
 
@@ -56,11 +58,30 @@ pub fn reply<D: Disk + Drop, J: Chapter, H: Wait + Drop>(
     if let Some(lines) = line.strip_prefix("group") {
         return group_replies(alloc, book, lines.trim_start());
     }
-    let reply = match parse_line(alloc, line.as_bytes()) {
+    line_reply(alloc, book, line.as_bytes())
+}
+
+/// The reply to a line of any bytes, with bars between its lines.
+pub fn line_reply<D: Disk + Drop, J: Chapter, H: Wait + Drop>(
+    alloc: Global,
+    book: &mut Book<D, J, H>,
+    line: &[u8],
+) -> Result<String, AllocError> {
+    let reply = match parse_line(alloc, line) {
         Ok(Some(command)) => book.run(command),
         Ok(None) => return Ok(String::new(alloc)),
         Err(refusal) => Reply::Refused(refusal),
     };
+    text_of(alloc, &reply)
+}
+
+/// The reply to a peer's message.
+pub fn message_reply<D: Disk + Drop, J: Chapter, H: Wait + Drop>(
+    alloc: Global,
+    book: &mut Book<D, J, H>,
+    message: Message,
+) -> Result<String, AllocError> {
+    let reply = book.run(Command::States(StateCommand::Peer(message)));
     text_of(alloc, &reply)
 }
 

@@ -2,6 +2,7 @@
 ghost use Rattle.std.specs.Prelude.{◌≡◌, length, IfOk};
 ghost use Rattle.pf_disk.specs.Disk.{IsSynced};
 
+use crate::chance::Chance;
 use crate::records::{START, with_two};
 use pf_disk::{Disk, FileDisk, Fill, MemDisk};
 use pf_journal::{ReadFault, read_all};
@@ -44,13 +45,10 @@ fn device(alloc: Global, file: File) -> Result<FileDisk, ReadFault>
 
 /// Makes a thousand reads, writes and syncs, the same ones each time: returns all that the reads gave.
 fn played<D: Disk>(alloc: Global, disk: &mut D) -> Result<Vec<u8>, ReadFault> {
-    let mut random = 0x2545_F491_4F6C_DD1Du64;
+    let mut chance = Chance::new(0x2545_F491_4F6C_DD1D);
     let mut given = Vec::new(alloc);
     for _ in 0..1000u32 {
-        random = random
-            .wrapping_mul(6_364_136_223_846_793_005)
-            .wrapping_add(1_442_695_040_888_963_407);
-        play_call(disk, random, &mut given)?;
+        play_call(disk, chance.number(), &mut given)?;
     }
     Ok(given)
 }

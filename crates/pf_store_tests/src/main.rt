@@ -10,18 +10,26 @@
 //! - `files`: a thousand calls on a file beside the same calls in memory, and files that aren't taken as a device: one has another length,
 //!   one can't be synced.
 //! - `saves`: the rows of `stdin`, whose head says how they are written, on devices in memory: openings, saves, crashes and faults.
+//!   Behind them, in its `stops`, devices that tear a call and openings that are stopped, and in its `chances` lines, streams and images at
+//!   random.
 //! - `books`: lines over a `Book` of `pf_book`, and what is read of its device; `saves` uses it.
-//! - `rows`: how rows are spelled; `saves` and `books` use it.
+//! - `streams`: peers' streams over a `Book`, at random and in pieces; `saves` uses it.
+//! - `words`: lines and messages at random, of words that rows give.
+//! - `chance`: numbers that look random, and how often each outcome came.
+//! - `rows`: how rows are spelled.
 //!
 //! Nothing is proved here but that the tests keep the contracts of what they call.
 #![tactic(auto)]
 
 mod books;
+mod chance;
 mod crashes;
 mod files;
 mod records;
 mod rows;
 mod saves;
+mod streams;
+mod words;
 
 use pf_journal::ReadFault;
 use std::io;

@@ -1,5 +1,6 @@
 // How rows are spelled. The head of `stdin` says what each kind means.
 
+use crate::chance::Chance;
 use std::alloc::{AllocError, Global};
 
 /// What is written between the lines of a group, and between its replies.
@@ -85,13 +86,22 @@ pub fn put_bytes(bytes: &mut Vec<u8>, changes: &str) {
     }
 }
 
+/// The bytes that pairs of hexadecimal digits stand for. A pair that is none is left out.
+pub fn bytes_of(alloc: Global, digits: &str) -> Result<Vec<u8>, AllocError> {
+    let mut bytes = Vec::new(alloc);
+    for pair in digits.as_bytes().chunks(2) {
+        let pair = std::str::from_utf8(pair).unwrap_or("");
+        if let Ok(byte) = u8::from_str_radix(pair, 16) {
+            bytes.push(byte)?;
+        }
+    }
+    Ok(bytes)
+}
+
 /// Fills with random bytes, the same ones each time for a seed.
 pub fn fill_at_random(bytes: &mut Vec<u8>, seed: u64) {
-    let mut random = seed;
+    let mut chance = Chance::new(seed);
     for byte in bytes.iter_mut() {
-        random = random
-            .wrapping_mul(6_364_136_223_846_793_005)
-            .wrapping_add(1_442_695_040_888_963_407);
-        *byte = (random >> 56) as u8;
+        *byte = (chance.number() >> 56) as u8;
     }
 }

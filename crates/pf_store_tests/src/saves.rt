@@ -3,12 +3,16 @@ ghost use Rattle.std.specs.Prelude.{◌≡◌, IfOk};
 ghost use Rattle.pf_book.specs.Books.{IsNamed};
 ghost use Rattle.pf_store_tests.specs.declared.books.TheConstants.{HISTORY_LIMIT};
 
+mod chances;
+mod stops;
+
 use crate::books::{HISTORY_LIMIT, closed_gate, replies, replies_over, reply};
 use crate::crashes::fill;
 use crate::rows::{
     GROUPED, Segment, cut_bar, cut_word, fill_at_random, lines_of, number, put_bytes, segments,
     tell_row,
 };
+use crate::words::Words;
 use pf_book::{Book, Chapter, Disk, FuseDisk, MemDisk, OpenFault, Opening, format};
 use pf_disk::Fill;
 use pf_snap::NEWEST;
@@ -19,7 +23,7 @@ use std::sync::Wait;
 
 /// The replies to these lines say all that the rows keep, but for the epoch.
 const QUESTIONS: &str =
-    "show rules - | show rules web | show tables - | show tables web | show states";
+    "show rules - | show rules web | show tables - | show tables web | show states | sum";
 
 /// The calls of an opening and of a save, and one more.
 const CALLS: u64 = 14;
@@ -36,6 +40,7 @@ struct Bench<H: Wait + Drop + Copy> {
     questions: Vec<String>,
     /// What was kept in that opening: at its start, and after each save.
     kept: Vec<String>,
+    words: Words,
 }
 
 /// What a device is opened as, and the device after that.
@@ -60,6 +65,7 @@ pub fn play<H: Wait + Drop + Copy>(
         bytes: Vec::new(alloc),
         questions: lines_of(alloc, QUESTIONS)?,
         kept: Vec::new(alloc),
+        words: Words::new(alloc),
     };
     for segment in &segments(alloc, text)? {
         bench.play_segment(told, segment)?;
@@ -136,6 +142,11 @@ impl<H: Wait + Drop + Copy> Bench<H> {
             "faults" => self.tell_faults(told, rest),
             "failing" => self.tell_failing(told, rest),
             "pairs" => self.tell_pairs(told, rest),
+            "torn" => self.tell_torn(told, rest),
+            "word" => self.add_word(told, rest),
+            "streams" => self.tell_streams(told, rest),
+            "cuts" => self.tell_cuts(told, rest),
+            "images" => self.tell_images(told, rest),
             _ => Ok(()),
         }
     }
@@ -148,13 +159,22 @@ impl<H: Wait + Drop + Copy> Bench<H> {
     ) -> Result<(), AllocError> {
         let (word, rest) = cut_word(row);
         match word {
-            "bytes" | "with" | "openings" | "faults" | "failing" | "pairs" => {
-                self.play_device(told, row)
-            }
+            "bytes"
+            | "with"
+            | "openings"
+            | "faults"
+            | "failing"
+            | "pairs"
+            | "torn"
+            | "streams"
+            | "cuts"
+            | "images" => self.play_device(told, row),
             "times" => self.call_often(told, book, rest),
             "snapshot" => self.tell_snapshot(told, book),
             "crash" => self.tell_crash(told, book.disk(), rest),
             "crashes" => self.tell_crashes(told, book.disk()),
+            "stopped" => self.tell_stopped(told, book.disk()),
+            "lines" => self.tell_lines(told, book, rest),
             "each" => self.tell_each_byte(told, book.disk(), number(rest)),
             _ => self.call(told, book, row),
         }
@@ -403,24 +423,27 @@ impl<H: Wait + Drop + Copy> Bench<H> {
     ) -> Result<(), AllocError>
         requires { ⟦<FuseDisk<MemDisk> as Disk>⟧.fault_count disk ≡ 0 }
     {
-        let disk = match Opening::open(self.alloc, disk) {
-            Ok(opening) => {
-                let (text, disk) = replies_over::<_, Brand, _>(
-                    self.waits, self.alloc, opening, lines,
-                )?;
-                told.push_str(&text)?;
-                disk
-            }
-            Err((fault, disk)) => {
-                write!(told, "{fault:?}")?;
-                disk
-            }
-        };
+        let (text, disk) = self.played(disk, lines)?;
+        told.push_str(&text)?;
         let below = disk.into_inner();
         told.push_str("; then ")?;
         self.tell_opened(told, below.image(self.alloc, u64::MAX, Fill::Old)?)?;
         told.push_str("; or ")?;
         self.tell_opened(told, below.image(self.alloc, u64::MAX, Fill::New)?)
+    }
+
+    /// Plays an opening and some lines: what the lines come to, or why it isn't opened, and the device.
+    fn played(
+        &self,
+        disk: FuseDisk<MemDisk>,
+        lines: &[String],
+    ) -> Result<(String, FuseDisk<MemDisk>), AllocError>
+        requires { ⟦<FuseDisk<MemDisk> as Disk>⟧.fault_count disk ≡ 0 }
+    {
+        match Opening::open(self.alloc, disk) {
+            Ok(opening) => { replies_over::<_, Brand, _>(self.waits, self.alloc, opening, lines) }
+            Err((fault, disk)) => Ok((format!(in self.alloc; "{fault:?}")?, disk)),
+        }
     }
 
     /// Plays each of some lines with each of them after it, in one group and after other lines: writes the replies to the two, and whether

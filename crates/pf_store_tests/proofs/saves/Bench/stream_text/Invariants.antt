@@ -1,0 +1,10 @@
+use Rattle.pf_book.specs.Books.{setting_of}
+use Rattle.pf_store_tests.specs.declared.books.TheConstants.{HISTORY_LIMIT}
+use Rattle.pf_store_tests.proofs.saves.Bench.stream_text.Given as goal
+
+-- the opening is named by what it gave, its history, and its limits
+abbrev pub ghosts-stream_over-J-Naming : goal.ghosts-stream_over-J-Naming
+ghosts-stream_over-J-Naming g a = record { base = a.opening.given; history = a.opening.history }
+
+abbrev pub ghosts-stream_over-J-Chapter : goal.ghosts-stream_over-J-Chapter
+ghosts-stream_over-J-Chapter g a = record { setting = setting_of a.opening HISTORY_LIMIT }
