@@ -19,8 +19,8 @@
 //! `nets_are_read_as_spelled`, `path::laws::paths_are_read_as_spelled` and their like); any other is refused for the one fault that it
 //! has (`faults_of_addrs_are_told`, `faults_of_nets_are_told`, `path::laws::faults_of_names_are_told`); what is written is read again,
 //! and no two values share a text; a network contains exactly the addresses that begin with its bits (`networks_contain_by_bits`); bytes
-//! give back what was written (`networks_have_bytes_of_their_own`, `path::laws::names_have_bytes_of_their_own`). Nothing is only tested
-//! here.
+//! give back what was written (`networks_have_bytes_of_their_own`, `path::laws::names_have_bytes_of_their_own`).
+//! Only tests of other crates show that memory runs out only if a growth was refused.
 #![tactic(auto)]
 
 mod addr;

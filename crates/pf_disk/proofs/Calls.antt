@@ -46,7 +46,7 @@ at_last first events event =
     ] in
     ap (λ (k : ℕ). after (at_rest first) (take k (events ++ event ∷ []))) number ∙ by_case (is_sync event)
 
--- what a event makes of the images
+-- what an event makes of the images
 abbrev Shows : State → List ℕ → Type 0
 Shows s c = IsImage s.seen s.unsynced c
 
@@ -169,7 +169,7 @@ wrote first old_bytes new_bytes size old new at n bytes keeps fits len is writte
       time = it.time;
     }
 
--- the bytes that stand there already
+-- the bytes that are there already
 pub written_again : (at n : ℕ) (bytes : List ℕ) → at + n ≤ length bytes → bytes ≡ overwritten bytes at (take n (drop at bytes))
 written_again at n bytes fits =
     let len : length (take n (drop at bytes)) ≡ n = omega (arith, length-take n (drop at bytes), length-drop at bytes, fits) in

@@ -3,7 +3,7 @@ use Rattle.std.proofs.Common.{inl, inr, ⊎_elim, ℕ, Bool, List, arith}
 use Rattle.pf_disk.specs.Disk.{Elapses, EachMoment, IsImage}
 
 module _ {D : Type 0} (moment : D → ℕ) (left_since : D → ℕ → List ℕ → Type 0) where
-  -- a run by a layer below, told in this layer's words
+  -- a run by a layer below, said in this layer's words
   pub weakened : (old new : D) (P Q : List ℕ → Type 0) → EachMoment moment left_since old new P → ((c : List ℕ) → P c → Q c) → EachMoment moment left_since old new Q
   weakened old new P Q run tells = record {
     later = run.later;

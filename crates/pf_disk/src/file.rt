@@ -13,11 +13,11 @@ use std::os::unix::fs::FileExt;
 /// Why a file isn't taken as a device. Nothing was written to it.
 #[derive(Clone, Copy, Debug)]
 pub enum FileFault {
-    /// The file hasn't the length that it has to have.
+    /// The file doesn't have the length that it must have.
     WrongLength,
-    /// Its length couldn't be read, or its bytes, or they couldn't be synced.
+    /// Its length or its bytes couldn't be read, or they couldn't be synced.
     Fault,
-    /// Memory for its bytes was refused.
+    /// Out of memory for its bytes.
     Memory,
 }
 
@@ -34,7 +34,7 @@ impl From<AllocError> for FileFault {
 /// The bytes that a read has to give are kept in memory too, and a read that finds others in the file is a fault. No clause
 /// can say what a file holds: that its bytes after a crash are as a `Disk` says is a premise, and no promise.
 ///
-/// After a write that failed the file may hold any bytes in that range, and after a sync that failed the system may have dropped what was to
+/// After a failed write the file may hold any bytes in that range, and after a failed sync the system may have dropped what was to
 /// be written, so that the next sync succeeds without it. Then the device is broken: each later call is a fault, and the file isn't touched
 /// any more. Only a new device over the file, which reads it again, goes on.
 #[derive(Drop)]

@@ -99,6 +99,7 @@ impl<D: Disk> FuseDisk<D> {
         requires within { at + length bytes.now ≤ length (D.seen self.old.inner) }
         requires few { D.fault_count self.old.inner + self.old.refused < 2 ^ 63 }
         ensures fuse { self.new.fuse ≡ Whole }
+        ensures passed { self.new.passed ≡ self.old.passed }
         ensures fails { OnOk result ⊥ }
         ensures elsewhere { IsImage (D.seen self.old.inner) (is_within at (length bytes.now)) (D.seen self.new.inner) }
         ensures unsynced { AreIn (D.unsynced self.new.inner) (with_range at (length bytes.now) (D.unsynced self.old.inner)) }
@@ -220,6 +221,7 @@ impl<D: Disk> Disk for FuseDisk<D> {
         requires within { at + length buf.old ≤ length (D.seen self.old.inner) }
         requires few { D.fault_count self.old.inner + self.old.refused < 2 ^ 63 }
         ensures fuse { self.new.fuse ≡ burnt self.old.fuse }
+        ensures passed { self.new.passed ≡ passed_on self.old.fuse self.old.passed }
         ensures refused { self.new.refused ≡ counted self.old.fuse self.old.refused }
         ensures not_passed_on { blows self.old.fuse ≡ true → self.new.inner ≡ self.old.inner }
         ensures refuses { OnOk result (blows self.old.fuse ≡ false) }
@@ -241,6 +243,7 @@ impl<D: Disk> Disk for FuseDisk<D> {
         requires within { at + length bytes.now ≤ length (D.seen self.old.inner) }
         requires few { D.fault_count self.old.inner + self.old.refused < 2 ^ 63 }
         ensures fuse { self.new.fuse ≡ burnt self.old.fuse }
+        ensures passed { self.new.passed ≡ passed_on self.old.fuse self.old.passed }
         ensures refused { tears self.old.fuse ≡ false → self.new.refused ≡ counted self.old.fuse self.old.refused }
         ensures not_passed_on { blows self.old.fuse ≡ true → tears self.old.fuse ≡ false → self.new.inner ≡ self.old.inner }
         ensures refuses { OnOk result (blows self.old.fuse ≡ false) }
@@ -266,6 +269,7 @@ impl<D: Disk> Disk for FuseDisk<D> {
     fn sync(&mut self) -> Result<(), DiskFault>
         requires few { D.fault_count self.old.inner + self.old.refused < 2 ^ 63 }
         ensures fuse { self.new.fuse ≡ burnt self.old.fuse }
+        ensures passed { self.new.passed ≡ passed_on self.old.fuse self.old.passed }
         ensures refused { self.new.refused ≡ counted self.old.fuse self.old.refused }
         ensures not_passed_on { blows self.old.fuse ≡ true → self.new.inner ≡ self.old.inner }
         ensures refuses { OnOk result (blows self.old.fuse ≡ false) }

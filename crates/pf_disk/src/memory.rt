@@ -15,7 +15,7 @@ pub(crate) enum Call {
 }
 
 /// A device in memory, which keeps all its calls, so that a crash during any of them can be looked at. They are numbered
-/// from 1. A call that can't be kept for want of memory is a fault, changes nothing else and has no number.
+/// from 1. A call that can't be kept for lack of memory is a fault, changes nothing else and has no number.
 #[derive(Drop)]
 pub struct MemDisk {
     alloc: Global,
@@ -33,7 +33,7 @@ impl MemDisk {
     ghost use Rattle.pf_disk.specs.Calls.{counting, state_at, IsImageAt};
     ghost use Rattle.pf_disk.specs.Filled.{FillsAll, IsFilled, GivesItsBytes, Shows};
 
-    /// A device with these bytes, all of them synced, before its first call. `Err`: memory was refused.
+    /// A device with these bytes, all of them synced, before its first call. `Err`: out of memory.
     pub fn of(alloc: Global, bytes: Vec<u8>) -> Result<Self, AllocError>
         ensures first { IfOk result (λ disk. first_of disk ≡ bytes.items) }
         ensures calls { IfOk result (λ disk. events_of disk ≡ []) }
@@ -51,7 +51,7 @@ impl MemDisk {
     }
 
     /// What a crash during call number `moment` leaves, the unsynced places filled: before the first call for 0, after the
-    /// last for a greater number. A fill by bytes has one for each place. `Err`: memory was refused.
+    /// last for a greater number. A fill by bytes has one for each place. `Err`: out of memory.
     pub fn image(&self, alloc: Global, moment: u64, fill: Fill) -> Result<Vec<u8>, AllocError>
         requires { FillsAll fill (length (⟦<MemDisk as Disk>⟧.seen self.now)) }
         ensures filled { IfOk result (λ image. IsFilled fill.entry (state_at (first_of self.now) (events_of self.now) moment) image.items) }

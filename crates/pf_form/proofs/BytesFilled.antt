@@ -63,7 +63,7 @@ up_to_zeros P none (zero ∷ bs) n all = let first = (and_parts (P 0) (list_all 
 up_to_zeros P none (suc b ∷ bs) n all =
     take_while-cons (nat_lt 0) (suc b) (bs ++ replicate n 0) ∙ rw (lt-ltb 0 (suc b) (omega arith)) (ap (λ (l : List ℕ). suc b ∷ l) (up_to_zeros P none bs n (and_parts (P (suc b)) (list_all P bs) all).1))
 
--- what has bytes of which none is zero is the name of the field that it fills
+-- a name without zeros is the name in the field that it fills
 pub name_filled : (P : ℕ → Bool) → P 0 ≡ false → (width : ℕ) (name : List ℕ) → list_all P name ≡ true → before_zero (filled width name) ≡ name
 name_filled P none width name all = up_to_zeros P none name (width - length name) all
 

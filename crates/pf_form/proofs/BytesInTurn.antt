@@ -1,4 +1,4 @@
--- Reading and writing one value after the other, as a loop does.
+-- Reading and writing one value after another, as a loop does.
 use Rattle.std.proofs.{Common.{◌≡◌, ℕ, Bool, true, suc, ◌-◌, ◌+◌, ◌≤◌, ◌<◌, List, [], ◌∷◌, ◌++◌, length, Ok, Err, refl, sym, ap, ◌∙◌, append_assoc, arith}, lemmas.List.append-nil}
 use Rattle.std.specs.Prelude.{map}
 use Rattle.pf_form.specs.declared.bytes.fault.Stop.{Stop}

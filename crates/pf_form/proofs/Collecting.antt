@@ -30,7 +30,7 @@ fault_of s (Ok x) h = absurd h
 fault_of s (Err d) h = (d, refl, h)
 
 module _ (A : Type 0) (read : Reader A) (shrinks : Shrinks read) where
-  -- a part that is read has fewer words behind it
+  -- after a part that is read fewer words are left
   pub fewer : (ws vs : List (Bor Word)) (x : A) → read (texts ws) ≡ Ok (x, texts vs) → length vs < length ws
   fewer ws vs x e = omega (arith, shrinks (texts ws) x (texts vs) e, length-texts ws, length-texts vs)
 

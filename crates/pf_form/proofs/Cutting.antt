@@ -1,4 +1,4 @@
--- The words of a line stand between blanks, and are all that stands so.
+-- The words of a line are what is between its blanks, and there are no others.
 use Rattle.std.proofs.{Common.{◌≡◌, ℕ, ◌<◌, Bool, true, false, List, [], ◌∷◌, ◌++◌, length, refl, sym, ap, subst, ◌∙◌, append-nil, append_assoc, arith}, lemmas.Bool.lt-ltb, lemmas.List.Elements.{All-nil, All-cons, All-head, All-tail}, lemmas.List.Splits.{slice_split_none, slice_split-cons_yes, slice_split_at}}
 use Rattle.std.specs.{Prelude.{nat_lt, filter, All}, List.slice_split}
 use Rattle.pf_form.specs.{Form.Words.{Word, is_blank, words_of}, Form.Cuts.{AreBlanks, IsWord, EndsWord, IsFirstWord, IsCut}}
@@ -37,7 +37,7 @@ cut_only line (w ∷ ws) h =
 
 -- ---- a line has words
 
--- what stands before the first blank, and the words behind it
+-- what comes before the first blank, and the words after it
 record Parts (line : List ℕ) : Type 0 where
   pub front : List ℕ
   pub behind : List ℕ

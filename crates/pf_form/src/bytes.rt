@@ -2,8 +2,8 @@
 //!
 //! How a record lies in bytes is written once, as a value of the type `Form` of `specs/Bytes/Forms.antt`. What a value is written as, which
 //! values can be written, how bytes are read, and at which byte they go wrong, are each a function of the form. The laws hold
-//! of every form, so a record of one's own brings its form, a reader and a writer, and no proof. Numbers stand in big-endian order: the
-//! highest byte first. A type has a form in each version (`Layout`); what its parts are read and written by stands here.
+//! for every form, so a new record needs a form, a reader and a writer, and no proof. Numbers are big-endian: the
+//! highest byte first. A type has a form in each version (`Layout`); this module has what reads and writes its parts.
 
 mod codes;
 mod fault;

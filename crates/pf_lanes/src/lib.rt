@@ -16,7 +16,8 @@
 //!
 //! Proved: each bit of a mask is the match of its rule ([`Probe::block`], [`Probe::matching`], [`match_one_by_one`]); no rule in the
 //! blocks that [`Probe::next_near`] passes over matches; [`longest`] finds a longest network that contains the address, if any. With the
-//! tables' own answers, the match is that of `pf_rule` (`answers_handed_in_are_what_tables_say`). Nothing is only tested here.
+//! tables' own answers, the match is that of `pf_rule` (`answers_handed_in_are_what_tables_say`).
+//! Only tests of other crates show that memory runs out only if a growth was refused.
 #![tactic(auto)]
 
 mod columns;

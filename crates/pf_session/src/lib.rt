@@ -12,7 +12,8 @@
 //! rules, tables and states itself: each command goes to a Book. It knows no words of a program, no files and no sockets.
 //!
 //! Proved: a session's bytes are the replies to its lines in order, and the Book gets the calls that they mean, however the session ends
-//! (`serve_alone`, `serve_from`, `serve_peer_from`). Nothing is only tested here.
+//! (`serve_alone`, `serve_from`, `serve_peer_from`).
+//! Only tests of other crates show that memory runs out only if a growth was refused; that the writer is flushed before each read, and that no other calls are made.
 //!
 //! Read `specs/Serving.antt` first: which calls lines come to. Then `specs/LineEngine/Sessions.antt`: what a session read and wrote.
 #![tactic(auto)]

@@ -14,7 +14,8 @@
 //!
 //! Proved: what each step answers, refuses and leaves (the contracts of `Tickets`); that a ticket is valid exactly from the begin that gave
 //! it until the next step that touches its ruleset, that what is offered is what was added and defined with it, that each step leaves other
-//! rulesets alone, that no ticket is given twice, and that the limits hold (`laws`). Nothing is only tested here.
+//! rulesets alone, that no ticket is given twice, and that the limits hold (`laws`).
+//! Only tests of other crates show that memory runs out only if a growth was refused.
 #![tactic(auto)]
 
 mod defined;

@@ -1,9 +1,9 @@
--- What forms of bytes are made of: readers and their laws, numbers, constants, one part behind another.
+-- What forms of bytes are made of: readers and their laws, numbers, constants, one part after another.
 use Rattle.std.specs.Prelude.{◌≡◌, ◌==◌, ◌<◌, ℕ, zero, suc, Bool, true, false, not, nat_lt, List, [], ◌∷◌, ◌++◌, length, drop, Result, Ok, Err, ◌⊎◌, if◌then◌else◌}
 use Rattle.byteorder.specs.Endian.{big_number, big_bytes}
 use Rattle.pf_form.specs.declared.bytes.fault.{Fault.Fault, Fault.TheVariants.{Short, Bad}}
 
--- ---- reading: a value and the bytes behind it; or that there are too few; or how many are left where they go wrong
+-- ---- reading: a value and the bytes after it; or that there are too few; or how many are left where they go wrong
 
 abbrev pub Read : Type 0 → Type 0
 Read A = Result (A × List ℕ) Fault
@@ -21,26 +21,26 @@ abbrev pub Bytes : List ℕ → Type 0
 Bytes [] = Unit {0}
 Bytes (b ∷ bs) = (b < 256) × Bytes bs
 
--- behind these bytes, with those left, something stands that can't
+-- after these bytes, with those left, comes something that isn't allowed
 abbrev pub Faulting : Type 1
 Faulting = List ℕ → List ℕ → Type 0
 
 -- A reader and a writer that belong together.
 pub record Laws (A : Type 0) (read : Reader A) (write : A → List ℕ) (fits : A → Type 0) (faults : Faulting) : Type 0 where
-  -- bytes that were written are read back, and what stands behind them is left
+  -- bytes that were written are read back, and what comes after them is left
   pub again : (x : A) (rest : List ℕ) → fits x → read (write x ++ rest) ≡ Ok (x, rest)
   -- nothing else is read
   pub takes : (bytes : List ℕ) (x : A) (rest : List ℕ) → Bytes bytes → read bytes ≡ Ok (x, rest) → fits x × (bytes ≡ write x ++ rest)
   -- where bytes are missing they are too few, and not wrong
   pub short : (x : A) (front : List ℕ) (b : ℕ) (more : List ℕ) → fits x → write x ≡ front ++ b ∷ more → read front ≡ Err Short
-  -- what can't stand is refused at its place
+  -- what isn't allowed is refused at its place
   pub faulty : (front rest : List ℕ) → faults front rest → read (front ++ rest) ≡ Err (Bad (length rest))
   -- nothing else is refused as wrong
   pub stops : (bytes : List ℕ) (left : ℕ) → Bytes bytes → read bytes ≡ Err (Bad left) → (front rest : List ℕ) × (bytes ≡ front ++ rest) × (length rest ≡ left) × faults front rest
-  -- further bytes make nothing good
+  -- no further bytes make it right
   pub stays : (front rest more : List ℕ) → faults front rest → faults front (rest ++ more)
 
--- a part of one's own, with its laws
+-- a part with a reader and a writer of its own, with its laws
 pub record Part (A : Type 0) : Type 0 where
   pub read : Reader A
   pub write : A → List ℕ
@@ -69,12 +69,12 @@ Differs (k ∷ ks) [] [] = ⊥
 Differs (k ∷ ks) [] (b ∷ rest) = (b == k) ≡ false
 Differs (k ∷ ks) (c ∷ before) rest = (c ≡ k) × Differs ks before rest
 
--- ---- one part, and what stands behind it
+-- ---- one part, and what comes after it
 
 abbrev pub joined : {A B C : Type 0} → (A → B → C) → Reader A → (A → Reader B) → Reader C
 joined join first second bytes = first bytes >>= λ x. second x.0 x.1 >>= λ y. Ok (join x.0 y.0, y.1)
 
--- in the one, or behind it in the next
+-- in the one, or after it in the next
 abbrev pub JoinedFaults : {A : Type 0} → (A → List ℕ) → (A → Type 0) → Faulting → (A → Faulting) → Faulting
 JoinedFaults {A = A} write fits faults next before rest =
     faults before rest ⊎ ((x : A) × (m : List ℕ) × fits x × (before ≡ write x ++ m) × next x m rest)
@@ -87,7 +87,7 @@ abbrev pub TimesFaults : {A : Type 0} → ℕ → (A → List ℕ) → (A → Ty
 TimesFaults zero write fits faults before rest = ⊥
 TimesFaults (suc n) write fits faults before rest = JoinedFaults write fits faults (λ x. TimesFaults n write fits faults) before rest
 
--- each pushed behind what is there
+-- each appended to what is there
 abbrev pub onto_each : {A : Type 0} → (A → List ℕ → List ℕ) → List A → List ℕ → List ℕ
 onto_each push [] out = out
 onto_each push (x ∷ xs) out = onto_each push xs (push x out)
@@ -97,14 +97,14 @@ onto_each push (x ∷ xs) out = onto_each push xs (push x out)
 abbrev pub only_if : {A : Type 0} → (A → Bool) → Reader A → Reader A
 only_if test read bytes = read bytes >>= λ x. if test x.0 then Ok (x.0, x.1) else Err (Bad (length bytes))
 
--- within the part; or at its first byte, where the value that stands there lacks the property
+-- within the part; or at its first byte, if the value there lacks the property
 abbrev pub ThatFaults : {A : Type 0} → (A → Bool) → (A → List ℕ) → (A → Type 0) → Faulting → Faulting
 ThatFaults {A = A} test write fits faults before rest =
     faults before rest ⊎ ((before ≡ []) × (x : A) × (m : List ℕ) × fits x × (test x ≡ false) × (rest ≡ write x ++ m))
 
 -- ---- a choice by the first byte
 
--- whether it is this one, and what is behind it if so
+-- whether it is this one, and what comes after it if so
 abbrev pub is_next : ℕ → Reader Bool
 is_next k [] = Err Short
 is_next k (b ∷ bytes) = if b == k then Ok (true, bytes) else Ok (false, b ∷ bytes)

@@ -4,7 +4,7 @@ use Rattle.std.specs.{Prelude.{◌≡◌, ◌<◌, ◌^◌, ◌+◌, ℕ, Bool, 
 use Rattle.std.proofs.Common.{inl, inr}
 use Rattle.pf_form.specs.Bytes.BasicForms.{Reader, Part, number_at, number_bytes, constant_at, Differs, joined, times_by, if_first, seen_as, only_if, begins_otherwise, onto_each, Faulting, JoinedFaults, TimesFaults, ThatFaults}
 
--- What plain data a form is of. Forms are over shapes, and not over types, so that a clause can speak of every form.
+-- The shapes of plain data. Forms are over shapes, and not over types, so that a clause can speak of every form.
 pub data Shape : Type 0 where
   unit : Shape
   nat : Shape
@@ -25,13 +25,13 @@ pub data Form : Shape → Type 0 where
   nothing : {a : Shape} → Value a → Form a
   -- a number in so many bytes, the highest first
   number : ℕ → Form nat
-  -- a part of one's own
+  -- a part with a reader and a writer of its own
   part : {a : Shape} → Part (Value a) → Form a
   -- these bytes, and one
   front : {a : Shape} → List ℕ → Form a → Form a
   -- one, and these bytes
   back : {a : Shape} → Form a → List ℕ → Form a
-  -- where this byte stands first: it, and one; else the other
+  -- if this byte comes first: it, and one; else the other
   or : {a b : Shape} → ℕ → Form a → Form b → Form (either a b)
   -- one, and the next, which may depend on the first one's value
   pair_by : {a b : Shape} → Form a → (Value a → Form b) → Form (both a b)
@@ -60,8 +60,8 @@ writes (times n f) xs = flat_map (writes f) xs
 writes (counted w f) xs = number_bytes w (length xs) ++ flat_map (writes f) xs
 writes (that test f) x = writes f x
 
--- These bytes, and the value's pushed behind them part by part. A law says that it is `out ++ writes f x`: pushes in a row
--- nest so as this computes.
+-- These bytes, with the value's appended part by part. A law says that it is `out ++ writes f x`: pushes in a row
+-- nest as this computes.
 abbrev pub onto : {a : Shape} → Form a → Value a → List ℕ → List ℕ
 onto (nothing only) x out = out
 onto (number w) n out = out ++ number_bytes w n
@@ -91,7 +91,7 @@ length_of (that test f) x = length_of f x
 
 -- ---- which values can be written
 
--- Of a choice the other may not begin as the first one does: so two equal tags leave values without bytes, and no law fails.
+-- In a choice the other may not begin as the first does: so two equal tags leave values that can't be written, and no law fails.
 abbrev pub Fits : {a : Shape} → Form a → Value a → Type 0
 Fits (nothing only) x = x ≡ only
 Fits (number w) n = n < 256 ^ w

@@ -1,8 +1,8 @@
--- Lists whose items stand in an order.
+-- Lists whose items are in order.
 use Rattle.std.specs.Prelude.{◌&&◌, ℕ, Bool, true, List, [], ◌∷◌}
 use Rattle.pf_form.specs.Bytes.Forms.{Shape, list, Value, Form, counted, that}
 
--- each stands before the next
+-- each comes before the next
 abbrev pub in_order : {A : Type 0} → (A → A → Bool) → List A → Bool
 in_order before [] = true
 in_order before (x ∷ []) = true

@@ -8,15 +8,15 @@ filled width name = name ++ replicate (width - length name) 0
 abbrev pub are_zeros : List ℕ → Bool
 are_zeros = list_all (λ b. b == 0)
 
--- behind a zero no other byte stands
+-- no other byte comes after a zero
 abbrev pub is_filled : List ℕ → Bool
 is_filled [] = true
 is_filled (b ∷ bytes) = if b == 0 then are_zeros bytes else is_filled bytes
 
--- A field of so many bytes. A name is seen as itself with its zeros, so it tells one only of names without a zero.
+-- A field of so many bytes. A name is seen with its zeros, so names that differ only in zeros at the end are seen as the same.
 abbrev pub padded : ℕ → Form (list nat)
 padded width = that is_filled (times width (number 1))
 
--- the name in a field: what stands before its first zero
+-- the name in a field: what comes before its first zero
 abbrev pub before_zero : List ℕ → List ℕ
 before_zero = take_while (nat_lt 0)

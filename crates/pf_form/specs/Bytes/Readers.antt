@@ -5,7 +5,7 @@ use Rattle.pf_form.specs.{Bytes.BasicForms.{Read, ◌>>=◌}, Bytes.Forms.{Shape
 use Rattle.pf_form.specs.declared.bytes.fault.Fault.TheVariants as fault
 use Rattle.pf_form.specs.declared.bytes.fault.Stop.TheVariants as stop
 
--- the fault of the reading, unless memory was refused
+-- the fault of the reading, unless memory ran out
 abbrev pub Fails : {Y : Type 0} → Stop → Result Y Fault → Type 0
 Fails stop.Memory read = Unit {0}
 Fails (stop.Fault f) read = read ≡ Err f
@@ -28,7 +28,7 @@ end_at (b ∷ bytes) = Err (fault.Bad (length (b ∷ bytes)))
 abbrev pub ended : {A : Type 0} → A × List ℕ → Result A Fault
 ended x = end_at x.1 >>= λ u. Ok x.0
 
--- one value, and no byte behind it
+-- one value, and no byte after it
 abbrev pub read_all : {a : Shape} → Form a → List ℕ → Result (Value a) Fault
 read_all f bytes = reads f bytes >>= ended
 
@@ -36,22 +36,22 @@ abbrev pub GivesAll : {X A : Type 0} → (X → A) → Result X Stop → Result 
 GivesAll view (Ok x) read = read ≡ Ok (view x)
 GivesAll view (Err s) read = Fails s read
 
--- of a fault this holds
+-- this holds of the fault, if there is one
 abbrev pub IfFault : Stop → (Fault → Type 0) → Type 0
 IfFault stop.Memory P = Unit {0}
 IfFault (stop.Fault f) P = P f
 
 -- ---- why bytes are no value's, by what is written and not by reading
 
--- something can't stand where so many bytes are left
+-- something isn't allowed where so many bytes are left
 abbrev pub GoesWrong : {a : Shape} → Form a → List ℕ → ℕ → Type 0
 GoesWrong f bytes left = (before rest : List ℕ) × (bytes ≡ before ++ rest) × (length rest ≡ left) × Faults f before rest
 
--- a value's bytes stand there, and so many more
+-- a value's bytes come first, and then so many more
 abbrev pub GoesOn : {a : Shape} → Form a → List ℕ → ℕ → Type 0
 GoesOn {a = a} f bytes left = (x : Value a) × (rest : List ℕ) × Fits f x × (bytes ≡ writes f x ++ rest) × (length rest ≡ left)
 
--- Too few bytes: no value's are a front of them, and nothing in them is wrong. Bad ones: something is, or there are more than a value's.
+-- Too few bytes: they don't begin with a value's, and nothing in them is wrong. Bad ones: something is, or there are more than a value's.
 abbrev pub Refused : {a : Shape} → Form a → List ℕ → Fault → Type 0
 Refused f bytes fault.Short = ((left : ℕ) → GoesOn f bytes left → ⊥) × ((left : ℕ) → GoesWrong f bytes left → ⊥)
 Refused f bytes (fault.Bad left) = GoesWrong f bytes left ⊎ ((0 < left) × GoesOn f bytes left)

@@ -1,4 +1,4 @@
--- The words of a line, said without cutting it: what stands between its blanks.
+-- The words of a line, said without cutting it: what is between its blanks.
 use Rattle.std.specs.Prelude.{◌≡◌, ℕ, ◌<◌, true, false, List, [], ◌∷◌, ◌++◌, length, All}
 use Rattle.pf_form.specs.Form.Words.{Word, is_blank}
 
@@ -14,7 +14,7 @@ abbrev pub EndsWord : List ℕ → Type 0
 EndsWord [] = Unit {0}
 EndsWord (b ∷ bs) = is_blank b ≡ true
 
--- a line is blanks, a word, and what is behind it, which is nothing or begins with a blank
+-- a line is blanks, a word, and what comes after it, which is nothing or begins with a blank
 pub record IsFirstWord (line : List ℕ) (w : Word) (behind : List ℕ) : Type 0 where
   pub blanks : List ℕ
   pub all : line ≡ blanks ++ w ++ behind
@@ -22,7 +22,7 @@ pub record IsFirstWord (line : List ℕ) (w : Word) (behind : List ℕ) : Type 0
   pub word : IsWord w
   pub ends : EndsWord behind
 
--- a line is words between blanks: blanks alone, or a first word and the others behind it
+-- a line is words between blanks: blanks alone, or a first word and the others after it
 abbrev pub IsCut : List ℕ → List Word → Type 0
 IsCut line [] = AreBlanks line
 IsCut line (w ∷ ws) = (behind : List ℕ) × IsFirstWord line w behind × IsCut behind ws

@@ -19,13 +19,13 @@ pub data Form : Type 0 → Type 1 where
   word : {A : Type 0} → Test A → Form A
   -- this word, and what follows it
   key : {A : Type 0} → Word → Form A → Form A
-  -- where this word stands, the word and what follows it; else the other
+  -- if this word comes first, the word and what follows it; else the other
   or : {A : Type 0} → Word → Form A → Form A → Form A
   -- one, and the next
   pair : {A B : Type 0} → Form A → Form B → Form (A × B)
   -- one, and the next, which depends on this about the first one's value
   pair_by : {A B : Type 0} → Form A → (A → Bool) → (Bool → Form B) → Form (A × B)
-  -- one after the other, up to the last word
+  -- one after another, up to the last word
   any_number : {A : Type 0} → Form A → Form (List A)
   -- one, seen as another value
   making : {A B : Type 0} → (A → B) → Form A → Form B
@@ -50,8 +50,8 @@ Spells (pair_by f flag g) x ws = (a b : List Word) × Spells f x.0 a × Spells (
 Spells (any_number f) xs ws = InOrder (Spells f) xs ws
 Spells (making make f) y ws = (x : _) × Spells f x ws × (y ≡ make x)
 
--- Behind these words a test may stand, which faults the word with a kind of its own. Where no test does, a word that can't
--- stand there is just a bad word.
+-- After these words a test may stand, which faults the word with a kind of its own. Where there is no test, a word that
+-- isn't allowed there is just a bad word.
 abbrev pub Faults : {A : Type 0} → Form A → List Word → Word → Kind → Type 0
 Faults (nothing none) front w kind = ⊥
 Faults (word test) front w kind = (test.of w ≡ Err kind) × (kind ≢ BadWord) × (front ≡ [])
@@ -233,7 +233,7 @@ read_all f ws = reads f ws >>= ended
 
 -- ---- what a refusal says, by the grammar alone
 
--- this word stands at this place
+-- this word is at this place
 abbrev pub StandsAt : List Word → ℕ → Word → Type 0
 StandsAt ws at w = (tail : List Word) × (drop at ws ≡ w ∷ tail)
 

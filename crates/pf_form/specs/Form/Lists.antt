@@ -1,4 +1,4 @@
--- Lists that are read part after part, up to the last word of a text.
+-- Lists that are read part by part, up to the last word of a text.
 use Rattle.std.proofs.Common.{◌≡◌, true, false, List, [], ◌∷◌, Result, Ok, Err, ap, sym, subst}
 use Rattle.std.specs.Prelude.{IsErrAnd}
 use Rattle.pf_form.specs.declared.{form.fault.Kind.Kind, form.fault.Stop.Stop, form.fault.Unread.Unread}
@@ -25,7 +25,7 @@ made_err make f ws s h = by (reads f ws) h where
 pub shrinks : (A : Type 0) (f : Form A) → is_decided f ≡ true → empties f ≡ false → Shrinks (reads f)
 shrinks A f decided some = takes_some (lawful f decided) some
 
--- A list that each read, as another value.
+-- A list that `each` returned, as another value.
 pub listed : {X A B : Type 0} (view : X → List A) (r : Result X Unread) (make : List A → B) (f : Form A) (ws : List Word) →
     GivesAll view r (each_by (reads f) ws) → GivesAll (λ x. make (view x)) r (read_all (making make (one_or_more f)) ws)
 listed view (Ok x) make f ws h = made_ok make (one_or_more f) ws (view x) h

@@ -2,7 +2,7 @@
 use Rattle.std.specs.{Prelude.{◌≡◌, ℕ, ◌*◌, ◌+◌, ◌-◌, ◌<◌, ◌≤◌, ◌^◌, ◌&&◌, nat_lt, nat_le, Bool, length, fold, Option, Some, None, if◌then◌else◌}, List.list_all, Str.Parse.{IsNumeral, digits_value}}
 use Rattle.pf_form.specs.Form.Words.{Word}
 
--- 1 to so many digits, of which the first may be zeros, write the number
+-- 1 to so many digits, with leading zeros allowed, write the number
 pub record IsNumber (most : ℕ) (w : Word) (n : ℕ) : Type 0 where
   pub digits : IsNumeral 10 w
   pub few : length w ≤ most

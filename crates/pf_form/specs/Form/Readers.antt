@@ -19,14 +19,14 @@ MovesBy read (Err s) before after = Fails s (read (texts before))
 abbrev pub Moves : {A : Type 0} → Form A → Result A Stop → List (Bor Word) → List (Bor Word) → Type 0
 Moves f = MovesBy (reads f)
 
--- a keyword that may be left out, and whether it stands there
+-- a keyword that may be left out, and whether it is there
 abbrev pub if_there : Word → Form Bool
 if_there k = or k (nothing true) (nothing false)
 
 abbrev pub there : Word → Form (Unit {0})
 there k = key k (nothing tt)
 
--- the same of all words
+-- the same for all words
 abbrev pub GivesWhole : {X A : Type 0} → (X → A) → Result X Stop → Result A (Kind × List Word) → Type 0
 GivesWhole view (Ok x) read = read ≡ Ok (view x)
 GivesWhole view (Err s) read = Fails s read
@@ -34,7 +34,7 @@ GivesWhole view (Err s) read = Fails s read
 abbrev pub ReadsWhole : {X A : Type 0} → (X → A) → Form A → Result X Stop → List (Bor Word) → Type 0
 ReadsWhole view f result words = GivesWhole view result (read_all f (texts words))
 
--- the same of all words, whose value is seen by view, unless memory was refused
+-- the same for all words, with the value seen by view, unless memory ran out
 abbrev pub GivesAll : {X A : Type 0} → (X → A) → Result X Unread → Result A (Kind × List Word) → Type 0
 GivesAll view (Ok x) read = read ≡ Ok (view x)
 GivesAll view (Err (unread.Stopped s)) read = Fails s read

@@ -1,4 +1,4 @@
--- Words, and the words of a line: what stands between blanks.
+-- Words, and the words of a line: what is between blanks.
 use Rattle.std.specs.{Prelude.{ℕ, ◌==◌, ◌||◌, nat_lt, Bool, List, length, filter, map}, List.slice_split}
 use denote.Ref.{Bor}
 

@@ -5,7 +5,7 @@ ghost use Rattle.pf_form.specs.{Bytes.Codes.{below, flag, flag_byte}, Bytes.Read
 use crate::bytes::fault::{Fault, Stop};
 use crate::bytes::reading::{Rest, read_u8};
 
-/// A byte less than this. Fails where no byte is left, and at another byte.
+/// A byte less than `limit`. Fails if no byte is left, or at a byte that isn't less.
 #[tactic(auto, unfolding(crate::specs::Bytes::Codes::below))]
 pub fn read_below<'a>(limit: u8, from: &mut Rest<'a>) -> Result<u8, Stop>
     ensures read { Reads (λ n. n) (below limit) result from.old.now from.new.now }
@@ -19,7 +19,7 @@ pub fn read_below<'a>(limit: u8, from: &mut Rest<'a>) -> Result<u8, Stop>
     Ok(number)
 }
 
-/// A flag: 0 or 1. Fails where no byte is left, and at another byte.
+/// A flag: 0 or 1. Fails if no byte is left, or at another byte.
 pub fn read_flag<'a>(from: &mut Rest<'a>) -> Result<bool, Stop>
     ensures { Reads flag_byte flag result from.old.now from.new.now }
 {

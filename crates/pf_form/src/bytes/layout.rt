@@ -8,10 +8,10 @@ use std::alloc::{AllocError, Global};
 
 /// A type that is read and written as a form says, in each version of it.
 ///
-/// The ghost members are its data to contracts; `read` and `write` are straight lines of what this module gives out, each with the
+/// Contracts see its values by the ghost members; `read` and `write` call the functions of `bytes` in a straight line, each with the
 /// attribute `#[tactic(auto, unfolding(..))]` for the form.
 pub trait Layout: Drop + Sized {
-    /// The kind of its plain data.
+    /// The shape of its plain data.
     ghost shape: { Shape };
 
     /// The form that it has in a version.
@@ -20,24 +20,24 @@ pub trait Layout: Drop + Sized {
     /// A value's plain data: contracts see nothing else of it.
     ghost plain: { Self → Value shape };
 
-    /// Whether one comes before another in lists that are in order; anything where there are none.
+    /// Whether one comes before another in ordered lists; any relation if the type has none.
     ghost before: { Value shape → Value shape → Bool };
 
     /// Takes a value from the front of the bytes.
     ///
-    /// Fails with the first fault of its form there, or where memory is refused. How many bytes are left then isn't said.
+    /// Fails with the first fault of its form there, or out of memory. How many bytes are left then isn't said.
     fn read<'a>(alloc: Global, version: u8, from: &mut Rest<'a>) -> Result<Self, Stop>
         ensures { Reads plain (form version) result from.old.now from.new.now };
 
-    /// Puts a value that fits its form behind the bytes.
+    /// Appends a value that fits its form to the bytes.
     ///
-    /// Fails only where memory is refused. What stands behind the bytes then isn't said.
+    /// Fails only when out of memory. What the bytes are then isn't said.
     fn write(&self, version: u8, out: &mut Vec<u8>) -> Result<(), AllocError>
         requires { Fits (form version) (plain self.now) }
         ensures { OnOk result (out.new.items ≡ onto (form version) (plain self.now) out.old.items) };
 }
 
-/// A type that may stand in lists which are in order.
+/// A type that may be in ordered lists.
 pub trait Ordered: Layout {
     /// Whether it has to come before the other.
     fn comes_before(&self, other: &Self) -> bool

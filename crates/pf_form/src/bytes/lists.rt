@@ -1,4 +1,4 @@
-//! Lists of values of a type that has a form. Fails as a reader of the type or its writer does.
+//! Lists of values of a type that has a form. They fail as the type's reader or writer does.
 ghost use Rattle.std.specs.{Prelude.{◌≡◌, true, IfOk, OnOk, map, length}, List.AllByRecursion};
 ghost use Rattle.pf_form.specs.{Bytes.BasicForms.onto_each, Bytes.Forms.{Form, times, counted, onto, Fits}, Bytes.Lists.{ordered, in_order}, Bytes.Readers.Reads};
 
@@ -8,9 +8,9 @@ use crate::bytes::reading::{Rest, read_u32};
 use crate::bytes::writing::push_u32;
 use std::alloc::{AllocError, Global};
 
-/// So many values in a row, from the front of the bytes. None are too few.
+/// `count` values in a row, from the front of the bytes; 0 is allowed.
 ///
-/// Fails with the fault of the first that has one, or where memory is refused: a great count takes no memory before its values are read.
+/// Fails with the fault of the first that has one, or out of memory: a great count takes no memory before its values are read.
 pub fn read_times<'a, T: Layout>(
     alloc: Global,
     version: u8,
@@ -27,9 +27,9 @@ pub fn read_times<'a, T: Layout>(
     Ok(items)
 }
 
-/// A list behind the number of its values, which is in four bytes.
+/// A list after the number of its values, which is in four bytes.
 ///
-/// Fails as `read_times` does, and where the number is cut short.
+/// Fails as `read_times` does, and if the number is cut short.
 pub fn read_list<'a, T: Layout>(
     alloc: Global,
     version: u8,
@@ -42,9 +42,9 @@ pub fn read_list<'a, T: Layout>(
     Ok(items)
 }
 
-/// Such a list, of which each value comes before the next.
+/// Such a list, in which each value comes before the next.
 ///
-/// Fails as `read_list` does. Where two stand out of order the fault is the whole list's, from its number on.
+/// Fails as `read_list` does. If two are out of order, the fault is at the list's start, the first byte of its number.
 pub fn read_ordered_list<'a, T: Ordered>(
     alloc: Global,
     version: u8,
@@ -76,7 +76,7 @@ pub fn are_in_order<T: Ordered>(items: &[T]) -> bool
     true
 }
 
-/// Puts values in a row behind the bytes. Fails only where memory is refused.
+/// Appends values in a row. Fails only when out of memory.
 pub fn write_each<T: Layout>(items: &[T], version: u8, out: &mut Vec<u8>) -> Result<(), AllocError>
     requires { AllByRecursion (Fits (T.form version)) (map T.plain items.now) }
     ensures { OnOk result (out.new.items ≡ onto_each (onto (T.form version)) (map T.plain items.now) out.old.items) }
@@ -87,7 +87,7 @@ pub fn write_each<T: Layout>(items: &[T], version: u8, out: &mut Vec<u8>) -> Res
     Ok(())
 }
 
-/// Puts a list behind the bytes: the number of its values in four bytes, and each of them. Fails only where memory is refused.
+/// Appends a list: the number of its values in four bytes, and each of them. Fails only when out of memory.
 pub fn write_list<T: Layout>(items: &[T], version: u8, out: &mut Vec<u8>) -> Result<(), AllocError>
     requires { Fits (counted 4 (T.form version)) (map T.plain items.now) }
     ensures { OnOk result (out.new.items ≡ onto (counted 4 (T.form version)) (map T.plain items.now) out.old.items) }

@@ -9,7 +9,7 @@ use std::alloc::{AllocError, Global};
 
 /// The name in a field of so many bytes: those before its first zero, or all. It takes no memory.
 ///
-/// Fails where fewer bytes are left; where another byte stands behind a zero, at the field's first byte.
+/// Fails if fewer bytes are left; or, if another byte comes after a zero, at the field's first byte.
 pub fn read_filled<'a>(width: usize, from: &mut Rest<'a>) -> Result<&'a [u8], Stop>
     ensures read { Reads (λ name. filled width name.now) (padded width) result from.old.now from.new.now }
     ensures name { IfOk result (λ name. before_zero (filled width name.now) ≡ name.now) }
@@ -27,7 +27,7 @@ pub fn read_filled<'a>(width: usize, from: &mut Rest<'a>) -> Result<&'a [u8], St
     Ok(name)
 }
 
-/// As [`read_filled`], as a list of its own. Fails too where memory is refused.
+/// Like [`read_filled`], as a list of its own. Fails too when out of memory.
 pub fn read_padded<'a>(alloc: Global, width: usize, from: &mut Rest<'a>) -> Result<Vec<u8>, Stop>
     ensures { Reads (λ v. filled width v.items) (padded width) result from.old.now from.new.now }
 {
@@ -35,7 +35,7 @@ pub fn read_padded<'a>(alloc: Global, width: usize, from: &mut Rest<'a>) -> Resu
     Ok(Vec::from_slice(alloc, name)?)
 }
 
-/// How many bytes stand before the first zero.
+/// How many bytes come before the first zero.
 fn name_length(field: &[u8]) -> usize
     ensures length { result ≡ prefix_len (nat_lt 0) field.now }
     ensures within { result ≤ length field.now }
@@ -56,7 +56,7 @@ fn are_zeros(bytes: &[u8]) -> bool
     bytes.iter().all(|byte| *byte == 0)
 }
 
-/// Puts a name of at most so many bytes behind the bytes, and zeros behind it up to that many. Fails only where memory is refused.
+/// Appends a name of at most so many bytes, and zeros after it up to that many. Fails only when out of memory.
 pub fn push_padded(out: &mut Vec<u8>, width: usize, name: &[u8]) -> Result<(), AllocError>
     requires { length name.now ≤ width }
     ensures { OnOk result (out.new.items ≡ onto (padded width) (filled width name.now) out.old.items) }

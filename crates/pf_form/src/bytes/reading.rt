@@ -1,4 +1,4 @@
-//! Parts at the front of bytes. A reader moves the bytes on behind its part; after an error nothing is said of where they are.
+//! Parts at the front of bytes. A reader moves the bytes on past its part; after an error nothing is said of where they are.
 ghost use Rattle.std.specs.Prelude.{◌≡◌, ◌≤◌, length, Ok, IfOk};
 ghost use Rattle.pf_form.specs.{Bytes.BasicForms.{constant_at, is_next, number_at}, Bytes.Forms.{Form, number, times, counted}, Bytes.Readers.{Gives, Reads}};
 
@@ -9,7 +9,7 @@ use std::alloc::Global;
 /// The bytes that are left to read.
 pub type Rest<'a> = &'a [u8];
 
-/// A number in one byte. Fails where no byte is left.
+/// A number in one byte. Fails if no byte is left.
 pub fn read_u8<'a>(from: &mut Rest<'a>) -> Result<u8, Stop>
     ensures { Reads (λ n. n) (number 1) result from.old.now from.new.now }
 {
@@ -21,7 +21,7 @@ pub fn read_u8<'a>(from: &mut Rest<'a>) -> Result<u8, Stop>
     Ok(number)
 }
 
-/// A number in two bytes, big-endian. Fails where fewer are left.
+/// A number in two bytes, big-endian. Fails if fewer are left.
 pub fn read_u16<'a>(from: &mut Rest<'a>) -> Result<u16, Stop>
     ensures { Reads (λ n. n) (number 2) result from.old.now from.new.now }
 {
@@ -33,7 +33,7 @@ pub fn read_u16<'a>(from: &mut Rest<'a>) -> Result<u16, Stop>
     Ok(number)
 }
 
-/// A number in four bytes, big-endian. Fails where fewer are left.
+/// A number in four bytes, big-endian. Fails if fewer are left.
 pub fn read_u32<'a>(from: &mut Rest<'a>) -> Result<u32, Stop>
     ensures { Reads (λ n. n) (number 4) result from.old.now from.new.now }
 {
@@ -45,7 +45,7 @@ pub fn read_u32<'a>(from: &mut Rest<'a>) -> Result<u32, Stop>
     Ok(number)
 }
 
-/// A number in eight bytes, big-endian. Fails where fewer are left.
+/// A number in eight bytes, big-endian. Fails if fewer are left.
 pub fn read_u64<'a>(from: &mut Rest<'a>) -> Result<u64, Stop>
     ensures { Reads (λ n. n) (number 8) result from.old.now from.new.now }
 {
@@ -57,7 +57,7 @@ pub fn read_u64<'a>(from: &mut Rest<'a>) -> Result<u64, Stop>
     Ok(number)
 }
 
-/// A number in 16 bytes, big-endian. Fails where fewer are left.
+/// A number in 16 bytes, big-endian. Fails if fewer are left.
 pub fn read_u128<'a>(from: &mut Rest<'a>) -> Result<u128, Stop>
     ensures { Reads (λ n. n) (number 16) result from.old.now from.new.now }
 {
@@ -69,7 +69,7 @@ pub fn read_u128<'a>(from: &mut Rest<'a>) -> Result<u128, Stop>
     Ok(number)
 }
 
-/// Takes this byte where it is the next one, and says whether it was. Fails where no byte is left.
+/// Takes this byte if it is the next one, and returns whether it was. Fails if no byte is left.
 pub fn takes<'a>(from: &mut Rest<'a>, key: u8) -> Result<bool, Stop>
     ensures { Gives (λ t. t) result from.new.now (is_next key from.old.now) }
 {
@@ -88,7 +88,7 @@ pub fn takes<'a>(from: &mut Rest<'a>, key: u8) -> Result<bool, Stop>
 
 /// Takes these bytes, which have to be the next ones.
 ///
-/// Fails where fewer are left and those agree, and at the first one that differs.
+/// Fails if fewer are left and those agree, or at the first one that differs.
 pub fn expect<'a>(from: &mut Rest<'a>, bytes: &[u8]) -> Result<(), Stop>
     ensures { Gives (λ u. tt) result from.new.now (constant_at bytes.now from.old.now) }
 {
@@ -106,7 +106,7 @@ pub fn expect<'a>(from: &mut Rest<'a>, bytes: &[u8]) -> Result<(), Stop>
     Ok(())
 }
 
-/// So many bytes as they are. Fails where fewer are left, and where memory is refused.
+/// So many bytes as they are. Fails if fewer are left, or out of memory.
 pub fn read_bytes<'a>(alloc: Global, count: usize, from: &mut Rest<'a>) -> Result<Vec<u8>, Stop>
     ensures read { Reads (λ v. v.items) (times count (number 1)) result from.old.now from.new.now }
     ensures length { IfOk result (λ v. length v.items ≡ count) }
@@ -120,7 +120,7 @@ pub fn read_bytes<'a>(alloc: Global, count: usize, from: &mut Rest<'a>) -> Resul
     Ok(bytes)
 }
 
-/// So many bytes as an array. Fails where fewer are left.
+/// So many bytes as an array. Fails if fewer are left.
 pub fn read_array<'a, const N: usize>(from: &mut Rest<'a>) -> Result<[u8; N], Stop>
     ensures { Reads (λ a. a) (times N (number 1)) result from.old.now from.new.now }
 {
@@ -134,7 +134,7 @@ pub fn read_array<'a, const N: usize>(from: &mut Rest<'a>) -> Result<[u8; N], St
     Ok(bytes)
 }
 
-/// Up to 255 bytes behind their number, which is in one byte. Fails where fewer are left, and where memory is refused.
+/// Up to 255 bytes after their number, which is in one byte. Fails if fewer are left, or out of memory.
 pub fn read_counted_bytes<'a>(alloc: Global, from: &mut Rest<'a>) -> Result<Vec<u8>, Stop>
     ensures { Reads (λ v. v.items) (counted 1 (number 1)) result from.old.now from.new.now }
 {

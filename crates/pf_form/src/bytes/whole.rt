@@ -1,4 +1,4 @@
-//! Bytes that are one value, and nothing behind it.
+//! Bytes that are exactly one value.
 ghost use Rattle.std.specs.Prelude.{◌≡◌, Ok, IfOk, IfErr};
 ghost use Rattle.pf_form.specs.{Bytes.Forms.{Value, Fits, Spells}, Bytes.Readers.{GivesAll, IfFault, Refused, read_all}};
 
@@ -8,14 +8,14 @@ use std::alloc::{AllocError, Global};
 
 /// The value whose bytes these are in a version.
 ///
-/// Fails with the one fault that the bytes have, where they are no value's; one is that bytes stand behind a value. Fails too where
-/// memory is refused, whatever the bytes are.
+/// Fails with the one fault of bytes that aren't a value's, for instance that more bytes come after a value. Fails too when
+/// out of memory, whatever the bytes are.
 pub fn decode<T: Layout>(alloc: Global, version: u8, bytes: &[u8]) -> Result<T, Stop>
-    // what is answered is written so
+    // the value that is returned is written as these bytes
     ensures found { IfOk result (λ x. Spells (T.form version) (T.plain x) bytes.now) }
     // bytes that a value is written as give that value
     ensures only { (x : Value T.shape) → Spells (T.form version) x bytes.now → GivesAll T.plain result (Ok x) }
-    // a fault is told where the bytes have it
+    // a fault is returned only if the bytes have it
     ensures refused { IfErr result (λ e. IfFault e (Refused (T.form version) bytes.now)) }
 {
     read_whole(alloc, version, bytes)
@@ -32,7 +32,7 @@ fn read_whole<T: Layout>(alloc: Global, version: u8, bytes: &[u8]) -> Result<T, 
     Ok(value)
 }
 
-/// The bytes that a value is written as in a version, where it fits its form. Fails only where memory is refused.
+/// The bytes that a value is written as in a version, if it fits its form. Fails only when out of memory.
 #[tactic(auto, using(crate::specs::Laws::Bytes::Onto::onto_is))]
 pub fn encode<T: Layout>(alloc: Global, version: u8, value: &T) -> Result<Vec<u8>, AllocError>
     requires { Fits (T.form version) (T.plain value.now) }

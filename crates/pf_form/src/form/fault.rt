@@ -7,7 +7,7 @@ use std::alloc::AllocFailed;
 /// What is wrong with a word.
 #[derive(Clone, Copy, Debug, PartialEq, Eq)]
 pub enum Kind {
-    /// The word can't stand where it stands, or is missing.
+    /// The word isn't allowed at its place, or is missing.
     BadWord,
     /// A name, a path or a reference past its limits: of bytes, or of components.
     NameTooLong,
@@ -15,20 +15,20 @@ pub enum Kind {
     BadProto,
 }
 
-/// The first word that can't stand where it stands.
+/// The first word that isn't allowed at its place.
 #[derive(Clone, Copy, Debug, PartialEq, Eq)]
 pub struct Stop {
     pub kind: Kind,
-    /// How many words were left, with the one at fault; 0 where a word is missing.
+    /// How many words were left, with the one at fault; 0 if a word is missing.
     pub left: usize,
 }
 
 /// Why a list of words could not be read.
 #[derive(Clone, Copy, Debug, PartialEq, Eq)]
 pub enum Unread {
-    /// A word can't stand where it stands, or is missing.
+    /// A word isn't allowed at its place, or is missing.
     Stopped(Stop),
-    /// Memory was refused.
+    /// Out of memory.
     Memory,
 }
 

@@ -2,7 +2,7 @@
 ghost use Rattle.std.specs.Prelude.{◌≡◌, ℕ, List, Some, All};
 ghost use Rattle.pf_form.specs.{Form.Words.{Word, words_of}, Form.Cuts.{IsWord, IsCut}, Form.Numbers.{IsNumber, number_of, IsNumberIn, number_in}};
 
-/// The words of a line stand between blanks, and are all that stands so.
+/// The words of a line are what is between its blanks, and there are no others.
 #[tactic(auto, using(crate::proofs::Cutting::each_is_word, crate::proofs::Cutting::line_is_cut, crate::proofs::Cutting::cut_only))]
 pub fn words_stand_between_blanks()
     ensures each { (line : List ℕ) → All IsWord (words_of line) }
@@ -10,7 +10,7 @@ pub fn words_stand_between_blanks()
     ensures only { (line : List ℕ) (ws : List Word) → IsCut line ws → words_of line ≡ ws }
 {}
 
-/// A number is read from a word exactly where the word writes it.
+/// A number is read from a word exactly when the word writes it.
 #[tactic(auto, using(crate::specs::Laws::Form::Numbers::numbers_read))]
 pub fn numbers_are_read_as_written()
     ensures read { (most : ℕ) (w : Word) (n : ℕ) → number_of most w ≡ Some n → IsNumber most w n }

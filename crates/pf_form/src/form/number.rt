@@ -2,9 +2,9 @@
 ghost use Rattle.std.specs.{Prelude.{◌≡◌, ℕ, ◌≤◌, ◌+◌, ◌*◌, ◌-◌, Some}, List.list_all};
 ghost use Rattle.pf_form.specs.Form.Numbers.{is_digit, decimal_value, number_of, of_bits, number_in};
 
-/// The number that a word of 1 to `most` decimal digits writes, of which the first may be zeros; `None` of any other word.
+/// The number that a word of 1 to `most` decimal digits writes, leading zeros allowed; `None` for any other word.
 ///
-/// It is `None` too where the number has more than 64 bits, and then there are 20 digits at least.
+/// Also `None` if the number has more than 64 bits, which takes at least 20 digits.
 #[tactic(auto, using(crate::specs::Laws::Form::Numbers::few_digits))]
 pub fn read_number(word: &[u8], most: usize) -> Option<u64>
     ensures value { result ≡ number_in 64 most word.now }
@@ -39,7 +39,7 @@ fn value_of(digits: &[u8]) -> Option<u64>
     value
 }
 
-/// A number with one more digit behind it, unless that has more than 64 bits, or it has.
+/// The number with one more digit at its end; `None` if that, or the number itself, has more than 64 bits.
 fn with_digit(value: Option<u64>, digit: u8) -> Option<u64>
     ensures { (n : ℕ) → value ≡ of_bits 64 (Some n) → result ≡ of_bits 64 (Some (n * 10 + (digit - 48))) }
 {

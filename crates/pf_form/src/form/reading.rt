@@ -9,7 +9,7 @@ use std::alloc::Global;
 /// Words that are left to read.
 pub type Words<'a> = &'a [&'a [u8]];
 
-/// A fault of the first of these words.
+/// A fault at the first of these words.
 pub fn stop(kind: Kind, words: &[&[u8]]) -> Stop
     ensures { result ≡ record { kind = kind; left = length words.now } }
 {
@@ -19,14 +19,14 @@ pub fn stop(kind: Kind, words: &[&[u8]]) -> Stop
     }
 }
 
-/// The first of these words is wrong, or one is missing.
+/// The fault of a first word that is wrong or missing.
 pub fn bad_word(words: &[&[u8]]) -> Stop
     ensures { result ≡ record { kind = BadWord; left = length words.now } }
 {
     stop(Kind::BadWord, words)
 }
 
-/// Takes the first word where it is this one, and says whether it was.
+/// Takes the first word if it is this one, and returns whether it was.
 pub fn takes<'a>(words: &mut Words<'a>, key: &[u8]) -> bool
     ensures { reads (if_there key.now) (texts words.old.now) ≡ Ok (result, texts words.new.now) }
 {
@@ -39,7 +39,7 @@ pub fn takes<'a>(words: &mut Words<'a>, key: &[u8]) -> bool
     }
 }
 
-/// Takes this word, which has to stand there.
+/// Takes this word, which has to come next.
 pub fn expect<'a>(words: &mut Words<'a>, key: &[u8]) -> Result<(), Stop>
     ensures { Moves (there key.now) result words.old.now words.new.now }
 {
@@ -52,7 +52,7 @@ pub fn expect<'a>(words: &mut Words<'a>, key: &[u8]) -> Result<(), Stop>
     }
 }
 
-/// No word is left.
+/// Fails if a word is left.
 pub fn end(words: &[&[u8]]) -> Result<(), Stop>
     ensures { GivesWhole (λ x. tt) result (end_at (texts words.now)) }
 {
@@ -62,7 +62,7 @@ pub fn end(words: &[&[u8]]) -> Result<(), Stop>
     }
 }
 
-/// Each of a part, up to the last word.
+/// Reads one or more of a part, up to the last word. Fails at the first fault, or out of memory.
 pub fn each<'a, T: Drop, R: Fn(&mut Words<'a>) -> Result<T, Stop>>(
     alloc: Global,
     words: Words<'a>,

@@ -11,7 +11,7 @@ pub fn is_blank(b: u8) -> bool
     b == b' ' || b == b'\t' || b == b'\r'
 }
 
-/// The words of a line: what stands between blanks, which are spaces, tabs and carriage returns. Fails only where memory is refused.
+/// The words of a line: what is between blanks, which are spaces, tabs and carriage returns. Fails only when out of memory.
 pub fn words<'a>(alloc: Global, line: &'a [u8]) -> Result<Vec<&'a [u8]>, AllocError>
     ensures { IfOk result (λ v. texts v.items ≡ words_of line.now) }
 {

@@ -1,4 +1,4 @@
--- Flags can be written, and are told by their byte.
+-- Flags can be written, and each has a byte of its own.
 use Rattle.std.proofs.Common.{◌≡◌, ◌==◌, Bool, true, false, refl, arith}
 use Rattle.pf_form.specs.{Bytes.Forms.Fits, Bytes.Codes.{below, flag, flag_byte}}
 

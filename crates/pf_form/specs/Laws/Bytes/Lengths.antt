@@ -1,4 +1,4 @@
--- A value is written in as many bytes as its form tells.
+-- A value is written in as many bytes as its form says.
 use Rattle.std.proofs.{Common.{◌≡◌, ◌+◌, ℕ, zero, suc, List, [], ◌∷◌, ◌++◌, length, inl, inr, refl, ap, ◌∙◌, arith}, lemmas.List.{length-append, Sums.sum_by-cons}}
 use Rattle.std.specs.List.{flat_map, sum_by}
 use Rattle.pf_form.specs.{Bytes.BasicForms.number_bytes, Bytes.Forms.{Shape, Value, Form, nothing, number, part, front, back, or, pair_by, times, counted, that, writes, length_of}}

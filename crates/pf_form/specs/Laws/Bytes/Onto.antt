@@ -1,4 +1,4 @@
--- What is pushed behind bytes is what is written.
+-- What is appended to bytes is what is written.
 use Rattle.std.proofs.{Common.{◌≡◌, ℕ, List, [], ◌∷◌, ◌++◌, length, inl, inr, refl, sym, ap, ◌∙◌, append_assoc}, lemmas.List.append-nil}
 use Rattle.std.specs.List.{flat_map}
 use Rattle.pf_form.specs.{Bytes.BasicForms.{onto_each, number_bytes}, Bytes.Forms.{Shape, Value, Form, nothing, number, part, front, back, or, pair_by, times, counted, that, writes, onto}}

@@ -74,7 +74,7 @@ byte_at_place [] h i = omega arith
 byte_at_place (b ∷ bytes) h zero = h.0
 byte_at_place (b ∷ bytes) h (suc i) = byte_at_place bytes h.1 i
 
--- Where one text and the next end behind a front: the front ends within the first, or within the next.
+-- Where one text and the next go on past a front: the front ends within the first, or within the next.
 abbrev pub Cut : List ℕ → List ℕ → List ℕ → ℕ → List ℕ → Type 0
 Cut a c front b more = ((d : ℕ) × (m : List ℕ) × (a ≡ front ++ d ∷ m)) ⊎ ((f : List ℕ) × (front ≡ a ++ f) × (c ≡ f ++ b ∷ more))
 

@@ -70,6 +70,6 @@ module _ {a : Shape} (f : Form a) where
   pub one_refusal : (bytes : List ℕ) (d e : Fault) → Bytes bytes → Refused f bytes d → Refused f bytes e → d ≡ e
   one_refusal bytes d e h s t = let same : ◌≡◌ {A = Result (Value a) Fault} (Err d) (Err e) = sym (refused_only bytes d h s) ∙ refused_only bytes e h t in cc
 
-  -- and whatever stands behind the bytes, they go wrong where they did
+  -- and whatever comes after the bytes, they go wrong where they did
   pub wrong_stays : (bytes : List ℕ) (left : ℕ) (more : List ℕ) → GoesWrong f bytes left → GoesWrong f (bytes ++ more) (length more + left)
   wrong_stays bytes left more (before, rest, is, l, wrong) = (before, rest ++ more, ap (λ (m : List ℕ). m ++ more) is ∙ append_assoc before rest more, omega (arith, length-append rest more, l), (lawful f).stays before rest more wrong)

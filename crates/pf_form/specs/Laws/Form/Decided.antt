@@ -53,7 +53,7 @@ word_is w k e = (bytes_eq-Decides w k).0 e
 pub word_same : (k : Word) → bytes_eq k k ≡ true
 word_same k = (bytes_eq-Decides k k).1 refl
 
--- a word that may begin something is not one that may not
+-- a word that may begin something isn't one that may not
 pub differs : (begin : Word → Bool) (w k : Word) → begin w ≡ true → begin k ≡ false → (b : Bool) → bytes_eq w k ≡ b → b ≡ false
 differs begin w k can cannot true e = let same : begin w ≡ begin k = ap begin (word_is w k e) in absurd cc
 differs begin w k can cannot false e = refl
@@ -126,7 +126,7 @@ seen_err make (Err c) d e = cc
 pub not_both : {A E : Type 0} (r : Result A E) (x : A) (e : E) → r ≡ Ok x → r ≡ Err e → ⊥
 not_both r x e a b = cc
 
--- the same answer, with other words behind one that is left
+-- the same answer, with other words after one that is left
 pub still : {A : Type 0} (t o : Result A Kind) (a b : List Word) (v : Word) (r s : List Word) → leaves t (a ++ v ∷ r) ≡ leaves o (b ++ v ∷ r) → leaves t (a ++ v ∷ s) ≡ leaves o (b ++ v ∷ s)
 still t o a b v r s e =
     let g = leaves_is t o (a ++ v ∷ r) (b ++ v ∷ r) e in
@@ -137,7 +137,7 @@ still t o a b v r s e =
 abbrev pub Faulting : Type 1
 Faulting = List Word → Word → Kind → Type 0
 
--- Reading stopped before these words. What stands before begins some text; a test that may stand there faults the
+-- Reading stopped before these words. What comes before them begins some text; a test that may stand there faults the
 -- first of them so, or it is bad or missing.
 pub record Stopped (A : Type 0) (spells : Grammar A) (faults : Faulting) (ws : List Word) (k : Kind) (rest : List Word) : Type 0 where
   pub front : List Word
@@ -145,8 +145,8 @@ pub record Stopped (A : Type 0) (spells : Grammar A) (faults : Faulting) (ws : L
   pub starts : Begins spells front
   pub kind : (k ≡ BadWord) ⊎ ((v : Word) × (tail : List Word) × faults front v k × (rest ≡ v ∷ tail))
 
--- There is a text. What a text, or a word that is faulted, begins with; what is read is a text, and a text is read where
--- what follows may; what is faulted is refused so; where reading stops; and behind the first word that is left nothing counts.
+-- There is a text. What a text, or a word that is faulted, begins with; what is read is a text, and a text is read if
+-- what follows may; what is faulted is refused so; where reading stops; and words after the first one left don't count.
 pub record Laws (A : Type 0) (spells : Grammar A) (faults : Faulting) (empty : Bool) (begin : Word → Bool) (follow : Follow)
     (read : Reader A) : Type 0 where
   pub some : Begins spells []
@@ -182,12 +182,12 @@ weaken A spells faults e e' b b' f f' read m n less p = record {
   ahead = p.ahead;
 }
 
--- what is read stands before what is left
+-- what is read comes before what is left
 pub splits : {A : Type 0} {spells : Grammar A} {faults : Faulting} {e : Bool} {b : Word → Bool} {f : Follow} {read : Reader A} → Laws A spells faults e b f read → (o : Result A Kind) (ws rest : List Word) → read ws ≡ leaves o rest → (part : List Word) × (ws ≡ part ++ rest)
 splits p (Ok x) ws rest e = let t = p.takes ws x rest e in (t.0, t.2)
 splits p (Err k) ws rest e = let s = p.stops ws k rest e in (s.front, s.parts)
 
--- What is never empty takes a word or more.
+-- A form that is never empty takes a word or more.
 pub takes_some : {A : Type 0} {spells : Grammar A} {faults : Faulting} {e : Bool} {b : Word → Bool} {f : Follow} {read : Reader A} → Laws A spells faults e b f read → e ≡ false → Shrinks read
 takes_some {e = e} {b = b} p some ws x rest is =
     let t = p.takes ws x rest is in
@@ -204,7 +204,7 @@ misplaced_here {A = A} spells faults ws k rest some e =
     let g = err_is {A = A × List Word} BadWord k ws rest e in
     record { front = []; parts = g.1; starts = some; kind = inl (sym g.0) }
 
--- Where a part stops the whole stops, with what stands before the part.
+-- Where a part stops the whole stops, after what comes before the part as well.
 pub stopped_behind : {A B : Type 0} {spells : Grammar A} {spells' : Grammar B} {faults faults' : Faulting} {k : Kind} {rest : List Word} (before part ws : List Word) → Stopped A spells faults part k rest → ws ≡ before ++ part
     → ((front : List Word) → Begins spells front → Begins spells' (before ++ front)) → ((front : List Word) (v : Word) → faults front v k → faults' (before ++ front) v k) → Stopped B spells' faults' ws k rest
 stopped_behind {rest = rest} before part ws s is starts kinds = record {

@@ -1,4 +1,4 @@
--- The laws of a part one time after the other, up to the last word.
+-- The laws of a part that is repeated up to the last word.
 use Rattle.std.proofs.{Common.{◌≡◌, ℕ, zero, suc, ◌<◌, ◌≤◌, Bool, false, true, List, [], ◌∷◌, ◌++◌, length, Result, Ok, Err, inl, inr, refl, sym, ap, subst, ◌∙◌, append_assoc, append-nil, arith}, lemmas.List.length-append}
 use Rattle.pf_form.specs.declared.form.fault.Kind.{Kind}
 use Rattle.pf_form.specs.{Form.Words.Word, Form.Forms.{Form, any_number, InOrder, Spells, Faults, Read, Reader, reads, empties, begins, follow, ◌>>=◌, the_end, may_follow, at_most, any_by}, Form.Readers.Shrinks, Laws.Form.Decided.{Clear, Heads, clears, clears_heads, bind_ok, bind_err, leaves, ok_is, seen_ok, seen_err, not_both, Stopped, Lawful, takes_some, stopped_behind}}
@@ -19,7 +19,7 @@ module _ (A : Type 0) (read : Reader A) where
   none_left (suc n) = refl
 
 module _ (A : Type 0) (read : Reader A) (shrinks : Shrinks read) where
-  -- more than there are words are not wanted
+  -- no more steps are needed than there are words
   pub enough : (n m : ℕ) (ws : List Word) → length ws ≤ n → length ws ≤ m → at_most n read ws ≡ at_most m read ws
   enough n m [] g h = none_left A read n ∙ sym (none_left A read m)
   enough zero m (w ∷ ws) g h = absurd (omega (arith, g))

@@ -1,4 +1,4 @@
--- A number is read from a word exactly where the word writes it.
+-- A number is read from a word exactly when the word writes it.
 use Rattle.std.proofs.{Common.{◌≡◌, ℕ, ◌+◌, ◌*◌, ◌-◌, ◌<◌, ◌≤◌, ◌^◌, ◌&&◌, Bool, true, false, List, length, Some, None, Option, refl, sym, ◌∙◌, rules, arith}, lemmas.Bool.{and_parts, ltb-true, leb-true, lt-ltb, le-leb}, lemmas.Bool.Decides.nat_tests, lemmas.Str.Parse.{IsNumeralModel, numerals_by_fold, digits_value_short}}
 use Rattle.std.specs.{Prelude.{fold, if◌then◌else◌, nat_lt, nat_le}, List.list_all}
 use Rattle.pf_form.specs.{Form.Words.Word, Form.Numbers.{is_digit, decimal_value, number_of, of_bits, number_in, IsNumber, IsNumberIn}}
@@ -43,6 +43,6 @@ number_in_found bits most w n e = let is = kept bits (number_of most w) n e in r
 
 pub ruleset numbers_read = (number_found, number_only, number_in_found, number_in_only)
 
--- what so few digits write has 64 bits at most
+-- so few digits write a number of 64 bits at most
 pub few_digits : (w : Word) → list_all is_digit w ≡ true → length w ≤ 19 → decimal_value w < 2 ^ 64
 few_digits w all few = omega (arith, digits_value_short own w 19 all few)

@@ -1,4 +1,5 @@
--- The laws of whole texts: a text is read exactly where the grammar has it, and a refusal stands at the place, and is of the kind, that the grammar gives.
+-- The laws of whole texts: a text is read exactly when the grammar has it, and a refusal is at the place, and of the kind, that the
+-- grammar gives.
 use Rattle.std.proofs.{Common.{◌≡◌, ℕ, zero, suc, ◌+◌, ◌-◌, ◌<◌, ◌≤◌, true, List, [], ◌∷◌, ◌++◌, length, take, drop, Result, Ok, Err, ◌⊎◌, inl, inr, refl, sym, ap, subst, ◌∙◌, append_assoc, append-nil, arith}, lemmas.List.{length-append, take_at, drop_at}}
 use Rattle.pf_form.specs.declared.{form.fault.Kind.Kind, form.fault.Kind.TheVariants.BadWord}
 use Rattle.pf_form.specs.{Form.Words.Word, Form.Forms.{Form, Spells, Faults, Grammar, Begins, StopsAt, StandsAt, RefusedAt, reads, ended, read_all, is_decided}, Laws.Form.Decided.{bind_ok, bind_err, leaves, err_is, not_both, Stopped, Lawful}, Laws.Form.Forms.lawful}
@@ -73,7 +74,7 @@ module _ (A : Type 0) (f : Form A) (decided : is_decided f ≡ true) where
         record { front = t.0; parts = t.2 ∙ ap (λ (m : List Word). t.0 ++ m) end.1; starts = (x.0, [], rw append-nil t.1); kind = inl (sym end.0) }
   ]
 
-  -- whatever stands behind the word at which it stops
+  -- whatever comes after the word at which it stops
   stops_so : (front : List Word) (k : Kind) (v : Word) (r s : List Word) → read_all f (front ++ v ∷ r) ≡ Err (k, v ∷ r) → read_all f (front ++ v ∷ s) ≡ Err (k, v ∷ s)
   stops_so front k v r s e = elim (bind_err (reads f (front ++ v ∷ r)) ended (k, v ∷ r) e) [
     | inl h ↦ rw (p.ahead (Err k) front [] v r s h) refl
