@@ -6,10 +6,10 @@
 --
 -- Rulesets are in the order of their paths, tables in that of their paths and at one path of their names, entries in that of their table,
 -- each list after its number in four bytes; so nothing is there twice. No ruleset and no table is empty.
-use Rattle.std.specs.{Prelude.{ℕ, ◌+◌, ◌==◌, ◌&&◌, not, nat_le, Bool, List, length, map}, List.list_all, Ordering.is_lt}
+use Rattle.std.specs.{Prelude.{ℕ, ◌+◌, ◌==◌, ◌&&◌, not, nat_le, Bool, List, length, map}, List.{list_all, sum_by}, Ordering.is_lt}
 use Rattle.pf_addr.specs.Path.{Paths.path_order, PathForms.{TextShape, path_form, table_name_form}}
 use Rattle.pf_form.specs.Bytes.{Forms.{Shape, both, list, Value, Form, pair, counted, that, length_of}, Lists.ordered}
-use Rattle.pf_rule.specs.Sum.{Layouts.{RuleShape, rule_layout, plain_rule}, Reading.rule_of}
+use Rattle.pf_rule.specs.{Rules.PlainRule, Sum.{Forms.label_bytes, Layouts.{RuleShape, rule_layout, plain_rule, allows}, Reading.rule_of}}
 use Rattle.pf_table.specs.{declared.limits.TheConstants.{TABLE_LIMIT}, EntryForms.{EntryShape, entry, plain_entry, entry_of, entry_before}, Entries.PlainEntry}
 use Rattle.pf_anchor.specs.{declared.limits.TheConstants.{RULE_LIMIT, RULESET_LIMIT, TABLE_COUNT_LIMIT}, Configurations.PlainConfig, Rulesets.PlainPlaced, Tables.{PlainPlacedTable, placed_table, table_order}}
 
@@ -45,6 +45,13 @@ plain_ruled r = (r.0, map plain_rule r.1)
 
 abbrev pub ruled_in : Value RulesShape → PlainPlaced
 ruled_in v = (v.0, map rule_of v.1)
+
+-- whether a version allows each of these rules
+abbrev pub allows_rules : ℕ → List PlainRule → Bool
+allows_rules version rs = list_all (allows version) rs
+
+abbrev pub allows_ruleset : ℕ → PlainPlaced → Bool
+allows_ruleset version r = allows_rules version r.1
 
 -- ---- tables under their names
 
@@ -99,7 +106,15 @@ tabled_in v = placed_table v.0 v.1.0 (entries_in v.1.1)
 abbrev pub configured : List PlainPlaced → List PlainPlacedTable → PlainConfig
 configured rs ts = record { rulesets = rs; tables = ts }
 
+-- whether a version allows the rules of each ruleset
+abbrev pub allows_config : ℕ → PlainConfig → Bool
+allows_config version c = list_all (allows_ruleset version) c.rulesets
+
 -- ---- how many bytes they take
+
+-- the labels of rules
+abbrev pub labels_length : List PlainRule → ℕ
+labels_length rs = sum_by (λ r. length (label_bytes r)) rs
 
 abbrev pub ruled_length : ℕ → PlainPlaced → ℕ
 ruled_length version r = length_of (rules_form version) (plain_ruled r)

@@ -5,6 +5,7 @@ pub mod Sum
 pub mod Packets
 pub mod PacketGrammar
 pub mod Rules
+pub mod KeptRules
 pub mod Matching
 pub mod RuleGrammar
 pub mod RuleText

@@ -6,7 +6,7 @@ use Rattle.pf_form.specs.Form.{Readers.if_there, Forms.{Form, word, nothing, key
 use Rattle.pf_addr.specs.declared.addr.Family.{Family}
 use Rattle.pf_rule.specs.declared.{rule.Action.TheVariants.{Pass, Block}, rule.Effect.Effect, rule.Effect.TheVariants.{Decide, Evaluate}, rule.RuleStart.RuleStart, value.direction.Direction.Direction, host.host.Host.Host, fault.Mistake.Mistake, fault.Mistake.TheVariants.{MixedFamily, PortNeedsProto}}
 use Rattle.pf_rule.specs.declared.rule.RuleStart.TheVariants as openings
-use Rattle.pf_rule.specs.{Value.Tests.{direction, interface, family, protocol}, Value.Ports.{port, port_test, order_or_range, compared, ranged, range_end, ports_fit}, Host.Hosts.{a_negated_host, a_host, host, host_family}, Host.Ends.{End, end, destination, ends}, Rules.PlainRule}
+use Rattle.pf_rule.specs.{Value.Values.a_label, Value.Tests.{direction, interface, family, protocol}, Value.Ports.{port, port_test, order_or_range, compared, ranged, range_end, ports_fit}, Host.Hosts.{a_negated_host, a_host, host, host_family}, Host.Ends.{End, end, destination, ends}, Rules.PlainRule}
 
 -- what an anchor rule names
 abbrev pub a_reference : Form PlainReference
@@ -29,17 +29,32 @@ unfoldable pub state : Bool → Form Bool
 state true = or (codes "keep") (key (codes "state") (nothing true)) (or (codes "no") (key (codes "state") (nothing false)) (nothing true))
 state false = nothing false
 
+-- whether a rule that begins so decides; only such a rule may have a label
+abbrev pub decides : RuleStart → Bool
+decides openings.Pass = true
+decides openings.Block = true
+decides (openings.Anchor r) = false
+
+-- ["label" name], if the rule decides
+unfoldable pub label : Bool → Form (Option (List ℕ))
+label true = or (codes "label") (making (λ l. Some l) a_label) (nothing None)
+label false = nothing None
+
 abbrev pub effect_of : RuleStart → Bool → Effect
 effect_of openings.Pass keeps = Decide (Pass keeps)
 effect_of openings.Block keeps = Decide Block
 effect_of (openings.Anchor r) keeps = Evaluate r
 
+-- how a rule begins, its tests, and whether it keeps state
+abbrev pub Unlabelled : Type 0
+Unlabelled = RuleStart × (Option Direction × (Bool × (Option (List ℕ) × (Option Family × (Option ℕ × ((End × End) × Bool))))))
+
 -- with the family as it is written
-abbrev pub rule_with :
-    RuleStart × (Option Direction × (Bool × (Option (List ℕ) × (Option Family × (Option ℕ × ((End × End) × Bool)))))) → PlainRule
-rule_with (o, (d, (q, (i, (f, (p, ((s, t), keeps))))))) =
+abbrev pub rule_with : Unlabelled × Option (List ℕ) → PlainRule
+rule_with ((o, (d, (q, (i, (f, (p, ((s, t), keeps))))))), l) =
     record {
       effect = effect_of o keeps;
+      label = l;
       direction = d;
       quick = q;
       interface = i;
@@ -51,10 +66,14 @@ rule_with (o, (d, (q, (i, (f, (p, ((s, t), keeps))))))) =
       destination_port = t.1;
     }
 
+abbrev pub unlabelled_words : Form Unlabelled
+unlabelled_words =
+    pair_by opening passes (λ passes.
+    pair direction (pair (if_there (codes "quick")) (pair interface (pair family (pair protocol (pair ends (state passes)))))))
+
+-- the label comes after all else
 abbrev pub rule_words : Form PlainRule
-rule_words =
-    making rule_with (pair_by opening passes (λ passes.
-    pair direction (pair (if_there (codes "quick")) (pair interface (pair family (pair protocol (pair ends (state passes))))))))
+rule_words = making rule_with (pair_by unlabelled_words (λ x. decides x.0) label)
 
 -- ---- after the last word: the families that are written agree, and ports are tested only with a protocol that has them
 
@@ -84,5 +103,5 @@ rule = making agreeing rule_words
 -- One word of look-ahead suffices.
 pub rule_decided : is_decided rule ≡ true
 unfolding rule opening direction interface family protocol a_negated_host a_host host port port_test order_or_range compared ranged
-    range_end end destination ends state part_at pieces_at v4_at address_at
+    range_end end destination ends state label part_at pieces_at v4_at address_at
 rule_decided = refl

@@ -1,9 +1,9 @@
 -- Rules, and which packets they match (pf.conf(5), PARAMETERS).
-use Rattle.std.specs.{Prelude.{true, ◌≡◌, ◌==◌, ◌&&◌, Bool, Option, Some, IfSome}, Str.bytes_eq}
+use Rattle.std.specs.{Prelude.{true, ◌≡◌, ◌==◌, ◌&&◌, ℕ, Bool, List, Option, Some, None, IfSome}, Str.bytes_eq}
 use Rattle.pf_addr.specs.declared.addr.Family.{Family}
 use Rattle.pf_addr.specs.{Address.{family_of, same_family, IsNetwork}, Path.Names.IsTableName, Path.ReferenceGrammar.IsReference}
 use Rattle.pf_rule.specs.declared.{rule.Effect.Effect, rule.Effect.TheVariants.{Decide, Evaluate}, host.host.Host.Host, rule.RuleParts.RuleParts, host.host.Host.TheVariants.{Any, Net, Table}}
-use Rattle.pf_rule.specs.{Value.Values.{IsInterfaceName, IsProtocol}, Value.Tests.{holds, same_direction}, Host.Hosts.{TableTest, host_holds}, Packets.PlainPacket, Value.Ports.{IsPortTest, port_holds, ports_fit}}
+use Rattle.pf_rule.specs.{Value.Values.{IsInterfaceName, IsProtocol, IsLabel}, Value.Tests.{holds, same_direction}, Host.Hosts.{TableTest, host_holds}, Packets.PlainPacket, Value.Ports.{IsPortTest, port_holds, ports_fit}}
 
 -- a rule as contracts see it: its fields
 abbrev pub PlainRule : Type 0
@@ -17,7 +17,7 @@ ends_hold says r p =
     && host_holds says r.destination p.destination
     && holds r.destination_port (λ t. port_holds t p.destination_port)
 
--- a rule matches a packet for which all its tests hold; tables say what a table matches
+-- a rule matches a packet for which all its tests hold; tables say what a table matches, and a label isn't a test
 abbrev pub matches : TableTest → PlainRule → PlainPacket → Bool
 matches says r p =
     holds r.direction (λ d. same_direction d p.direction)
@@ -37,6 +37,11 @@ abbrev pub IsEffect : Effect → Type 0
 IsEffect (Decide a) = Unit {0}
 IsEffect (Evaluate r) = IsReference r
 
+-- a rule that decides may have a label; an anchor rule has none
+abbrev pub LabelFits : Effect → Option (List ℕ) → Type 0
+LabelFits (Decide a) label = IfSome label IsLabel
+LabelFits (Evaluate r) label = label ≡ None
+
 -- what has a text, and so is a rule
 pub record IsRule (r : PlainRule) : Type 0 where
   pub effect : IsEffect r.effect
@@ -46,3 +51,4 @@ pub record IsRule (r : PlainRule) : Type 0 where
   pub destination : HostFits r.family r.destination
   pub port_tests : IfSome r.source_port IsPortTest × IfSome r.destination_port IsPortTest
   pub ports : ports_fit r.protocol r.source_port r.destination_port ≡ true
+  pub label : LabelFits r.effect r.label

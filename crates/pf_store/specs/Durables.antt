@@ -3,11 +3,15 @@ use Rattle.std.specs.Prelude.{◌≡◌, ℕ, ◌&&◌, Bool, false, List, [], �
 use Rattle.pf_addr.specs.declared.addr.Family.TheVariants.{V4}
 use Rattle.pf_form.specs.Bytes.Forms.{Spells}
 use Rattle.pf_anchor.specs.{declared.limits.TheConstants.{RULESET_LIMIT, TABLE_COUNT_LIMIT}, Tables.placed_table, Forms.{at_most, configured}}
-use Rattle.pf_core.specs.Durable.{Changes.{PlainDurable, durable_with}, Forms.{durable_form, plain_durable, durable_in}}
+use Rattle.pf_core.specs.Durable.{Changes.{PlainDurable, durable_with}, Forms.{allows, durable_form, plain_durable, durable_in}}
 
 -- What is kept has bytes if it has no more rulesets and tables than allowed. Its types guarantee all else that the form requires.
 abbrev pub durable_has_form : PlainDurable → Bool
 durable_has_form d = at_most RULESET_LIMIT d.config.rulesets && at_most TABLE_COUNT_LIMIT d.config.tables
+
+-- Whether it has bytes in a version: that version allows its rules too.
+abbrev pub durable_has_form_in : ℕ → PlainDurable → Bool
+durable_has_form_in version d = durable_has_form d && allows version d
 
 -- These bytes are the snapshot of what is kept, in a version: its data spell them, and determine it.
 pub record IsDurable (version : ℕ) (d : PlainDurable) (bytes : List ℕ) : Type 0 where

@@ -15,7 +15,7 @@ use Rattle.std.specs.{Prelude.{◌≡◌, ℕ, ◌==◌, ◌^◌, ◌&&◌, not,
 use Rattle.std.proofs.Common.{inl, inr}
 use Rattle.pf_addr.specs.Path.{Names.name_order, PathForms.{TextShape, path_form, table_name_form}}
 use Rattle.pf_form.specs.Bytes.{Forms.{Shape, nat, both, either, list, Value, Form, Spells, number, front, or, pair, counted, that}, Lists.ordered}
-use Rattle.pf_anchor.specs.Forms.{at_most, RulesShape, rules_form, plain_ruled, ruled_in, NamedShape, named_form, plain_entries, plain_named, entries_in, named_in}
+use Rattle.pf_anchor.specs.Forms.{at_most, RulesShape, rules_form, plain_ruled, ruled_in, NamedShape, named_form, plain_entries, plain_named, entries_in, named_in, allows_ruleset}
 use Rattle.pf_journal.specs.{Journal.IsOf, declared.journal.Record.Record}
 use Rattle.pf_core.specs.{declared.durable.change.Item.Item, Durable.Changes.{PlainChange, commits, adds, deletes, sets, acts, removes}}
 use Rattle.pf_core.specs.declared.durable.change.Item.TheVariants as item
@@ -134,6 +134,25 @@ can_be_wanted (sets p name xs) = true
 can_be_wanted (acts steps) = true
 can_be_wanted (removes name) = true
 
+-- ---- which versions allow what is recorded
+
+abbrev pub allows_item : ℕ → Item → Bool
+allows_item version (item.Rules r) = allows_ruleset version r
+allows_item version (item.Tables p named) = true
+
+-- of what is recorded only commits have rules
+abbrev pub allows_record : ℕ → Recorded → Bool
+allows_record version (made (commits items)) = list_all (allows_item version) items
+allows_record version (made (adds p name xs)) = true
+allows_record version (made (deletes p name xs)) = true
+allows_record version (made (sets p name xs)) = true
+allows_record version (made (acts steps)) = true
+allows_record version (made (removes name)) = true
+allows_record version (opens epoch) = true
+
+abbrev pub allows_group : ℕ → List Recorded → Bool
+allows_group version rs = list_all (allows_record version) rs
+
 -- ---- groups
 
 -- these changes, as a record has them
@@ -143,6 +162,10 @@ made_all es = map made es
 -- as many as one record keeps, and each has bytes
 abbrev pub have_form : List Recorded → Bool
 have_form rs = is_group rs && list_all has_form rs
+
+-- whether they have bytes in a version: it allows their rules too
+abbrev pub have_form_in : ℕ → List Recorded → Bool
+have_form_in version rs = have_form rs && allows_group version rs
 
 -- The payload is the bytes of a group, in a version: its data spell them, and determine it.
 pub record IsRecorded (version : ℕ) (rs : List Recorded) (payload : List ℕ) : Type 0 where

@@ -63,6 +63,10 @@ gate_of seen d held = records_start held.bank.at held.content.snapshot + length 
 abbrev pub generation_of : (seen : List ℕ) (d : PlainDurable) → Holds seen d → ℕ
 generation_of seen d held = held.content.generation
 
+-- its version
+abbrev pub version_of : (seen : List ℕ) (d : PlainDurable) → Holds seen d → ℕ
+version_of seen d held = held.content.version
+
 -- what the image holds, it holds by a generation of at most g
 abbrev pub IsNoLaterThan : ℕ → List ℕ → Type 0
 IsNoLaterThan g seen = (d : PlainDurable) (held : Holds seen d) → generation_of seen d held ≤ g

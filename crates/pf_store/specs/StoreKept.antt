@@ -5,11 +5,12 @@ use Rattle.pf_snap.specs.{Banks.{bank_size, Content}, Ready.{IsReady, Keeps}, de
 use Rattle.pf_core.specs.Durable.Changes.{PlainDurable}
 use Rattle.pf_store.specs.Stores.{Holds, Makes}
 
--- What contracts see of a store: its device; how many bytes each of its banks has; the generation of the one that counts, and how many
--- bytes that one has from its closed gate on; whether a save met a fault.
+-- What contracts see of a store: its device; how many bytes each of its banks has; the version and the generation of the one that counts,
+-- and how many bytes that one has from its closed gate on; whether a save met a fault.
 pub record PlainStore (D : Type 0) : Type 0 where
   pub disk : D
   pub size : ℕ
+  pub version : ℕ
   pub generation : ℕ
   pub room : ℕ
   pub halted : Bool
@@ -18,6 +19,7 @@ abbrev pub store_with : {D : Type 0} → (seen : D → List ℕ) → Banks D →
 store_with seen banks halted = record {
   disk = banks.journal.disk;
   size = bank_size (length (seen banks.journal.disk));
+  version = banks.version;
   generation = banks.generation;
   room = banks.journal.end - banks.journal.gate;
   halted = halted;

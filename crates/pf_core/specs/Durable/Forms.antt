@@ -4,9 +4,9 @@
 --   the rulesets: their number in four bytes, and each
 --   the tables: their number in four bytes, and each
 --   the states: their number in four bytes, and each state, in the order of their names; no two have the same flow
-use Rattle.std.specs.Prelude.{ℕ, map}
+use Rattle.std.specs.Prelude.{ℕ, Bool, map}
 use Rattle.pf_form.specs.Bytes.Forms.{Shape, nat, both, list, Value, Form, number, pair, length_of}
-use Rattle.pf_anchor.specs.Forms.{RulesShape, rulesets_form, plain_ruled, ruled_in, PlacedShape, kept_tables_form, plain_tabled, tabled_in, configured}
+use Rattle.pf_anchor.specs.Forms.{RulesShape, rulesets_form, plain_ruled, ruled_in, PlacedShape, kept_tables_form, plain_tabled, tabled_in, configured, allows_config}
 use Rattle.pf_state.specs.Layouts.States.{StateShape, states_form, plain_states, state_in}
 use Rattle.pf_core.specs.Durable.Changes.{PlainDurable, durable_with}
 
@@ -21,6 +21,10 @@ plain_durable d = (d.epoch, (map plain_ruled d.config.rulesets, (map plain_table
 
 abbrev pub durable_in : Value DurableShape → PlainDurable
 durable_in v = durable_with v.0 (configured (map ruled_in v.1.0) (map tabled_in v.1.1.0)) (map state_in v.1.1.1)
+
+-- whether a version allows the rules that are kept
+abbrev pub allows : ℕ → PlainDurable → Bool
+allows version d = allows_config version d.config
 
 -- how many bytes a snapshot has
 abbrev pub durable_length : ℕ → PlainDurable → ℕ

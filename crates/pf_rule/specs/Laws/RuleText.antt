@@ -1,14 +1,15 @@
 -- The canonical words of a rule spell it, and they are the words of its text.
-use Rattle.std.proofs.{Common.{◌≡◌, ℕ, Bool, true, false, List, [], ◌∷◌, length, Option, Some, Result, Ok, inl, inr, refl, sym, ap, ◌∙◌, arith}, lemmas.Bool.lt-ltb}
+use Rattle.std.proofs.{lemmas.List.Folds.list_all-append, Common.{◌≡◌, ℕ, Bool, true, false, List, [], ◌∷◌, length, Option, Some, None, Result, Ok, inl, inr, refl, sym, ap, ◌∙◌, arith}, lemmas.Bool.lt-ltb}
 use Rattle.std.specs.{Prelude.{codes, nat_lt}, List.list_all}
 use Rattle.pf_addr.specs.declared.addr.Family.{Family}
 use Rattle.pf_form.specs.declared.form.fault.Kind.{Kind}
 use Rattle.pf_addr.specs.Path.{References.{PlainReference, reference_of, reference_text, quoted}, ReferenceGrammar.IsReference}
 use Rattle.pf_form.specs.{Form.{Words.{Word, words_of}, Forms.{Spells, read_all}, Readers.if_there}, Laws.Form.Texts.only}
-use Rattle.pf_addr.proofs.ReferencesRead.{spelled_is_read, quoted_bytes}
+use Rattle.pf_addr.proofs.{NamesRead.name_bytes, ReferencesRead.{spelled_is_read, quoted_bytes}}
 use Rattle.pf_rule.specs.declared.{rule.Effect.Effect, rule.Effect.TheVariants.{Decide, Evaluate}, rule.RuleStart.RuleStart, rule.Action.TheVariants.{Pass, Block}, host.host.Host.Host, host.host.Host.TheVariants.{Any, Net, Table}, fault.Mistake.Mistake}
 use Rattle.pf_rule.specs.declared.rule.RuleStart.TheVariants as openings
-use Rattle.pf_rule.specs.{Host.Hosts.{IsHost, host_family}, Laws.Host.Ends.ends_written, Rules.{PlainRule, IsEffect, IsRule, HostFits}, RuleGrammar.{opening, state, passes, effect_of, agreed, agreeing, rule, rule_decided}, RuleText.{effect_word, reference_words, quick_words, state_words, canonical, rule_text}, Value.Spacing.{is_word, words_of-join, join_bytes}, Value.Written.{Written, all_words, both}, Laws.Value.Tests.{direction_written, interface_written, family_written, protocol_written}}
+use Rattle.pf_rule.specs.declared.value.label.TheConstants.{LABEL_LIMIT}
+use Rattle.pf_rule.specs.{Host.Hosts.{IsHost, host_family}, Laws.Host.Ends.ends_written, Laws.Value.Labels.label_only, Value.Values.{IsLabel, label_of}, Rules.{PlainRule, IsEffect, IsRule, HostFits, LabelFits}, RuleGrammar.{opening, state, label, passes, decides, effect_of, Unlabelled, unlabelled_words, agreed, agreeing, rule, rule_decided}, RuleText.{effect_word, reference_words, quick_words, state_words, label_words, before_label, canonical, rule_text}, Value.Spacing.{is_word, words_of-join, join_bytes}, Value.Written.{Written, all_words, both}, Laws.Value.Tests.{direction_written, interface_written, family_written, protocol_written}}
 
 -- ---- keywords
 
@@ -46,6 +47,20 @@ state_written : (e : Effect) → Written (state (passes (opening_of e))) (keeps 
 unfolding state
 state_written e = record { spells = grind arith; words = grind arith }
 
+label_read : (l : Word) → IsLabel l → label_of (quoted l) ≡ Ok l
+label_read l is = label_only (quoted l) l (is, inr refl)
+
+label_word : (l : Word) → IsLabel l → is_word (quoted l) ≡ true
+label_word l is = rw (lt-ltb 0 (length (quoted l)) (omega arith), list_all-append, list_all-append, name_bytes LABEL_LIMIT l is) refl
+
+label_written : (e : Effect) (l : Option Word) → LabelFits e l → Written (label (decides (opening_of e))) l (label_words l)
+unfolding label
+label_written (Decide (Pass k)) None is = record { spells = inr (refl, refl); words = refl }
+label_written (Decide (Pass k)) (Some l) is = record { spells = inl (quoted l ∷ [], (l, (quoted l, label_read l is, refl), refl), refl); words = rw (label_word l is) refl }
+label_written (Decide Block) None is = record { spells = inr (refl, refl); words = refl }
+label_written (Decide Block) (Some l) is = record { spells = inl (quoted l ∷ [], (l, (quoted l, label_read l is, refl), refl), refl); words = rw (label_word l is) refl }
+label_written (Evaluate r) l is = rw is (record { spells = (refl, refl); words = refl })
+
 -- ---- a rule
 
 agrees : (f : Option Family) (h : Host) → HostFits f h → agreed f (host_family h) ≡ Some f
@@ -64,9 +79,13 @@ effect_again (Decide (Pass k)) = refl
 effect_again (Decide Block) = refl
 effect_again (Evaluate r) = refl
 
-rule_written : (r : PlainRule) → IsRule r → Written rule (Ok r) (canonical r)
-unfolding rule
-rule_written r is =
+-- all but its label
+abbrev unlabelled_of : PlainRule → Unlabelled
+unlabelled_of r =
+    (opening_of r.effect, (r.direction, (r.quick, (r.interface, (r.family, (r.protocol, (((r.source, r.source_port), (r.destination, r.destination_port)), keeps r.effect)))))))
+
+unlabelled_written : (r : PlainRule) → IsRule r → Written unlabelled_words (unlabelled_of r) (before_label r)
+unlabelled_written r is =
     let first = opening_written r.effect is.effect in
     let rest =
     both (direction_written r.direction)
@@ -76,8 +95,15 @@ rule_written r is =
     (both (protocol_written r.protocol is.protocol)
     (both (ends_written (r.source, r.source_port) (r.destination, r.destination_port) (is_host r.family r.source is.source, is.port_tests.0) (is_host r.family r.destination is.destination, is.port_tests.1))
     (state_written r.effect)))))) in
+    record { spells = (_, _, first.spells, rest.spells, refl); words = all_words first rest }
+
+rule_written : (r : PlainRule) → IsRule r → Written rule (Ok r) (canonical r)
+unfolding rule
+rule_written r is =
+    let front = unlabelled_written r is in
+    let end = label_written r.effect r.label is.label in
     let made = ap (λ (e : Effect). record r { effect = e }) (effect_again r.effect) in
-    record { spells = (r, (_, (_, _, first.spells, rest.spells, refl), made), sym (family_again r is)); words = all_words first rest }
+    record { spells = (r, (_, (_, _, front.spells, end.spells, refl), made), sym (family_again r is)); words = all_words front end }
 
 -- ---- the laws
 

@@ -20,6 +20,7 @@ untested effect = record {
   source_port = None;
   destination = Any;
   destination_port = None;
+  label = None;
 }
 
 abbrev pub block : PlainRule
@@ -44,7 +45,12 @@ tested = record {
   source_port = Some (Ranged Including 1024 2048);
   destination = Table (codes "web") false;
   destination_port = Some (Compared Equal 80);
+  label = None;
 }
+
+-- the first with a label
+abbrev pub labelled : PlainRule
+labelled = record block { label = Some (codes "x") }
 
 -- their forms
 abbrev pub block_form : List ℕ
@@ -62,6 +68,10 @@ tested_form =
     ++ 1 ∷ 1 ∷ 8 ∷ 7 ∷ 4 ∷ 0 ∷ 8 ∷ 0 ∷ 10 ∷ replicate 15 0 ++ replicate 32 0
     ++ 2 ∷ 0 ∷ 0 ∷ 1 ∷ 0 ∷ 80 ∷ 0 ∷ 0 ∷ replicate 16 0 ++ codes "web" ++ replicate 29 0
     ++ replicate 68 0
+
+-- and that of the rule with a label: the label's length at place 201, two zeros, and the label
+abbrev pub labelled_form : List ℕ
+labelled_form = 0 ∷ 1 ∷ replicate 199 0 ++ 1 ∷ 0 ∷ 0 ∷ codes "x"
 
 -- a rule of the other family, to one address: pass out inet6 from !<web> to 2001:db8::1 keep state
 abbrev pub v6 : PlainRule
@@ -110,3 +120,7 @@ all_four = block ∷ pass ∷ tested ∷ anchor ∷ []
 
 abbrev pub sum_of_four : List ℕ
 sum_of_four = 0xf6 ∷ 0x36 ∷ 0xcc ∷ 0xe2 ∷ 0x03 ∷ 0xb7 ∷ 0x24 ∷ 0x0a ∷ 0x4f ∷ 0x6d ∷ 0xba ∷ 0xa8 ∷ 0xbe ∷ 0x15 ∷ 0xcc ∷ 0x7a ∷ []
+
+-- of the rule with a label alone, d411932dcd00128d5b42b106d2ded28e
+abbrev pub sum_of_labelled : List ℕ
+sum_of_labelled = 0xd4 ∷ 0x11 ∷ 0x93 ∷ 0x2d ∷ 0xcd ∷ 0x00 ∷ 0x12 ∷ 0x8d ∷ 0x5b ∷ 0x42 ∷ 0xb1 ∷ 0x06 ∷ 0xd2 ∷ 0xde ∷ 0xd2 ∷ 0x8e ∷ []

@@ -1,3 +1,4 @@
 pub mod Reading
 pub mod Ports
 pub mod Tests
+pub mod Labels

@@ -1,4 +1,5 @@
--- A rule's form: the 204 bytes that checksums are taken of. Numbers have their highest byte first, and what doesn't apply is 0.
+-- A rule's form, of which checksums are taken: 204 bytes, and its label after them. Numbers have their highest byte first, and what
+-- doesn't apply is 0.
 --
 --   place width field
 --       0     1 0 block, 1 pass, 2 anchor
@@ -13,7 +14,9 @@
 --      80    56 destination host
 --     136    64 reference without "/*", filled with zeros
 --     200     1 1 where the reference ends in "/*"
---     201     3 zeros
+--     201     1 how many bytes the label has, 0 without one
+--     202     2 zeros
+--     204       the label
 --
 -- A host, with the test of its port:
 --
@@ -130,6 +133,9 @@ heading r =
     effect_byte r.effect ∷ direction_byte r.direction ∷ flag_byte r.quick ∷ flag_byte (keeps_state r.effect)
     ∷ family_byte r.family ∷ unwrap_or r.protocol 0 ∷ 0 ∷ 0 ∷ []
 
+abbrev pub label_bytes : PlainRule → List ℕ
+label_bytes r = unwrap_or r.label []
+
 -- 204 bytes
 unfoldable pub rule_form : PlainRule → List ℕ
 rule_form r =
@@ -138,10 +144,14 @@ rule_form r =
     ++ (host_form r.source r.source_port
     ++ (host_form r.destination r.destination_port
     ++ (filled 64 (names r.effect)
-    ++ (flag_byte (wildcard r.effect) ∷ 0 ∷ 0 ∷ 0 ∷ [])))))
+    ++ (flag_byte (wildcard r.effect) ∷ length (label_bytes r) ∷ 0 ∷ 0 ∷ [])))))
+
+-- with the label
+abbrev pub whole_form : PlainRule → List ℕ
+whole_form r = rule_form r ++ label_bytes r
 
 -- ---- a ruleset
 
--- MD5 (RFC 1321) of the forms, one after the other
+-- MD5 (RFC 1321) of the whole forms, one after the other
 unfoldable pub ruleset_sum : List PlainRule → List ℕ
-ruleset_sum rs = md5 (flat_map rule_form rs)
+ruleset_sum rs = md5 (flat_map whole_form rs)

@@ -4,7 +4,7 @@ use Rattle.std.proofs.Common.{inl, inr}
 use Rattle.pf_addr.specs.{declared.addr.Family.Family, NetForms.{family_of_byte, network_at}, Path.PathForms.{ReferenceShape, reference_of_plain}}
 use Rattle.pf_form.specs.Bytes.{Forms.Value, Names.before_zero}
 use Rattle.pf_rule.specs.declared.{value.direction.Direction.{Direction, TheVariants.In, TheVariants.Out}, value.ports.{Comparison.TheVariants.{Equal, NotEqual, Less, AtMost, Greater, AtLeast}, PortRange.TheVariants.{Including, Excluding, Except}, PortTest.{PortTest, TheVariants.Compared, TheVariants.Ranged}}, host.host.Host.{Host, TheVariants.Any, TheVariants.Net, TheVariants.Table}, rule.{Effect.{Effect, TheVariants.Decide, TheVariants.Evaluate}, Action.TheVariants.{Pass, Block}}}
-use Rattle.pf_rule.specs.{Rules.PlainRule, Sum.Layouts.{TestShape, EndShape, FamilyShape, InterfaceShape, RuleShape}}
+use Rattle.pf_rule.specs.{Rules.PlainRule, Sum.Layouts.{TestShape, EndShape, FamilyShape, InterfaceShape, LabelShape, RuleShape}}
 
 -- the test of this number, with these ports
 abbrev pub numbered_test : ℕ → ℕ → ℕ → Option PortTest
@@ -56,11 +56,15 @@ abbrev pub interface_of : Value InterfaceShape → Option (List ℕ)
 interface_of (inl u) = None
 interface_of (inr name) = Some (before_zero name)
 
+abbrev pub label_of : Value LabelShape → Option (List ℕ)
+label_of l = if l.0 == 0 then None else Some l.1
+
 unfoldable pub rule_of : Value RuleShape → PlainRule
-rule_of (effect, (direction, (quick, (keeps, (f, (protocol, (interface, (source, (destination, names))))))))) = record {
+rule_of (effect, (direction, (quick, (keeps, (f, (protocol, (interface, (source, (destination, (names, label)))))))))) = record {
   source = host_of f source;
   destination = host_of f destination;
   effect = effect_of effect keeps names;
+  label = label_of label;
   interface = interface_of interface;
   source_port = port_of source;
   destination_port = port_of destination;

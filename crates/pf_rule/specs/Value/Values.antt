@@ -1,12 +1,12 @@
--- The words that stand for values: names of interfaces, protocols, addresses and ports. Each is a test of a word, and a form.
+-- The words that stand for values: names of interfaces, protocols, labels, addresses and ports. Each is a test of a word, and a form.
 use Rattle.std.specs.{Prelude.{ℕ, ◌<◌, ◌==◌, ◌⊎◌, ◌&&◌, ◌||◌, nat_lt, Bool, true, false, List, [], ◌∷◌, take, length, codes, Option, Some, None, Result, Ok, Err, if◌then◌else◌}, Str.bytes_eq}
 use Rattle.std.proofs.Common.{◌≡◌, refl}
 use Rattle.pf_addr.specs.declared.{addr.Addr.Addr, fault.AddrFault.AddrFault}
 use Rattle.pf_form.specs.declared.form.fault.Kind.{Kind, TheVariants.{BadWord, BadProto}}
-use Rattle.pf_addr.specs.{Reading.{part_at, pieces_at, v4_at, address_at, addr_at}, Path.Names.{IsName, name_of}}
+use Rattle.pf_addr.specs.{Reading.{part_at, pieces_at, v4_at, address_at, addr_at}, Path.{Names.{IsName, name_of}, References.{quoted, unquoted}}}
 use Rattle.pf_form.specs.Form.{Words.Word, Forms.{Form, word}, Numbers.{IsNumber, number_of}}
 use Rattle.pf_addr.specs.declared.addr.Addr.TheVariants as addr
-use Rattle.pf_rule.specs.declared.{value.interface.TheConstants.INTERFACE_LIMIT, value.values.TheConstants.{PROTOCOL_DIGITS, PORT_DIGITS}}
+use Rattle.pf_rule.specs.declared.{value.interface.TheConstants.INTERFACE_LIMIT, value.label.TheConstants.LABEL_LIMIT, value.values.TheConstants.{PROTOCOL_DIGITS, PORT_DIGITS}}
 use Rattle.pf_rule.specs.declared.value.protocol.TheConstants.Protocol as protocols
 
 -- ---- an interface's name; its length is that of pf(4)'s ifname
@@ -60,6 +60,20 @@ protocol_of w = named_or (number_named protocol_names w) (protocol_numbered (num
 
 abbrev pub a_protocol : Form ℕ
 a_protocol = word (record { of = protocol_of; sample = codes "tcp"; value = protocols.TCP; takes = refl })
+
+-- ---- a label: a name that may be in double quotes; its length is that of pf(4)'s label
+
+abbrev pub IsLabel : List ℕ → Type 0
+IsLabel = IsName LABEL_LIMIT
+
+abbrev pub SpellsLabel : Word → List ℕ → Type 0
+SpellsLabel w l = IsLabel l × ((w ≡ l) ⊎ (w ≡ quoted l))
+
+abbrev pub label_of : Word → Result (List ℕ) Kind
+label_of w = name_of LABEL_LIMIT (unquoted w)
+
+abbrev pub a_label : Form (List ℕ)
+a_label = word (record { of = label_of; sample = codes "a"; value = codes "a"; takes = refl })
 
 -- ---- a word with this front
 
