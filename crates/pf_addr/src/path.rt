@@ -16,4 +16,4 @@ pub use name::{Name, TableName};
 pub(crate) use names::has_name_bytes;
 pub use path::Path;
 pub use path_form::read_name;
-pub use reference::Reference;
+pub use reference::{Reference, unquoted};

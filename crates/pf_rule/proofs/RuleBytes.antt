@@ -1,16 +1,16 @@
--- A rule's form is what its layout writes of its data; each rule fits it, and is read back from the data.
-use Rattle.std.proofs.{Common.{◌≡◌, ◌-◌, ◌<◌, ◌≤◌, ◌==◌, ℕ, zero, suc, Bool, true, false, List, [], ◌∷◌, ◌++◌, length, replicate, Option, Some, None, refl, sym, ap, subst, ◌∙◌, arith}, lemmas.Bool.and_parts, lemmas.Bool.Decides.nat_tests, lemmas.List.{length-append, length-replicate}, Math.Nat.mod-eq_of_lt}
-use Rattle.std.specs.{Prelude.{unwrap_or, IfSome, not, if◌then◌else◌}, List.{AllByRecursion, list_all}}
+-- A rule's form is what its layout writes of its data in a version that allows the rule; such a rule fits it, and is read back from the data.
+use Rattle.std.proofs.{Common.{◌≡◌, ◌-◌, ◌<◌, ◌≤◌, ◌==◌, ◌+◌, ◌||◌, ℕ, zero, suc, Bool, true, false, List, [], ◌∷◌, ◌++◌, length, replicate, Option, Some, None, refl, sym, ap, subst, ◌∙◌, append_assoc, arith}, lemmas.Bool.and_parts, lemmas.Bool.Decides.nat_tests, lemmas.List.{length-append, length-replicate}, Math.Nat.mod-eq_of_lt}
+use Rattle.std.specs.{Prelude.{unwrap_or, is_none, is_ok, IfSome, not, if◌then◌else◌}, List.{AllByRecursion, list_all}}
 use Rattle.byteorder.specs.Endian.{big_bytes}
 use Rattle.pf_addr.specs.declared.{addr.Family.{Family, TheVariants.V4, TheVariants.V6}, path.limits.TheConstants.TABLE_NAME_LIMIT}
-use Rattle.pf_addr.specs.{Address.PlainNet, NetForms.{family, family_byte, address_in, first_number}, Path.{Names.{is_name_byte, IsName}, PathForms.{name_field, ReferenceShape, reference_form}}, Spelling.first_addr, Laws.NetForms.{family_fits, length_fits, address_fits, network_is, network_again}}
-use Rattle.pf_form.specs.{Bytes.{BasicForms.{Bytes, number_bytes, begins_otherwise, constant_at}, Forms.{Shape, nat, both, Value, Form, Fits, Spells, number, front, pair, pair_by, writes, reads, onto, length_of}, Codes.{below, flag, flag_byte}, Names.padded}, Laws.Bytes.{Codes.{flag_fits, flag_again}, Lengths.length_is, Onto.onto_is, Steps.leaves, Texts.one_value}}
+use Rattle.pf_addr.specs.{Address.PlainNet, NetForms.{family, family_byte, address_in, first_number}, Path.{Names.{is_name_byte, IsName}, PathForms.{is_name, name_field, reference_form}}, Spelling.first_addr, Laws.NetForms.{family_fits, length_fits, address_fits, network_is, network_again}}
+use Rattle.pf_form.specs.{Bytes.{BasicForms.{Bytes, number_bytes, begins_otherwise, constant_at}, Forms.{Shape, nat, both, Value, Form, Fits, Spells, number, front, pair, pair_by, times, writes, reads, onto, length_of}, Codes.{below, flag, flag_byte}, Names.padded}, Laws.Bytes.{Codes.{flag_fits, flag_again}, Lengths.length_is, Onto.onto_is, Steps.leaves, Texts.one_value}}
 use Rattle.pf_form.specs.Bytes.Names as fields
-use Rattle.pf_addr.proofs.PathBytes.{name_fits, name_again, reference_fits, reference_again}
+use Rattle.pf_addr.proofs.{NamesRead.name_only, PathBytes.{name_fits, name_again, reference_fits, reference_again}}
 use Rattle.pf_form.proofs.BytesRead.{written_bytes}
 use Rattle.pf_rule.specs.Sum.Forms as forms
-use Rattle.pf_rule.specs.declared.{value.interface.TheConstants.INTERFACE_LIMIT, value.direction.Direction.{Direction, TheVariants.In, TheVariants.Out}, value.ports.{Comparison.TheVariants.{Equal, NotEqual, Less, AtMost, Greater, AtLeast}, PortRange.TheVariants.{Including, Excluding, Except}, PortTest.{PortTest, TheVariants.Compared, TheVariants.Ranged}}, host.host.Host.{Host, TheVariants.Any, TheVariants.Net, TheVariants.Table}, rule.{Effect.{Effect, TheVariants.Decide, TheVariants.Evaluate}, Action.TheVariants.{Pass, Block}}}
-use Rattle.pf_rule.specs.{Bytes.{addr_bytes, addr_bytes-length}, Value.Values.{IsInterfaceName, IsProtocol, has_ports}, Value.Ports.{IsPortTest, ports_fit}, Rules.{PlainRule, HostFits, IsEffect, IsRule}, Sum.Forms.{filled, test_byte, first_port, second_port, host_form, address_bytes, table_name, effect_byte, keeps_state, direction_byte, names, wildcard, rule_form}, Sum.Layouts.{port_test, plain_test, network_end, table_end, EndShape, end, plain_end, FamilyShape, some_family, plain_family, InterfaceShape, interface, plain_interface, named, plain_named, BodyShape, body, RuleShape, rule_layout, plain_rule}, Sum.Reading.{test_of, host_of, port_of, effect_of, direction_of, family_in, protocol_of_byte, interface_of, rule_of}}
+use Rattle.pf_rule.specs.declared.{value.interface.TheConstants.INTERFACE_LIMIT, value.label.TheConstants.LABEL_LIMIT, sum.layout.TheConstants.LABELS_FROM, value.direction.Direction.{Direction, TheVariants.In, TheVariants.Out}, value.ports.{Comparison.TheVariants.{Equal, NotEqual, Less, AtMost, Greater, AtLeast}, PortRange.TheVariants.{Including, Excluding, Except}, PortTest.{PortTest, TheVariants.Compared, TheVariants.Ranged}}, host.host.Host.{Host, TheVariants.Any, TheVariants.Net, TheVariants.Table}, rule.{Effect.{Effect, TheVariants.Decide, TheVariants.Evaluate}, Action.TheVariants.{Pass, Block}}}
+use Rattle.pf_rule.specs.{Bytes.{addr_bytes, addr_bytes-length}, Value.Values.{IsInterfaceName, IsLabel, IsProtocol, has_ports}, Value.Ports.{IsPortTest, ports_fit}, Rules.{PlainRule, HostFits, IsEffect, LabelFits, IsRule}, Sum.Forms.{filled, test_byte, first_port, second_port, host_form, address_bytes, table_name, effect_byte, keeps_state, direction_byte, names, wildcard, label_bytes, rule_form, whole_form}, Sum.Layouts.{plain_named, LabelShape, port_test, plain_test, network_end, table_end, EndShape, end, plain_end, FamilyShape, some_family, plain_family, InterfaceShape, interface, plain_interface, has_labels, label_form, plain_label, EndingShape, named, plain_ending, BodyShape, body, RuleShape, rule_layout, plain_rule, allows}, Sum.Reading.{test_of, host_of, port_of, effect_of, direction_of, family_in, protocol_of_byte, interface_of, label_of, rule_of}}
 
 -- ---- single bytes
 
@@ -137,17 +137,86 @@ keeps_fits (Decide (Pass true)) = (omega arith, refl)
 keeps_fits (Decide (Pass false)) = (omega arith, refl)
 keeps_fits (Evaluate r) = (omega arith, refl)
 
-named_written : (e : Effect) → IsEffect e → writes (named (effect_byte e == 2)) (plain_named e) ≡ filled 64 (names e) ++ (flag_byte (wildcard e) ∷ 0 ∷ 0 ∷ 0 ∷ [])
-unfolding filled reference_form
-named_written (Decide Block) is = refl
-named_written (Decide (Pass keeps)) is = refl
-named_written (Evaluate r) is =
-    rw (written_bytes (fields.filled 64 r.names) (bytes_are _ (reference_fits r is).0.0.0.1), below_written 2 (flag_byte r.wildcard) (flag_low r.wildcard)) refl
+not_zero : (n : ℕ) → 0 < n → (n == 0) ≡ false
+not_zero n lt = grind (arith, nat_tests)
 
-named_fits : (e : Effect) → IsEffect e → Fits (named (effect_byte e == 2)) (plain_named e)
-named_fits (Decide Block) is = refl
-named_fits (Decide (Pass keeps)) is = refl
-named_fits (Evaluate r) is = reference_fits r is
+or_true : (b : Bool) → (b || true) ≡ true
+or_true true = refl
+or_true false = refl
+
+-- a version with labels, or no label
+abbrev Borne : Bool → Option (List ℕ) → Type 0
+Borne labels l = (labels || is_none l) ≡ true
+
+label_low : (label : List ℕ) → IsLabel label → length label < 256
+label_low label is = omega (arith, is.short)
+
+name_byte_low : (b : ℕ) → is_name_byte b ≡ true → b < 256
+name_byte_low b e = grind (arith, nat_tests)
+
+name_bytes_low : (name : List ℕ) → list_all is_name_byte name ≡ true → Bytes name
+name_bytes_low [] all = tt
+name_bytes_low (b ∷ bs) all = let both = and_parts (is_name_byte b) (list_all is_name_byte bs) all in (name_byte_low b both.0, name_bytes_low bs both.1)
+
+label_bytes_written : (label : List ℕ) → IsLabel label → writes (times (length label) (number 1)) label ≡ label
+label_bytes_written label is = written_bytes label (name_bytes_low label is.bytes)
+
+label_written : (labels : Bool) (l : Option (List ℕ)) → IfSome l IsLabel → Borne labels l → writes (label_form labels) (plain_label l) ≡ length (unwrap_or l []) ∷ 0 ∷ 0 ∷ unwrap_or l []
+unfolding label_form
+label_written false None is allowed = refl
+label_written true None is allowed = rw (one 0 (omega arith)) refl
+label_written false (Some label) is allowed = absurd cc
+label_written true (Some label) is allowed = rw (one (length label) (label_low label is), label_bytes_written label is) refl
+
+bytes_fit : (bs : List ℕ) → Bytes bs → AllByRecursion (Fits (number 1)) bs
+bytes_fit [] all = tt
+bytes_fit (b ∷ bs) all = (omega (arith, all.0), bytes_fit bs all.1)
+
+is_label_name : (label : List ℕ) → IsLabel label → is_name LABEL_LIMIT label ≡ true
+is_label_name label is = ap is_ok (name_only LABEL_LIMIT label is)
+
+label_fits : (labels : Bool) (l : Option (List ℕ)) → IfSome l IsLabel → Borne labels l → Fits (label_form labels) (plain_label l)
+unfolding label_form
+label_fits false None is allowed = refl
+label_fits true None is allowed = ((omega arith, (refl, tt)), refl)
+label_fits false (Some label) is allowed = absurd cc
+label_fits true (Some label) is allowed = ((omega (arith, label_low label is), (refl, bytes_fit label (name_bytes_low label is.bytes))), rw (is_label_name label is) (or_true (length label == 0)))
+
+label_allowed : (labels : Bool) (l : Option (List ℕ)) → IfSome l IsLabel → Fits (label_form labels) (plain_label l) → Borne labels l
+unfolding label_form
+label_allowed true l is fits = refl
+label_allowed false None is fits = refl
+label_allowed false (Some label) is fits = let none : length label ≡ 0 = ap (λ (x : Value LabelShape). x.0) fits in absurd (omega (arith, none, is.some))
+
+label_again : (l : Option (List ℕ)) → IfSome l IsLabel → label_of (plain_label l) ≡ l
+label_again None is = refl
+label_again (Some label) is = rw (not_zero (length label) is.some) refl
+
+-- ---- what an anchor rule names, or a label
+
+ending_written : (labels : Bool) (e : Effect) (l : Option (List ℕ)) → IsEffect e → LabelFits e l → Borne labels l
+    → writes (named labels (effect_byte e == 2)) (plain_ending e l) ≡ filled 64 (names e) ++ (flag_byte (wildcard e) ∷ length (unwrap_or l []) ∷ 0 ∷ 0 ∷ unwrap_or l [])
+unfolding named filled reference_form
+ending_written labels (Decide Block) l is fits allowed = rw (label_written labels l fits allowed) refl
+ending_written labels (Decide (Pass keeps)) l is fits allowed = rw (label_written labels l fits allowed) refl
+ending_written labels (Evaluate r) l is none allowed =
+    rw (none, written_bytes (fields.filled 64 r.names) (bytes_are _ (reference_fits r is).0.0.0.1), below_written 2 (flag_byte r.wildcard) (flag_low r.wildcard), append_assoc) refl
+
+ending_fits : (labels : Bool) (e : Effect) (l : Option (List ℕ)) → IsEffect e → LabelFits e l → Borne labels l → Fits (named labels (effect_byte e == 2)) (plain_ending e l)
+unfolding named
+ending_fits labels (Decide Block) l is fits allowed = (refl, label_fits labels l fits allowed)
+ending_fits labels (Decide (Pass keeps)) l is fits allowed = (refl, label_fits labels l fits allowed)
+ending_fits labels (Evaluate r) l is none allowed = rw none (reference_fits r is, refl)
+
+ending_allowed : (labels : Bool) (e : Effect) (l : Option (List ℕ)) → LabelFits e l → Fits (named labels (effect_byte e == 2)) (plain_ending e l) → Borne labels l
+unfolding named
+ending_allowed labels (Decide Block) l is fits = label_allowed labels l is fits.1
+ending_allowed labels (Decide (Pass keeps)) l is fits = label_allowed labels l is fits.1
+ending_allowed labels (Evaluate r) l none fits = rw none (or_true labels)
+
+ending_again : (e : Effect) (l : Option (List ℕ)) → LabelFits e l → label_of (plain_label l) ≡ l
+ending_again (Decide a) l fits = label_again l fits
+ending_again (Evaluate r) l none = rw none refl
 
 effect_again : (e : Effect) → IsEffect e → effect_of (effect_byte e) (flag_byte (keeps_state e)) (plain_named e) ≡ e
 effect_again (Decide Block) is = refl
@@ -194,9 +263,6 @@ family_again (Some V6) = refl
 protocol_low : (p : Option ℕ) → IfSome p IsProtocol → unwrap_or p 0 < 256
 protocol_low None is = omega arith
 protocol_low (Some n) is = is.1
-
-not_zero : (n : ℕ) → 0 < n → (n == 0) ≡ false
-not_zero n lt = grind (arith, nat_tests)
 
 protocol_again : (p : Option ℕ) → IfSome p IsProtocol → protocol_of_byte (unwrap_or p 0) ≡ p
 protocol_again None is = refl
@@ -247,9 +313,9 @@ fitting (Some n) s d source destination = by (has_ports n) refl where
 
 -- ---- a rule
 
-pub layout_is : (version : ℕ) (r : PlainRule) → IsRule r → writes (rule_layout version) (plain_rule r) ≡ rule_form r
+pub layout_is : (version : ℕ) (r : PlainRule) → IsRule r → allows version r ≡ true → writes (rule_layout version) (plain_rule r) ≡ whole_form r
 unfolding rule_layout rule_form
-layout_is version r is =
+layout_is version r is allowed =
     rw (
       below_written 3 (effect_byte r.effect) (effect_low r.effect),
       below_written 3 (direction_byte r.direction) (direction_low r.direction),
@@ -260,15 +326,26 @@ layout_is version r is =
       interface_written r.interface is.interface,
       end_written (has_ports (unwrap_or r.protocol 0)) r.family r.source r.source_port is.source,
       end_written (has_ports (unwrap_or r.protocol 0)) r.family r.destination r.destination_port is.destination,
-      named_written r.effect is.effect,
+      ending_written (has_labels version) r.effect r.label is.effect is.label allowed,
+      append_assoc,
+      append_assoc,
+      append_assoc,
+      append_assoc,
+      append_assoc,
     ) refl
 
-pub form_pushed : (version : ℕ) (r : PlainRule) → IsRule r → (out : List ℕ) → onto (rule_layout version) (plain_rule r) out ≡ out ++ rule_form r
-form_pushed version r is out = onto_is (rule_layout version) (plain_rule r) out ∙ ap (λ (m : List ℕ). out ++ m) (layout_is version r is)
-
-pub rule_fits : (version : ℕ) (r : PlainRule) → IsRule r → Fits (rule_layout version) (plain_rule r)
+-- a version that has a form for a rule allows it
+pub fits_allowed : (version : ℕ) (r : PlainRule) → IsRule r → Fits (rule_layout version) (plain_rule r) → allows version r ≡ true
 unfolding rule_layout
-rule_fits version r is =
+fits_allowed version r is fits = ending_allowed (has_labels version) r.effect r.label is.label fits.1.1.1.1.1.1.1.1.1
+
+pub form_pushed : (version : ℕ) (r : PlainRule) → IsRule r → Fits (rule_layout version) (plain_rule r) → (out : List ℕ) → onto (rule_layout version) (plain_rule r) out ≡ (out ++ rule_form r) ++ label_bytes r
+form_pushed version r is fits out =
+    onto_is (rule_layout version) (plain_rule r) out ∙ ap (λ (m : List ℕ). out ++ m) (layout_is version r is (fits_allowed version r is fits)) ∙ sym (append_assoc out (rule_form r) (label_bytes r))
+
+pub rule_fits : (version : ℕ) (r : PlainRule) → IsRule r → allows version r ≡ true → Fits (rule_layout version) (plain_rule r)
+unfolding rule_layout
+rule_fits version r is allowed =
     let none = none_without r.protocol r.source_port r.destination_port is.ports in (
       effect_fits r.effect,
       (
@@ -287,7 +364,7 @@ rule_fits version r is =
                     end_fits (has_ports (unwrap_or r.protocol 0)) r.family r.source r.source_port is.source is.port_tests.0 (λ e. (none e).0),
                     (
                       end_fits (has_ports (unwrap_or r.protocol 0)) r.family r.destination r.destination_port is.destination is.port_tests.1 (λ e. (none e).1),
-                      named_fits r.effect is.effect,
+                      ending_fits (has_labels version) r.effect r.label is.effect is.label allowed,
                     ),
                   ),
                 ),
@@ -308,18 +385,19 @@ rule_again r is =
       port_again r.source r.source_port,
       port_again r.destination r.destination_port,
       effect_again r.effect is.effect,
+      ending_again r.effect r.label is.label,
       direction_again r.direction,
       flag_again r.quick,
       interface_again r.interface is.interface,
       protocol_again r.protocol is.protocol,
     ) refl
 
-pub rule_spelled : (version : ℕ) (r : PlainRule) → IsRule r → Spells (rule_layout version) (plain_rule r) (rule_form r)
-rule_spelled version r is = record { fits = rule_fits version r is; written = sym (layout_is version r is) }
+pub rule_spelled : (version : ℕ) (r : PlainRule) → IsRule r → allows version r ≡ true → Spells (rule_layout version) (plain_rule r) (whole_form r)
+rule_spelled version r is allowed = record { fits = rule_fits version r is allowed; written = sym (layout_is version r is allowed) }
 
-pub same_form : (r s : PlainRule) → IsRule r → IsRule s → rule_form r ≡ rule_form s → r ≡ s
+pub same_form : (r s : PlainRule) → IsRule r → IsRule s → whole_form r ≡ whole_form s → r ≡ s
 same_form r s p q e =
-    let same : plain_rule r ≡ plain_rule s = one_value (rule_layout 1) (rule_form s) (plain_rule r) (plain_rule s) (subst (Spells (rule_layout 1) (plain_rule r)) e (rule_spelled 1 r p)) (rule_spelled 1 s q) in
+    let same : plain_rule r ≡ plain_rule s = one_value (rule_layout LABELS_FROM) (whole_form s) (plain_rule r) (plain_rule s) (subst (Spells (rule_layout LABELS_FROM) (plain_rule r)) e (rule_spelled LABELS_FROM r p refl)) (rule_spelled LABELS_FROM s q refl) in
     sym (rule_again r p) ∙ ap rule_of same ∙ rule_again s q
 
 -- ---- reading a rule, part by part
@@ -336,51 +414,52 @@ flag_of (suc zero) limit lt le = refl
 flag_of (suc (suc n)) limit lt le = absurd (omega (arith, lt, le))
 
 plain_is : (r : PlainRule) (kind keeps : ℕ) → effect_byte r.effect ≡ kind → flag_byte (keeps_state r.effect) ≡ keeps
-    → (kind, (direction_byte r.direction, (flag_byte r.quick, (keeps, (plain_family r.family, (unwrap_or r.protocol 0, (plain_interface r.interface, (plain_end r.source r.source_port, (plain_end r.destination r.destination_port, plain_named r.effect))))))))) ≡ plain_rule r
-plain_is r kind keeps e k = λ i. (sym e i, (direction_byte r.direction, (flag_byte r.quick, (sym k i, (plain_family r.family, (unwrap_or r.protocol 0, (plain_interface r.interface, (plain_end r.source r.source_port, (plain_end r.destination r.destination_port, plain_named r.effect)))))))))
+    → (kind, (direction_byte r.direction, (flag_byte r.quick, (keeps, (plain_family r.family, (unwrap_or r.protocol 0, (plain_interface r.interface, (plain_end r.source r.source_port, (plain_end r.destination r.destination_port, plain_ending r.effect r.label))))))))) ≡ plain_rule r
+plain_is r kind keeps e k = λ i. (sym e i, (direction_byte r.direction, (flag_byte r.quick, (sym k i, (plain_family r.family, (unwrap_or r.protocol 0, (plain_interface r.interface, (plain_end r.source r.source_port, (plain_end r.destination r.destination_port, plain_ending r.effect r.label)))))))))
 
-pub body_read : (anchors ports : Bool) (f : Value FamilyShape) (b c d e g : List ℕ) (i : Value InterfaceShape) (s t : Value EndShape) (n : Value ReferenceShape)
-    → reads interface b ≡ leaves i c → reads (end ports f) c ≡ leaves s d → reads (end ports f) d ≡ leaves t e → reads (named anchors) e ≡ leaves n g
-    → reads (body anchors ports f) b ≡ leaves (i, (s, (t, n))) g
-body_read anchors ports f b c d e g i s t n at_interface at_source at_destination at_names =
-    next interface (λ x. pair (end ports f) (pair (end ports f) (named anchors))) b c g i (s, (t, n)) at_interface
-    (next (end ports f) (λ x. pair (end ports f) (named anchors)) c d g s (t, n) at_source (next (end ports f) (λ x. named anchors) d e g t n at_destination at_names))
+pub body_read : (labels anchors ports : Bool) (f : Value FamilyShape) (b c d e g : List ℕ) (i : Value InterfaceShape) (s t : Value EndShape) (n : Value EndingShape)
+    → reads interface b ≡ leaves i c → reads (end ports f) c ≡ leaves s d → reads (end ports f) d ≡ leaves t e → reads (named labels anchors) e ≡ leaves n g
+    → reads (body labels anchors ports f) b ≡ leaves (i, (s, (t, n))) g
+body_read labels anchors ports f b c d e g i s t n at_interface at_source at_destination at_names =
+    next interface (λ x. pair (end ports f) (pair (end ports f) (named labels anchors))) b c g i (s, (t, n)) at_interface
+    (next (end ports f) (λ x. pair (end ports f) (named labels anchors)) c d g s (t, n) at_source (next (end ports f) (λ x. named labels anchors) d e g t n at_destination at_names))
 
-abbrev behind_protocol : ℕ → Value FamilyShape → ℕ → Form BodyShape
-behind_protocol kind f p = front (0 ∷ 0 ∷ []) (body (kind == 2) (has_ports p) f)
+abbrev behind_protocol : Bool → ℕ → Value FamilyShape → ℕ → Form BodyShape
+behind_protocol labels kind f p = front (0 ∷ 0 ∷ []) (body labels (kind == 2) (has_ports p) f)
 
-abbrev behind_family : ℕ → Value FamilyShape → Form (both nat BodyShape)
-behind_family kind f = pair_by (number 1) (behind_protocol kind f)
+abbrev behind_family : Bool → ℕ → Value FamilyShape → Form (both nat BodyShape)
+behind_family labels kind f = pair_by (number 1) (behind_protocol labels kind f)
 
-abbrev behind_keeps : ℕ → Form (both FamilyShape (both nat BodyShape))
-behind_keeps kind = pair_by some_family (behind_family kind)
+abbrev behind_keeps : Bool → ℕ → Form (both FamilyShape (both nat BodyShape))
+behind_keeps labels kind = pair_by some_family (behind_family labels kind)
 
-abbrev behind_quick : ℕ → Form (both nat (both FamilyShape (both nat BodyShape)))
-behind_quick kind = pair (below (if kind == 1 then 2 else 1)) (behind_keeps kind)
+abbrev behind_quick : Bool → ℕ → Form (both nat (both FamilyShape (both nat BodyShape)))
+behind_quick labels kind = pair (below (if kind == 1 then 2 else 1)) (behind_keeps labels kind)
 
-abbrev behind_direction : ℕ → Form (both nat (both nat (both FamilyShape (both nat BodyShape))))
-behind_direction kind = pair flag (behind_quick kind)
+abbrev behind_direction : Bool → ℕ → Form (both nat (both nat (both FamilyShape (both nat BodyShape))))
+behind_direction labels kind = pair flag (behind_quick labels kind)
 
-abbrev behind_kind : ℕ → Form (both nat (both nat (both nat (both FamilyShape (both nat BodyShape)))))
-behind_kind kind = pair (below 3) (behind_direction kind)
+abbrev behind_kind : Bool → ℕ → Form (both nat (both nat (both nat (both FamilyShape (both nat BodyShape)))))
+behind_kind labels kind = pair (below 3) (behind_direction labels kind)
 
 pub rule_read : (version : ℕ) (r : PlainRule) (kind keeps limit : ℕ) (b1 b2 b3 b4 b5 b6 b7 b8 b9 : List ℕ) → effect_byte r.effect ≡ kind → keeps_state r.effect ≡ (keeps == 1) → keeps < limit → limit ≤ 2 → limit ≡ (if kind == 1 then 2 else 1)
     → reads (below 3) b1 ≡ leaves kind b2 → reads (below 3) b2 ≡ leaves (direction_byte r.direction) b3 → reads flag b3 ≡ leaves (flag_byte r.quick) b4
     → reads (below limit) b4 ≡ leaves keeps b5 → reads some_family b5 ≡ leaves (plain_family r.family) b6 → reads (number 1) b6 ≡ leaves (unwrap_or r.protocol 0) b7
     → constant_at (0 ∷ 0 ∷ []) b7 ≡ leaves tt b8
-    → reads (body (kind == 2) (has_ports (unwrap_or r.protocol 0)) (plain_family r.family)) b8 ≡ leaves (plain_interface r.interface, (plain_end r.source r.source_port, (plain_end r.destination r.destination_port, plain_named r.effect))) b9
+    → reads (body (has_labels version) (kind == 2) (has_ports (unwrap_or r.protocol 0)) (plain_family r.family)) b8 ≡ leaves (plain_interface r.interface, (plain_end r.source r.source_port, (plain_end r.destination r.destination_port, plain_ending r.effect r.label))) b9
     → reads (rule_layout version) b1 ≡ leaves (plain_rule r) b9
 unfolding rule_layout
 rule_read version r kind keeps limit b1 b2 b3 b4 b5 b6 b7 b8 b9 e k lt le is at_kind at_direction at_quick at_keeps at_family at_protocol at_zeros at_body =
     let same = plain_is r kind keeps e (ap flag_byte k ∙ flag_of keeps limit lt le) in
+    let labels : Bool = has_labels version in
     let keeping = rw is at at_keeps in
-    next (below 3) behind_kind b1 b2 b9 kind _ at_kind
-    (next (below 3) (λ d. behind_direction kind) b2 b3 b9 (direction_byte r.direction) _ at_direction
-    (next flag (λ q. behind_quick kind) b3 b4 b9 (flag_byte r.quick) _ at_quick
-    (next (below (if kind == 1 then 2 else 1)) (λ k. behind_keeps kind) b4 b5 b9 keeps _ keeping
-    (next some_family (behind_family kind) b5 b6 b9 (plain_family r.family) _ at_family
-    (next (number 1) (behind_protocol kind (plain_family r.family)) b6 b7 b9 (unwrap_or r.protocol 0) _ at_protocol
-    (behind (0 ∷ 0 ∷ []) (body (kind == 2) (has_ports (unwrap_or r.protocol 0)) (plain_family r.family)) b7 b8 b9 _ at_zeros at_body))))))
+    next (below 3) (behind_kind labels) b1 b2 b9 kind _ at_kind
+    (next (below 3) (λ d. behind_direction labels kind) b2 b3 b9 (direction_byte r.direction) _ at_direction
+    (next flag (λ q. behind_quick labels kind) b3 b4 b9 (flag_byte r.quick) _ at_quick
+    (next (below (if kind == 1 then 2 else 1)) (λ k. behind_keeps labels kind) b4 b5 b9 keeps _ keeping
+    (next some_family (behind_family labels kind) b5 b6 b9 (plain_family r.family) _ at_family
+    (next (number 1) (behind_protocol labels kind (plain_family r.family)) b6 b7 b9 (unwrap_or r.protocol 0) _ at_protocol
+    (behind (0 ∷ 0 ∷ []) (body labels (kind == 2) (has_ports (unwrap_or r.protocol 0)) (plain_family r.family)) b7 b8 b9 _ at_zeros at_body))))))
     ∙ ap (λ (x : Value RuleShape). leaves x b9) same
 
 -- ---- how long a form is
@@ -424,6 +503,7 @@ form_long r is =
       filled_long 64 (names r.effect) (names_short r.effect is.effect),
     )
 
--- and so is what its layout writes
-pub layout_long : (version : ℕ) (r : PlainRule) → IsRule r → length_of (rule_layout version) (plain_rule r) ≡ 204
-layout_long version r is = sym (length_is (rule_layout version) (plain_rule r)) ∙ ap length (layout_is version r is) ∙ form_long r is
+-- and so is what its layout writes, with the label
+pub layout_long : (version : ℕ) (r : PlainRule) → IsRule r → allows version r ≡ true → length_of (rule_layout version) (plain_rule r) ≡ 204 + length (label_bytes r)
+layout_long version r is allowed =
+    sym (length_is (rule_layout version) (plain_rule r)) ∙ ap length (layout_is version r is allowed) ∙ length-append (rule_form r) (label_bytes r) ∙ ap (λ (n : ℕ). n + length (label_bytes r)) (form_long r is)

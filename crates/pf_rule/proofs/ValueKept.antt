@@ -3,11 +3,11 @@ use Rattle.std.proofs.{Common.{◌≡◌, ℕ, ◌<◌, Bool, true, false, List,
 use Rattle.std.specs.{Prelude.{◌+◌, take, drop, IfSome, IfOk}, List.position}
 use Rattle.pf_addr.specs.declared.addr.Addr.{Addr}
 use Rattle.pf_form.specs.declared.form.fault.Kind.{Kind}
-use Rattle.pf_addr.specs.{Address.IsAddr, Laws.{Spelling.IsAddr-spelled, Reading.addr_found}, Reading.addr_at}
+use Rattle.pf_addr.specs.{Address.IsAddr, Laws.{Spelling.IsAddr-spelled, Reading.addr_found}, Path.References.unquoted, Reading.addr_at}
 use Rattle.pf_form.specs.Form.{Words.Word, Forms.{Spells, ◌>>=◌}}
 use Rattle.pf_addr.proofs.NamesRead.{name_found}
-use Rattle.pf_rule.specs.declared.{value.interface.TheConstants.INTERFACE_LIMIT, value.ports.Comparison.Comparison, value.ports.PortRange.PortRange, value.ports.PortRange.TheVariants.Including, value.ports.PortTest.PortTest, value.ports.PortTest.TheVariants.{Compared, Ranged}, value.port_words.PortStart.PortStart, value.port_words.PortStart.TheVariants.{Test, Number}}
-use Rattle.pf_rule.specs.{Value.Values.{IsInterfaceName, IsProtocol, interface_of, protocol_of, address_of, port_of}, Value.Tests.{interface, protocol}, Value.Ports.{IsPortTest, is_colon, split_operator, joined, number_or, start_at, start_of, is_number, test_with, range_end, compared, ranged, order_or_range, port_test, port}}
+use Rattle.pf_rule.specs.declared.{value.interface.TheConstants.INTERFACE_LIMIT, value.label.TheConstants.LABEL_LIMIT, value.ports.Comparison.Comparison, value.ports.PortRange.PortRange, value.ports.PortRange.TheVariants.Including, value.ports.PortTest.PortTest, value.ports.PortTest.TheVariants.{Compared, Ranged}, value.port_words.PortStart.PortStart, value.port_words.PortStart.TheVariants.{Test, Number}}
+use Rattle.pf_rule.specs.{Value.Values.{IsInterfaceName, IsProtocol, IsLabel, interface_of, protocol_of, label_of, address_of, port_of}, Value.Tests.{interface, protocol}, Value.Ports.{IsPortTest, is_colon, split_operator, joined, number_or, start_at, start_of, is_number, test_with, range_end, compared, ranged, order_or_range, port_test, port}}
 
 -- ---- one word
 
@@ -19,6 +19,9 @@ interface_kept w n e = (name_found INTERFACE_LIMIT w n e).0
 
 pub protocol_kept : (w : Word) (n : ℕ) → protocol_of w ≡ Ok n → IsProtocol n
 protocol_kept w n e = grind (arith, nat_tests)
+
+pub label_kept : (w l : Word) → label_of w ≡ Ok l → IsLabel l
+label_kept w l e = (name_found LABEL_LIMIT (unquoted w) l e).0
 
 pub address_kept : (w : Word) (a : Addr) → address_of w ≡ Ok a → IsAddr a
 address_kept w a e = grind (arith, addr_is)

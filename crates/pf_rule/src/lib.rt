@@ -7,7 +7,7 @@
 //! The crate knows no rulesets at paths, no tables, tickets, states or lines; which ruleset an anchor rule leads to is `pf_anchor`'s
 //! business.
 //!
-//! `value` (protocols, ports, interfaces, directions) uses no other module; `host` (the addresses and tables of a rule's two ends) uses
+//! `value` (protocols, ports, interfaces, directions, labels) uses no other module; `host` (the addresses and tables of a rule's two ends) uses
 //! `value`; rules and packets, at the root, use both and know no checksum; `sum` (forms and checksums) uses all three. `fault` says why a
 //! text was refused. `laws` may use all.
 //!
@@ -20,8 +20,10 @@
 //! grammar spells, and refuse any other with the one refusal due (`rules_and_packets_are_read_as_spelled`, `a_refusal_is_one`). What is
 //! written is read again (`what_is_written_is_read_again`), and different rules have different texts and forms
 //! (`different_rules_have_different_texts`, `sum::different_rules_have_different_forms`). A rule is read from its form
-//! (`sum::rule_is_read_from_its_form`); example rules have given texts, forms and checksums, to compare with what other programs compute
-//! (`sum::four_rules_have_these_forms`, `sum::three_rulesets_have_these_sums`). Nothing is only tested here.
+//! and its label (`sum::rule_is_read_from_its_form`); example rules have given texts, forms and checksums, to compare with what other
+//! programs compute (`sum::four_rules_have_these_forms`, `sum::labelled_rule_has_this_form_and_sum`,
+//! `sum::three_rulesets_have_these_sums`).
+//! Only tests of other crates show that memory runs out only if a growth was refused.
 #![tactic(auto)]
 
 mod fault;
@@ -44,4 +46,7 @@ pub use packet::Packet;
 pub use pf_addr::path::{Reference, TableName};
 pub use rule::{Action, Effect, Rule};
 pub use sum::{rule_bytes, ruleset_sum};
-pub use value::{Comparison, Direction, INTERFACE_LIMIT, Interface, PortRange, PortTest, Protocol};
+pub use value::{
+    Comparison, Direction, INTERFACE_LIMIT, Interface, LABEL_LIMIT, Label, PortRange, PortTest,
+    Protocol,
+};

@@ -1,15 +1,15 @@
 //! Filter rules.
-ghost use Rattle.std.specs.Prelude.{◌≡◌};
+ghost use Rattle.std.specs.Prelude.{◌≡◌, [], unwrap_or};
 ghost use Rattle.pf_form.specs.{Form.Readers.Moves, Form.Words.{words_of, texts}};
-ghost use Rattle.pf_rule.specs.{RuleGrammar.{rule, agreed, one_family, agreeing, passes, effect_of}, Refusals.{IsAnswer, reading}, Rules.{PlainRule, IsRule, ends_hold, matches}, Matching.{ports_hold, networks_hold, tables_hold}};
+ghost use Rattle.pf_rule.specs.{RuleGrammar.{rule, agreed, one_family, agreeing, passes, decides, effect_of}, Refusals.{IsAnswer, reading}, Rules.{PlainRule, IsRule, ends_hold, matches}, KeptRules.labelled, Matching.{ports_hold, networks_hold, tables_hold}};
 
 use crate::fault::{Mistake, TextFault, tell};
 use crate::host::{Host, TableAnswers, read_ends};
 use crate::packet::Packet;
-use crate::rule_words::{read_opening, read_state};
+use crate::rule_words::{read_label, read_opening, read_state};
 use crate::value::{
-    Direction, Interface, PortTest, Protocol, is_wanted, ports_fit, read_direction, read_family,
-    read_interface, read_protocol, takes_port,
+    Direction, Interface, Label, PortTest, Protocol, is_wanted, ports_fit, read_direction,
+    read_family, read_interface, read_protocol, takes_port,
 };
 use pf_addr::Family;
 use pf_addr::path::Reference;
@@ -47,8 +47,7 @@ pub(crate) enum RuleStart {
 }
 
 /// What a rule says (pf.conf(5), PACKET FILTERING and PARAMETERS). Contracts see a [`Rule`] as these fields (`PlainRule`), each as they
-/// see its type. A missing test holds for every packet, and a rule matches if all its tests hold. The widest fields come first, so that
-/// no padding is lost between them.
+/// see its type. A missing test holds for every packet, and a rule matches if all its tests hold.
 #[derive(Clone, Copy)]
 pub(crate) struct RuleParts {
     /// The addresses that a packet must come from (`from`).
@@ -71,22 +70,56 @@ pub(crate) struct RuleParts {
     pub(crate) family: Option<Family>,
     /// The protocol that a packet must have (`proto`), as its number, 1 to 255.
     pub(crate) protocol: Option<Protocol>,
+    /// The label (`label`). It isn't a test, and an anchor rule has none.
+    pub(crate) label: Option<Label>,
 }
 
-/// A filter rule (pf.conf(5), PACKET FILTERING). A rule is exactly what some text spells.
+/// What a match does, and the rule's label.
+///
+/// Only an anchor rule has a reference, and only a rule that decides has a label, so they share one place: a rule with a label is no
+/// larger than one without, and copying it doesn't allocate.
 #[derive(Clone, Copy)]
-pub struct Rule(RuleParts);
+pub(crate) enum LabelledEffect {
+    /// It decides, and has no label.
+    Plain(Action),
+    /// It decides, and has one.
+    Labelled(Label, Action),
+    /// The named rulesets are evaluated in its place.
+    Anchor(Reference),
+}
+
+/// A filter rule (pf.conf(5), PACKET FILTERING). A rule is exactly what some text spells. The widest fields come first, so that no
+/// padding is lost between them.
+#[derive(Clone, Copy)]
+pub struct Rule {
+    source: Host,
+    destination: Host,
+    effect: LabelledEffect,
+    interface: Option<Interface>,
+    source_port: Option<PortTest>,
+    destination_port: Option<PortTest>,
+    direction: Option<Direction>,
+    quick: bool,
+    family: Option<Family>,
+    protocol: Option<Protocol>,
+}
+
+// A label takes no room in a rule: this is as large as a rule without one.
+const _: () = prove!(size_of::<Rule>() == 240);
 
 impl Model for Rule {
-    ghost use Rattle.pf_rule.specs.Rules.{PlainRule, IsRule};
+    ghost use Rattle.pf_rule.specs.Rules.{PlainRule};
+    ghost use Rattle.pf_rule.specs.KeptRules.{rule_kept, IsKept, inside_of, inside_of-kept};
 
     ghost Value = { PlainRule };
 
-    ghost view = { λ r. r.0 };
+    ghost view = { rule_kept };
 
-    ghost invariant = { λ r. IsRule r.0 };
+    ghost invariant = { IsKept };
 
-    ghost inverse = { λ r. record { 0 = r } };
+    ghost inverse = { inside_of };
+
+    ghost inverse_ok = { inside_of-kept };
 }
 
 impl RuleStart {
@@ -95,6 +128,13 @@ impl RuleStart {
         ensures { result ≡ passes self.now }
     {
         matches!(self, RuleStart::Pass)
+    }
+
+    /// Whether a rule that begins like this decides; no other has a label.
+    fn decides(&self) -> bool
+        ensures { result ≡ decides self.now }
+    {
+        !matches!(self, RuleStart::Anchor(_))
     }
 
     /// What a match with the rule does, given whether it keeps state.
@@ -115,7 +155,18 @@ impl Rule {
         requires { IsRule parts }
         ensures { result ≡ parts }
     {
-        Rule(parts)
+        Rule {
+            source: parts.source,
+            destination: parts.destination,
+            effect: labelled(parts.effect, parts.label),
+            interface: parts.interface,
+            source_port: parts.source_port,
+            destination_port: parts.destination_port,
+            direction: parts.direction,
+            quick: parts.quick,
+            family: parts.family,
+            protocol: parts.protocol,
+        }
     }
 
     /// Reads a rule from the front of the remaining words. Doesn't allocate.
@@ -135,6 +186,7 @@ impl Rule {
         let protocol = read_protocol(words)?;
         let ends = read_ends(words)?;
         let keeps_state = read_state(opening.passes(), words)?;
+        let label = read_label(opening.decides(), words)?;
         let parts = agreeing(RuleParts {
             effect: opening.effect(keeps_state),
             direction,
@@ -146,9 +198,10 @@ impl Rule {
             source_port: ends.0.1,
             destination: ends.1.0,
             destination_port: ends.1.1,
+            label,
         });
         match parts {
-            Ok(parts) => Ok(Ok(Rule(parts))),
+            Ok(parts) => Ok(Ok(Rule::of(parts))),
             Err(mistake) => Ok(Err(mistake)),
         }
     }
@@ -156,10 +209,10 @@ impl Rule {
     /// Reads a rule from its text: words separated by blanks.
     ///
     /// `at` is the number of the first word at which no rule's text can continue, from 0, or the number of words if one is missing.
-    /// [`TextFault::NameTooLong`] is for an interface of more than 15 bytes, a table of more than 31 and a reference past its limits,
-    /// [`TextFault::BadProto`] for a word that must be a protocol, [`TextFault::BadWord`] for any other. [`TextFault::MixedFamily`] and
-    /// then [`TextFault::PortNeedsProto`] are found after the last word. [`TextFault::Memory`] means that there was no memory for the
-    /// list of words.
+    /// [`TextFault::NameTooLong`] is for an interface of more than 15 bytes, a table of more than 31, a label of more than 63 and a
+    /// reference past its limits, [`TextFault::BadProto`] for a word that must be a protocol, [`TextFault::BadWord`] for any other.
+    /// [`TextFault::MixedFamily`] and then [`TextFault::PortNeedsProto`] are found after the last word. [`TextFault::Memory`] means that
+    /// there was no memory for the list of words.
     #[tactic(auto, using(crate::proofs::TextAnswers::is_answer_rule))]
     pub fn parse(alloc: Global, text: &str) -> Result<Rule, TextFault>
         ensures { IsAnswer PlainRule rule (words_of text.now) result }
@@ -182,12 +235,11 @@ impl Rule {
     pub fn matches<T: TableAnswers>(&self, tables: &T, packet: &Packet) -> bool
         ensures { result ≡ matches (T.says tables.now) self.now packet.now }
     {
-        let rule = &self.0;
-        is_wanted(&rule.direction, &packet.direction())
-            && is_wanted(&rule.interface, packet.interface())
-            && is_wanted(&rule.family, &packet.source().family())
-            && is_wanted(&rule.protocol, &packet.protocol())
-            && ends_hold(rule, tables, packet)
+        is_wanted(&self.direction, &packet.direction())
+            && is_wanted(&self.interface, packet.interface())
+            && is_wanted(&self.family, &packet.source().family())
+            && is_wanted(&self.protocol, &packet.protocol())
+            && ends_hold(self, tables, packet)
     }
 
     /// What a match with the rule does.
@@ -196,7 +248,32 @@ impl Rule {
         // what every rule maintains
         ensures kept { IsRule self.now }
     {
-        self.0.effect
+        match self.effect {
+            LabelledEffect::Plain(action) | LabelledEffect::Labelled(_, action) => {
+                Effect::Decide(action)
+            }
+            LabelledEffect::Anchor(reference) => Effect::Evaluate(reference),
+        }
+    }
+
+    /// The rule's label, an empty text if it has none. It isn't a test: it is for whoever lists the rules.
+    pub fn label(&self) -> &str
+        ensures { result.now ≡ unwrap_or self.now.label [] }
+    {
+        match &self.effect {
+            LabelledEffect::Labelled(label, _) => text_of(label),
+            LabelledEffect::Plain(_) | LabelledEffect::Anchor(_) => "",
+        }
+    }
+
+    /// The label, if the rule has one.
+    pub(crate) fn own_label(&self) -> Option<Label>
+        ensures { result ≡ self.now.label }
+    {
+        match self.effect {
+            LabelledEffect::Labelled(label, _) => Some(label),
+            LabelledEffect::Plain(_) | LabelledEffect::Anchor(_) => None,
+        }
     }
 
     /// Whether the rule is quick (`quick`): a match that decides ends the evaluation. An anchor rule decides nothing itself; a quick one
@@ -204,63 +281,87 @@ impl Rule {
     pub fn is_quick(&self) -> bool
         ensures { result ≡ self.now.quick }
     {
-        self.0.quick
+        self.quick
     }
 
     /// The direction of the packets that the rule matches, if it tests it.
     pub fn direction(&self) -> Option<Direction>
         ensures { result ≡ self.now.direction }
     {
-        self.0.direction
+        self.direction
     }
 
     /// The interface of the packets that the rule matches, if it tests it.
     pub fn interface(&self) -> Option<Interface>
         ensures { result ≡ self.now.interface }
     {
-        self.0.interface
+        self.interface
     }
 
     /// The family of the packets that the rule matches, if it tests it: the one written or that of a host's network.
     pub fn family(&self) -> Option<Family>
         ensures { result ≡ self.now.family }
     {
-        self.0.family
+        self.family
     }
 
     /// The protocol of the packets that the rule matches, if it tests it.
     pub fn protocol(&self) -> Option<Protocol>
         ensures { result ≡ self.now.protocol }
     {
-        self.0.protocol
+        self.protocol
     }
 
     /// The addresses that packets may come from.
     pub fn source(&self) -> Host
         ensures { result ≡ self.now.source }
     {
-        self.0.source
+        self.source
     }
 
     /// The test of the port that packets come from, if there is one.
     pub fn source_port(&self) -> Option<PortTest>
         ensures { result ≡ self.now.source_port }
     {
-        self.0.source_port
+        self.source_port
     }
 
     /// The addresses that packets may go to.
     pub fn destination(&self) -> Host
         ensures { result ≡ self.now.destination }
     {
-        self.0.destination
+        self.destination
     }
 
     /// The test of the port that packets go to, if there is one.
     pub fn destination_port(&self) -> Option<PortTest>
         ensures { result ≡ self.now.destination_port }
     {
-        self.0.destination_port
+        self.destination_port
+    }
+}
+
+/// An effect with its rule's label, if it decides.
+fn labelled(effect: Effect, label: Option<Label>) -> LabelledEffect
+    ensures { result ≡ labelled effect label }
+{
+    match effect {
+        Effect::Decide(action) => match label {
+            Some(label) => LabelledEffect::Labelled(label, action),
+            None => LabelledEffect::Plain(action),
+        },
+        Effect::Evaluate(reference) => LabelledEffect::Anchor(reference),
+    }
+}
+
+/// A label as text.
+fn text_of(label: &Label) -> &str
+    ensures { result.now ≡ label.now }
+{
+    let bytes = label.as_bytes();
+    match str::from_utf8(bytes) {
+        Ok(text) => text,
+        Err(_) => "",
     }
 }
 
@@ -300,27 +401,27 @@ fn agreeing(parts: RuleParts) -> Result<RuleParts, Mistake>
 
 /// Whether a packet's addresses and ports are among those of the rule's two ends. Ports are tested first; tables, the most costly, last.
 #[tactic(auto, using(crate::specs::Matching::ends_in_turn))]
-fn ends_hold<T: TableAnswers>(rule: &RuleParts, tables: &T, packet: &Packet) -> bool
+fn ends_hold<T: TableAnswers>(rule: &Rule, tables: &T, packet: &Packet) -> bool
     ensures { result ≡ ends_hold (T.says tables.now) rule.now packet.now }
 {
     ports_hold(rule, packet) && networks_hold(rule, packet) && tables_hold(rule, tables, packet)
 }
 
-fn ports_hold(rule: &RuleParts, packet: &Packet) -> bool
+fn ports_hold(rule: &Rule, packet: &Packet) -> bool
     ensures { result ≡ ports_hold rule.now packet.now }
 {
     takes_port(rule.source_port, packet.source_port())
         && takes_port(rule.destination_port, packet.destination_port())
 }
 
-fn networks_hold(rule: &RuleParts, packet: &Packet) -> bool
+fn networks_hold(rule: &Rule, packet: &Packet) -> bool
     ensures { result ≡ networks_hold rule.now packet.now }
 {
     rule.source.network_holds(packet.source())
         && rule.destination.network_holds(packet.destination())
 }
 
-fn tables_hold<T: TableAnswers>(rule: &RuleParts, tables: &T, packet: &Packet) -> bool
+fn tables_hold<T: TableAnswers>(rule: &Rule, tables: &T, packet: &Packet) -> bool
     ensures { result ≡ tables_hold (T.says tables.now) rule.now packet.now }
 {
     rule.source.table_holds(tables, packet.source())

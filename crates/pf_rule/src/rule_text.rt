@@ -1,11 +1,11 @@
 //! The canonical text of a rule.
 ghost use Rattle.std.specs.{Prelude.{◌≡◌, ◌≢◌, IfErr}, IoError.error_kind};
 ghost use Rattle.pf_addr.specs.Writing.{Writes, Continues};
-ghost use Rattle.pf_rule.specs.{Value.Spacing.spaced, RuleText.{effect_word, reference_words, quick_words, state_words, rule_text}};
+ghost use Rattle.pf_rule.specs.{Value.Spacing.spaced, RuleText.{effect_word, reference_words, quick_words, state_words, label_words, rule_text}};
 
 use crate::host::write_ends;
 use crate::rule::{Action, Effect, Rule};
-use crate::value::{direction_text, family_text, write_interface, write_protocol};
+use crate::value::{Label, direction_text, family_text, write_interface, write_protocol};
 use pf_addr::{write_more, write_text};
 use std::io::{self, ErrorKind, Write};
 
@@ -29,7 +29,8 @@ impl Rule {
         let source = (self.source(), self.source_port());
         let destination = (self.destination(), self.destination_port());
         let so_far = write_ends(out, so_far, source, destination);
-        write_more(out, so_far, state_text(self.effect()))
+        let so_far = write_more(out, so_far, state_text(self.effect()));
+        write_label(out, so_far, self.own_label())
     }
 }
 
@@ -77,4 +78,21 @@ fn write_reference<W: Write>(out: &mut W, so_far: io::Result<()>, effect: Effect
         b"\""
     };
     write_more(out, so_far, end)
+}
+
+/// Writes a label, in quotes.
+#[tactic(auto, using(crate::specs::Value::Spacing::continuing))]
+fn write_label<W: Write>(
+    out: &mut W,
+    so_far: io::Result<()>,
+    label: Option<Label>,
+) -> io::Result<()>
+    ensures { Continues so_far (W.contents out.old) result (W.contents out.new) (spaced (label_words label)) }
+{
+    let Some(label) = label else {
+        return write_more(out, so_far, b"");
+    };
+    let so_far = write_more(out, so_far, b" label \"");
+    let so_far = write_more(out, so_far, label.as_bytes());
+    write_more(out, so_far, b"\"")
 }

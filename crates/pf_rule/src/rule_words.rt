@@ -1,9 +1,10 @@
 //! Reading the parts of a rule, each from the front of the remaining words.
 ghost use Rattle.pf_form.specs.Form.Readers.{Moves};
-ghost use Rattle.pf_rule.specs.RuleGrammar.{a_reference, opening, state};
+ghost use Rattle.pf_rule.specs.RuleGrammar.{a_reference, label, opening, state};
 
 use crate::rule::RuleStart;
 use crate::take_word;
+use crate::value::{Label, label_word};
 use pf_addr::path::Reference;
 use pf_form::form::{Stop, Words, expect, takes};
 
@@ -46,4 +47,15 @@ pub(crate) fn read_state<'a>(passes: bool, words: &mut Words<'a>) -> Result<bool
         return Ok(false);
     }
     Ok(true)
+}
+
+/// The label of a rule, if there is one. Only a rule that decides has the option.
+#[tactic(auto, unfolding(crate::specs::RuleGrammar::label))]
+pub(crate) fn read_label<'a>(decides: bool, words: &mut Words<'a>) -> Result<Option<Label>, Stop>
+    ensures { Moves (label decides) result words.old.now words.new.now }
+{
+    if !decides || !takes(words, b"label") {
+        return Ok(None);
+    }
+    Ok(Some(label_word(words)?))
 }

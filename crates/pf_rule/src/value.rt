@@ -1,8 +1,9 @@
-//! The values that rules and packets are made of: protocols, ports and their tests, interfaces and directions. How their words are read
-//! and written, and what a test of one says.
+//! The values that rules and packets are made of: protocols, ports and their tests, interfaces, directions and labels. How their words
+//! are read and written, and what a test of one says.
 
 mod direction;
 mod interface;
+mod label;
 mod laws;
 mod port_words;
 mod ports;
@@ -15,8 +16,10 @@ mod wanted;
 
 pub use direction::Direction;
 pub use interface::{INTERFACE_LIMIT, Interface};
+pub use label::{LABEL_LIMIT, Label};
 pub use laws::{
-    limits_are_these, port_words_are_read_as_spelled, protocol_words_are_read_as_spelled,
+    label_words_are_read_as_spelled, limits_are_these, port_words_are_read_as_spelled,
+    protocol_words_are_read_as_spelled,
 };
 pub(crate) use port_words::read_port;
 pub use ports::{Comparison, PortRange, PortTest};
@@ -27,5 +30,5 @@ pub(crate) use test_text::{
 };
 pub(crate) use test_words::{read_direction, read_family, read_interface, read_protocol};
 pub use value_words::address_word;
-pub(crate) use value_words::{interface_word, port_word, protocol_word};
+pub(crate) use value_words::{interface_word, label_word, port_word, protocol_word};
 pub(crate) use wanted::is_wanted;

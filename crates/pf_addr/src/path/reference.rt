@@ -79,8 +79,8 @@ impl Reference {
     }
 }
 
-// What is between the quotes, or the whole word if it has none.
-fn unquoted(word: &[u8]) -> &[u8]
+/// What is between the double quotes that a word begins and ends with, or the whole word if it isn't in quotes. Doesn't allocate.
+pub fn unquoted(word: &[u8]) -> &[u8]
     ensures { result.now ≡ unquoted word.now }
 {
     let behind = word.strip_prefix(b"\"".as_slice());

@@ -1,13 +1,13 @@
 //! The forms of rules in bytes.
 ghost use Rattle.std.specs.Prelude.{◌≡◌, ◌≤◌, ◌∷◌, [], length, unwrap_or};
 ghost use Rattle.pf_form.specs.Bytes.Codes.{flag_byte};
-ghost use Rattle.pf_rule.specs.Sum.Forms.{filled, heading, effect_byte, keeps_state, direction_byte, family_byte, names, wildcard, rule_form};
+ghost use Rattle.pf_rule.specs.Sum.Forms.{filled, heading, effect_byte, keeps_state, direction_byte, family_byte, names, wildcard, label_bytes, rule_form};
 
 use crate::sum::host_form::{HOST_FORM, host_bytes};
 use crate::{Action, Direction, Effect, Rule};
 use pf_addr::Family;
 
-/// How many bytes a rule's form has.
+/// How many bytes a rule's form has before the label.
 pub const RULE_FORM: usize = 204;
 
 const HEADING: usize = 8;
@@ -18,11 +18,12 @@ const REFERENCE_FIELD: usize = 64;
 
 const TAIL: usize = 4;
 
-/// The rule's form: all that the rule says, in bytes at fixed places. Numbers have their highest byte first (network order), names are
-/// padded with zeros, and what doesn't apply is 0. The places are in the table at the definition `rule_form`; they are this project's
-/// own.
+/// The rule's form before its label: all that the rule says but the label, in bytes at fixed places. Numbers have their highest byte
+/// first (network order), names are padded with zeros, and what doesn't apply is 0. The places are in the table at the definition
+/// `rule_form`; they are this project's own.
 ///
-/// Never runs out of memory. The rule can be read from its form, so different rules have different forms.
+/// Never runs out of memory. The whole form is these bytes followed by those of [`Rule::label`]. The rule can be read from it, so
+/// different rules have different forms.
 #[tactic(auto, unfolding(crate::specs::Sum::Forms::rule_form))]
 pub fn rule_bytes(rule: &Rule) -> [u8; RULE_FORM]
     ensures { result ≡ rule_form rule.now }
@@ -125,15 +126,24 @@ fn reference_field(rule: &Rule) -> [u8; REFERENCE_FIELD]
     }
 }
 
-// Whether the reference ended in `/*`, followed by zeros.
+// Whether the reference ended in `/*`, the label's length, and zeros.
 fn tail_of(rule: &Rule) -> [u8; TAIL]
-    ensures { result ≡ flag_byte (wildcard rule.now.effect) ∷ 0 ∷ 0 ∷ 0 ∷ [] }
+    ensures { result ≡ flag_byte (wildcard rule.now.effect) ∷ length (label_bytes rule.now) ∷ 0 ∷ 0 ∷ [] }
 {
     let is_wildcard = match rule.effect() {
         Effect::Evaluate(reference) => reference.is_wildcard(),
         Effect::Decide(_) => false,
     };
-    [u8::from(is_wildcard), 0, 0, 0]
+    [u8::from(is_wildcard), label_length(rule), 0, 0]
+}
+
+fn label_length(rule: &Rule) -> u8
+    ensures { result ≡ length (label_bytes rule.now) }
+{
+    match rule.own_label() {
+        Some(label) => label.as_bytes().len() as u8,
+        None => 0,
+    }
 }
 
 /// These bytes followed by zeros.

@@ -1,28 +1,34 @@
 //! Laws of forms. Each function does nothing; its contract is what is proved.
-ghost use Rattle.std.specs.Prelude.{◌≡◌, ℕ, [], ◌∷◌, codes, length, map, Ok};
-ghost use Rattle.pf_rule.specs.{Rules.{PlainRule, IsRule}, RuleGrammar.rule, Sum.Forms.{host_form, rule_form, ruleset_sum}, Sum.Layouts.{rule_layout, plain_rule}, Sum.Reading.rule_of};
+ghost use Rattle.std.specs.Prelude.{◌≡◌, ◌+◌, ℕ, true, [], ◌∷◌, codes, length, map, Ok};
+ghost use Rattle.pf_rule.specs.{Rules.{PlainRule, IsRule}, RuleGrammar.rule, Sum.Forms.{host_form, label_bytes, rule_form, whole_form, ruleset_sum}, Sum.Layouts.{rule_layout, plain_rule, allows}, Sum.Reading.rule_of};
 ghost use Rattle.pf_form.specs.{Bytes.Forms.{Fits, writes, length_of}, Form.Words.words_of, Form.Forms.read_all};
-ghost use Rattle.pf_rule.specs.declared.{host.host.Host.TheVariants.Any, sum.form.TheConstants.RULE_FORM};
+ghost use Rattle.pf_rule.specs.declared.{host.host.Host.TheVariants.Any, sum.{form.TheConstants.RULE_FORM, layout.TheConstants.LABELS_FROM}};
 ghost use Rattle.pf_rule.specs.Laws.Sums as example;
 
-/// The form of each rule has [`RULE_FORM`](crate::sum::RULE_FORM) bytes, and so has what its layout writes in every version.
+/// The form of each rule has [`RULE_FORM`](crate::sum::RULE_FORM) bytes before its label. What its layout writes has these and the
+/// label's in every version that allows the rule, as every one from 2 on does.
 #[tactic(auto, using(crate::proofs::RuleBytes::form_long, crate::proofs::RuleBytes::layout_long))]
-pub fn forms_are_of_one_length()
+pub fn forms_have_these_lengths()
     ensures form { (r : PlainRule) → IsRule r → length (rule_form r) ≡ RULE_FORM }
-    ensures layout { (version : ℕ) (r : PlainRule) → IsRule r → length_of (rule_layout version) (plain_rule r) ≡ RULE_FORM }
+    ensures layout { (version : ℕ) (r : PlainRule) → IsRule r → allows version r ≡ true
+        → length_of (rule_layout version) (plain_rule r) ≡ RULE_FORM + length (label_bytes r) }
+    ensures from { LABELS_FROM ≡ 2 }
 {}
 
-/// A form is what the layout of each version writes of the rule's data. The data determine the whole rule: it is read back from them.
-#[tactic(auto, using(crate::proofs::RuleBytes::rule_fits, crate::proofs::RuleBytes::layout_is, crate::proofs::RuleBytes::rule_again))]
+/// A form is what the layout of each version that allows the rule writes of the rule's data, and another version has no form for the rule.
+/// The data determine the whole rule: it is read back from them.
+#[tactic(auto, using(crate::proofs::RuleBytes::rule_fits, crate::proofs::RuleBytes::layout_is, crate::proofs::RuleBytes::rule_again, crate::proofs::RuleBytes::fits_allowed))]
 pub fn rule_is_read_from_its_form()
-    ensures fits { (version : ℕ) (r : PlainRule) → IsRule r → Fits (rule_layout version) (plain_rule r) }
-    ensures written { (version : ℕ) (r : PlainRule) → IsRule r → writes (rule_layout version) (plain_rule r) ≡ rule_form r }
+    ensures fits { (version : ℕ) (r : PlainRule) → IsRule r → allows version r ≡ true → Fits (rule_layout version) (plain_rule r) }
+    ensures only { (version : ℕ) (r : PlainRule) → IsRule r → Fits (rule_layout version) (plain_rule r) → allows version r ≡ true }
+    ensures written { (version : ℕ) (r : PlainRule) → IsRule r → allows version r ≡ true
+        → writes (rule_layout version) (plain_rule r) ≡ whole_form r }
     ensures again { (r : PlainRule) → IsRule r → rule_of (plain_rule r) ≡ r }
 {}
 
 /// Two different rules have different forms.
 pub fn different_rules_have_different_forms()
-    ensures { (r s : PlainRule) → IsRule r → IsRule s → rule_form r ≡ rule_form s → r ≡ s }
+    ensures { (r s : PlainRule) → IsRule r → IsRule s → whole_form r ≡ whole_form s → r ≡ s }
 {}
 
 /// Four rules that are read from these texts.
@@ -42,6 +48,15 @@ pub fn four_rules_have_these_forms()
     ensures pass { rule_form example.pass ≡ example.pass_form }
     ensures anchor { rule_form example.anchor ≡ example.anchor_form }
     ensures tested { rule_form example.tested ≡ example.tested_form }
+{}
+
+/// A rule with a label: two texts that it is read from, its form, and the checksum of it alone.
+#[tactic(auto, using(crate::proofs::Computed::labelled_texts, crate::proofs::Computed::labelled_form, crate::proofs::Computed::labelled_sum))]
+pub fn labelled_rule_has_this_form_and_sum()
+    ensures text { read_all rule (words_of (codes "block in all label \"x\"")) ≡ Ok (Ok example.labelled) }
+    ensures bare { read_all rule (words_of (codes "block in label x")) ≡ Ok (Ok example.labelled) }
+    ensures form { whole_form example.labelled ≡ example.labelled_form }
+    ensures sum { ruleset_sum (example.labelled ∷ []) ≡ example.sum_of_labelled }
 {}
 
 /// The form of an IPv6 rule, and that of any host with each port test.

@@ -1,16 +1,17 @@
 //! Rules in bytes, and read from them.
-ghost use Rattle.std.specs.Prelude.{◌≡◌, ◌<◌, ◌==◌, false, IfOk, IfSome, unwrap_or};
-ghost use Rattle.pf_form.specs.{Bytes.Forms.Form, Bytes.Codes.below, Bytes.Readers.Reads};
-ghost use Rattle.pf_rule.specs.{Value.Values.{IsInterfaceName, IsProtocol, has_ports}, Value.Ports.has_ports_of, Rules.{IsEffect, IsRule}, Sum.Forms.{direction_byte, effect_byte, keeps_state}, Sum.Layouts.{some_family, plain_family, interface, plain_interface, named, plain_named}};
+ghost use Rattle.std.specs.Prelude.{◌≡◌, ◌<◌, ◌==◌, false, true, IfOk, IfSome, length, map, unwrap_or};
+ghost use Rattle.std.specs.List.{AllByRecursion, list_all};
+ghost use Rattle.pf_form.specs.{Bytes.Forms.{Form, Fits, times}, Bytes.Codes.below, Bytes.Readers.Reads};
+ghost use Rattle.pf_rule.specs.{Value.Values.{IsInterfaceName, IsLabel, IsProtocol, has_ports}, Value.Ports.has_ports_of, Rules.{IsEffect, IsRule, LabelFits}, Sum.Forms.{direction_byte, effect_byte, keeps_state}, Sum.Layouts.{some_family, plain_family, interface, plain_interface, has_labels, label_form, plain_label, named, plain_ending, rule_layout, plain_rule, allows}};
 
 use crate::rule::RuleParts;
 use crate::sum::end_layout::read_end;
 use crate::sum::form::{INTERFACE_FIELD, rule_bytes};
-use crate::{Action, Direction, Effect, Interface, Protocol, Rule};
+use crate::{Action, Direction, Effect, Interface, Label, Protocol, Rule};
 use pf_addr::path::{Reference, read_name};
 use pf_addr::{Family, read_family};
 use pf_form::bytes::{
-    Fitting, Layout, Rest, Stop, expect, push_bytes, read_below, read_flag, read_u8, takes,
+    Fault, Layout, Rest, Stop, expect, push_bytes, read_below, read_flag, read_u8, takes,
 };
 use std::alloc::{AllocError, Global};
 
@@ -19,10 +20,15 @@ const PASS: u8 = 1;
 
 const ANCHOR: u8 = 2;
 
-/// The 204 bytes of [`rule_bytes`]. They are the same in every version.
+/// The first version whose forms have labels.
+pub const LABELS_FROM: u8 = 2;
+
+/// The 204 bytes of [`rule_bytes`], followed by the label. Forms of a version before [`LABELS_FROM`] have no label, and are otherwise the
+/// same.
 ///
 /// Reading other bytes fails at the place where they go wrong: a port is tested without a protocol that has ports, a network is in a rule
-/// without a family or has host bits, a rule that doesn't pass keeps state, or a zero or a name is wrong. Reading doesn't allocate.
+/// without a family or has host bits, a rule that doesn't pass keeps state, an anchor rule or a form of an older version has a label, or
+/// a zero or a name is wrong. Reading doesn't allocate.
 impl Layout for Rule {
     ghost use Rattle.std.specs.Prelude.{true};
     ghost use Rattle.pf_rule.specs.Sum.Layouts.{RuleShape, rule_layout, plain_rule};
@@ -48,7 +54,7 @@ impl Layout for Rule {
         let ports = has_ports(protocol);
         let (source, source_port) = read_end(ports, family, from)?;
         let (destination, destination_port) = read_end(ports, family, from)?;
-        let effect = read_effect(alloc, version, kind, keeps == 1, from)?;
+        let (effect, label) = read_ending(alloc, version, kind, keeps == 1, from)?;
         Ok(Rule::of(RuleParts {
             source,
             destination,
@@ -60,6 +66,7 @@ impl Layout for Rule {
             quick,
             family,
             protocol,
+            label,
         }))
     }
 
@@ -67,15 +74,28 @@ impl Layout for Rule {
     fn write(&self, _version: u8, out: &mut Vec<u8>) -> Result<(), AllocError> {
         // `effect` promises that this is a rule
         let _effect = self.effect();
-        push_bytes(out, &rule_bytes(self))
+        push_bytes(out, &rule_bytes(self))?;
+        push_bytes(out, self.label().as_bytes())
     }
 }
 
-impl Fitting for Rule {
-    #[tactic(auto, using(crate::proofs::RuleBytes::rule_fits))]
-    fn fits(&self, _version: u8) {
+impl Rule {
+    /// Whether a version allows the rule: one before [`LABELS_FROM`] allows no rule with a label.
+    pub fn is_allowed_in(&self, version: u8) -> bool
+        ensures { result ≡ allows version self.now }
+    {
+        version >= LABELS_FROM || self.own_label().is_none()
+    }
+}
+
+/// Tells contracts that each of these rules, which the version allows, fits its form; does nothing.
+pub fn rules_fit(rules: &[Rule], version: u8)
+    requires { list_all (allows version) rules.now ≡ true }
+    ensures { AllByRecursion (Fits (rule_layout version)) (map plain_rule rules.now) }
+{
+    for rule in rules {
         // `effect` promises that this is a rule
-        let _effect = self.effect();
+        let _effect = rule.effect();
     }
 }
 
@@ -139,30 +159,69 @@ fn has_ports(protocol: Option<Protocol>) -> bool
     }
 }
 
-/// The effect with this number, and what it names if it is an anchor.
-fn read_effect<'a>(
+/// The effect with this number, with what it names if it is an anchor, and otherwise the label.
+#[tactic(auto, unfolding(crate::specs::Sum::Layouts::named))]
+fn read_ending<'a>(
     alloc: Global,
     version: u8,
     kind: u8,
     keeps: bool,
     from: &mut Rest<'a>,
-) -> Result<Effect, Stop>
+) -> Result<(Effect, Option<Label>), Stop>
     requires kind { kind < 3 }
     requires keeps { (kind == 1) ≡ false → keeps ≡ false }
-    ensures read { Reads plain_named (named (kind == 2)) result from.old.now from.new.now }
-    ensures kind { IfOk result (λ e. effect_byte e ≡ kind) }
-    ensures keeps { IfOk result (λ e. keeps_state e ≡ keeps) }
-    ensures kept { IfOk result IsEffect }
+    ensures read { Reads (λ e. plain_ending e.0 e.1) (named (has_labels version) (kind == 2)) result from.old.now from.new.now }
+    ensures kind { IfOk result (λ e. effect_byte e.0 ≡ kind) }
+    ensures keeps { IfOk result (λ e. keeps_state e.0 ≡ keeps) }
+    ensures kept { IfOk result (λ e. IsEffect e.0) }
+    ensures label { IfOk result (λ e. LabelFits e.0 e.1) }
 {
     if kind == ANCHOR {
         let reference = Reference::read(alloc, version, from)?;
         // `names` promises that this is a reference
         let _names = reference.names();
-        return Ok(Effect::Evaluate(reference));
+        return Ok((Effect::Evaluate(reference), None));
     }
-    expect(from, &[0; 68])?;
+    expect(from, &[0; 65])?;
+    let label = read_label(version, from)?;
     if kind == PASS {
-        return Ok(Effect::Decide(Action::Pass { keeps_state: keeps }));
+        return Ok((Effect::Decide(Action::Pass { keeps_state: keeps }), label));
     }
-    Ok(Effect::Decide(Action::Block))
+    Ok((Effect::Decide(Action::Block), label))
+}
+
+/// A label's length, two zeros and the label; three zeros in a version without labels.
+#[tactic(auto, unfolding(crate::specs::Sum::Layouts::label_form))]
+fn read_label<'a>(version: u8, from: &mut Rest<'a>) -> Result<Option<Label>, Stop>
+    ensures read { Reads plain_label (label_form (has_labels version)) result from.old.now from.new.now }
+    ensures kept { IfOk result (λ l. IfSome l IsLabel) }
+{
+    if version < LABELS_FROM {
+        expect(from, &[0; 3])?;
+        return Ok(None);
+    }
+    let left = from.len();
+    let length = read_u8(from)?;
+    expect(from, &[0, 0])?;
+    let bytes = read_front(length as usize, from)?;
+    if length == 0 {
+        return Ok(None);
+    }
+    match Label::from_ascii(bytes) {
+        Ok(label) => Ok(Some(label)),
+        Err(_) => Err(Stop::Fault(Fault::Bad(left))),
+    }
+}
+
+/// The next `count` bytes. Fails if fewer are left.
+fn read_front<'a>(count: usize, from: &mut Rest<'a>) -> Result<&'a [u8], Stop>
+    ensures read { Reads (λ b. b.now) (times count (Form.number 1)) result from.old.now from.new.now }
+    ensures length { IfOk result (λ b. length b.now ≡ count) }
+{
+    if from.len() < count {
+        return Err(Stop::Fault(Fault::Short));
+    }
+    let (front, rest) = from.split_at(count);
+    *from = rest;
+    Ok(front)
 }

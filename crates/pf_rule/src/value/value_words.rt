@@ -1,10 +1,11 @@
 //! Reading the words that stand for values, each from the front of the remaining words.
 ghost use Rattle.pf_form.specs.Form.Readers.{Moves};
-ghost use Rattle.pf_rule.specs.Value.Values.{an_interface, a_protocol, an_address, a_port};
+ghost use Rattle.pf_rule.specs.Value.Values.{an_interface, a_protocol, a_label, an_address, a_port};
 
 use crate::value::interface::Interface;
+use crate::value::label::Label;
 use crate::value::protocol::Protocol;
-use crate::value::values::{address_of, port_of, protocol_of};
+use crate::value::values::{address_of, label_of, port_of, protocol_of};
 use pf_addr::Addr;
 use pf_form::form::{Stop, Words};
 
@@ -37,6 +38,13 @@ pub fn protocol_word<'a>(words: &mut Words<'a>) -> Result<Protocol, Stop>
     ensures { Moves a_protocol result words.old.now words.new.now }
 {
     take_word!(words, word => protocol_of(word))
+}
+
+/// A rule's label.
+pub fn label_word<'a>(words: &mut Words<'a>) -> Result<Label, Stop>
+    ensures { Moves a_label result words.old.now words.new.now }
+{
+    take_word!(words, word => label_of(word))
 }
 
 /// An address.

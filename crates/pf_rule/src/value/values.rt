@@ -1,10 +1,13 @@
 //! Words that stand for values.
 ghost use Rattle.std.specs.Prelude.{◌≡◌};
+ghost use Rattle.pf_addr.specs.Path.References.{unquoted};
 ghost use Rattle.pf_form.specs.Form.Numbers.{number_of};
-ghost use Rattle.pf_rule.specs.Value.Values.{protocol_of, port_of, address_of};
+ghost use Rattle.pf_rule.specs.Value.Values.{protocol_of, label_of, port_of, address_of};
 
+use crate::value::label::Label;
 use crate::value::protocol::Protocol;
 use pf_addr::Addr;
+use pf_addr::path::unquoted;
 use pf_form::form::{Kind, read_number};
 
 /// How many digits a protocol's number may have, including leading zeros.
@@ -30,6 +33,13 @@ pub(crate) fn protocol_of(word: &[u8]) -> Result<Protocol, Kind>
             _ => Err(Kind::BadProto),
         }
     }
+}
+
+/// A label, which may be in double quotes. Quotes don't count in its length, and a single one is a wrong byte.
+pub(crate) fn label_of(word: &[u8]) -> Result<Label, Kind>
+    ensures { result ≡ label_of word.now }
+{
+    Label::from_ascii(unquoted(word))
 }
 
 /// A port, which is 0 if the protocol has no ports.

@@ -12,6 +12,7 @@ of-requires c =
     let ports = c.has_ports-ports.ensures.number in
     record {
       effect = c.in_ok-effect.ensures.kept;
+      label = c.in_ok-effect.ensures.label;
       interface = c.in_ok-interface.ensures.kept;
       protocol = c.in_ok-protocol.ensures.kept;
       source = c.in_ok-source.ensures.kept;
@@ -35,6 +36,7 @@ returns c =
       source = c.in_ok-source.source;
       destination = c.in_ok-destination.destination;
       effect = c.in_ok-effect.effect;
+      label = c.in_ok-effect.label;
       interface = c.in_ok-interface.interface;
       source_port = c.in_ok-source.source_port;
       destination_port = c.in_ok-destination.destination_port;
@@ -43,7 +45,7 @@ returns c =
       family = c.in_ok-family.family;
       protocol = c.in_ok-protocol.protocol;
     } in
-    let parts = body_read _ _ _ _ _ _ _ _ _ _ _ _ c.in_ok-interface.ensures.read source destination c.in_ok-effect.ensures.read in
-    subst (λ (r : PlainRule). reads (rule_layout c.args.version) c.args.from.now.now ≡ Ok (plain_rule r, c.read_effect.new.from.now)) (sym c.of.ensures)
+    let parts = body_read _ _ _ _ _ _ _ _ _ _ _ _ _ c.in_ok-interface.ensures.read source destination c.in_ok-effect.ensures.read in
+    subst (λ (r : PlainRule). reads (rule_layout c.args.version) c.args.from.now.now ≡ Ok (plain_rule r, c.read_ending.new.from.now)) (sym c.of.ensures)
     (rule_read _ r _ _ _ _ _ _ _ _ _ c.read_protocol.new.from.now c.expect.new.from.now _ c.in_ok-effect.ensures.kind c.in_ok-effect.ensures.keeps c.in_ok-keeps.ensures.below limit.1 limit.0
     c.in_ok-kind.ensures.read c.in_ok-direction.ensures c.in_ok-quick.ensures c.in_ok-keeps.ensures.read c.in_ok-family.ensures c.in_ok-protocol.ensures.read c.in_ok-expect.ensures parts)
