@@ -1,13 +1,13 @@
--- How many bytes rulesets and tables take at their places: a rule 204, an entry 20, and paths, names and lists come after numbers.
-use Rattle.std.proofs.{Common.{◌≡◌, ◌+◌, ◌*◌, ◌<◌, ◌≤◌, ℕ, true, List, [], ◌∷◌, ◌++◌, length, map, take, get_or, refl, sym, ap, subst, ◌∙◌, arith}, lemmas.List.{length-append, take_more, take_all, Sums.sum_by-cons, Elements.{All-head, All-tail, All-push}}}
+-- How many bytes rulesets and tables take at their places: a rule 204 and its label, an entry 20, and paths, names and lists come after numbers.
+use Rattle.std.proofs.{Common.{◌≡◌, ◌+◌, ◌*◌, ◌<◌, ◌≤◌, ℕ, true, List, [], ◌∷◌, ◌++◌, length, map, take, get_or, refl, sym, ap, subst, ◌∙◌, arith}, lemmas.Bool.and_parts, lemmas.List.{length-append, take_more, take_all, Sums.sum_by-cons, Elements.{All-head, All-tail, All-push}}}
 use Rattle.std.specs.{Prelude.{All}, List.sum_by}
 use Rattle.pf_addr.specs.Path.{Paths.is_path, PathForms.{path_form, table_name_form}}
 use Rattle.pf_form.specs.Bytes.Forms.{length_of}
 use Rattle.pf_addr.proofs.PathBytes.{path_fits}
-use Rattle.pf_rule.specs.{Rules.{PlainRule, IsRule}, Sum.{Layouts.{rule_layout, plain_rule}}}
+use Rattle.pf_rule.specs.{Rules.{PlainRule, IsRule}, Sum.{Forms.label_bytes, Layouts.{rule_layout, plain_rule, has_labels, allows}}, declared.sum.layout.TheConstants.LABELS_FROM}
 use Rattle.pf_rule.proofs.RuleBytes.{layout_long}
 use Rattle.pf_table.specs.{Entries.PlainEntry, EntryForms.{entry, plain_entry}, Laws.EntryForms.entry_long}
-use Rattle.pf_anchor.specs.{declared.limits.TheConstants.{RULE_LIMIT}, Rulesets.PlainPlaced, Tables.PlainPlacedTable, Forms.{rule_list_form, rules_form, rulesets_form, plain_ruled, entries_form, named_form, plain_named, placed_form, kept_tables_form, plain_tabled, ruled_length, tabled_length}}
+use Rattle.pf_anchor.specs.{declared.limits.TheConstants.{RULE_LIMIT}, Rulesets.PlainPlaced, Tables.PlainPlacedTable, Forms.{rule_list_form, rules_form, rulesets_form, plain_ruled, entries_form, named_form, plain_named, placed_form, kept_tables_form, plain_tabled, allows_rules, labels_length, ruled_length, tabled_length}}
 
 sum_of-map : {A B : Type 0} (f : B → ℕ) (g : A → B) (xs : List A) → sum_by f (map g xs) ≡ sum_by (λ x. f (g x)) xs
 sum_of-map f g [] = refl
@@ -18,14 +18,16 @@ ones : (bytes : List ℕ) → sum_by (λ b. 1) bytes ≡ length bytes
 ones [] = refl
 ones (b ∷ bytes) = omega (arith, sum_by-cons (λ b. 1) b bytes, ones bytes)
 
-rules_sum : (version : ℕ) (rs : List PlainRule) → All IsRule rs → sum_by (length_of (rule_layout version)) (map plain_rule rs) ≡ 204 * length rs
-rules_sum version [] are = refl
-rules_sum version (r ∷ rs) are =
+rules_sum : (version : ℕ) (rs : List PlainRule) → All IsRule rs → allows_rules version rs ≡ true → sum_by (length_of (rule_layout version)) (map plain_rule rs) ≡ 204 * length rs + labels_length rs
+rules_sum version [] are all = refl
+rules_sum version (r ∷ rs) are all =
+    let both = and_parts (allows version r) (allows_rules version rs) all in
     omega (
       arith,
       sum_by-cons (length_of (rule_layout version)) (plain_rule r) (map plain_rule rs),
-      layout_long version r (All-head IsRule r rs are),
-      rules_sum version rs (All-tail IsRule r rs are),
+      sum_by-cons (λ r. length (label_bytes r)) r rs,
+      layout_long version r (All-head IsRule r rs are) both.0,
+      rules_sum version rs (All-tail IsRule r rs are) both.1,
     )
 
 entries_sum : (es : List PlainEntry) → sum_by (length_of entry) (map plain_entry es) ≡ 20 * length es
@@ -34,9 +36,9 @@ entries_sum (e ∷ es) = omega (arith, sum_by-cons (length_of entry) (plain_entr
 
 -- ---- a ruleset, and a table
 
-pub ruled_long : (version : ℕ) (r : PlainPlaced) → All IsRule r.1 → ruled_length version r ≡ 5 + length r.0 + 204 * length r.1
+pub ruled_long : (version : ℕ) (r : PlainPlaced) → All IsRule r.1 → allows_rules version r.1 ≡ true → ruled_length version r ≡ 5 + length r.0 + 204 * length r.1 + labels_length r.1
 unfolding rules_form rule_list_form path_form
-ruled_long version r are = omega (arith, ones r.0, rules_sum version r.1 are)
+ruled_long version r are all = omega (arith, ones r.0, rules_sum version r.1 are all)
 
 pub named_long : (name : List ℕ) (es : List PlainEntry) → length_of named_form (plain_named (name, es)) ≡ 5 + length name + 20 * length es
 unfolding named_form entries_form table_name_form
@@ -69,10 +71,15 @@ path_short p is = (path_fits p is).0.0
 
 -- ---- all of them
 
--- the same in each version, as rules are
-pub rulesets_long : (version : ℕ) (rs : List PlainPlaced) → length_of (rulesets_form version) (map plain_ruled rs) ≡ 4 + sum_by (ruled_length 1) rs
-unfolding rulesets_form rules_form rule_list_form rule_layout
-rulesets_long version rs = ap (λ (n : ℕ). 4 + n) (sum_of-map (length_of (rules_form version)) plain_ruled rs)
+-- versions that have labels have one layout
+pub same_layout : (version : ℕ) → has_labels version ≡ true → rule_layout version ≡ rule_layout LABELS_FROM
+unfolding rule_layout
+same_layout version new = rw new refl
+
+-- so rulesets take as many bytes in each of them
+pub rulesets_long : (version : ℕ) (rs : List PlainPlaced) → has_labels version ≡ true → length_of (rulesets_form version) (map plain_ruled rs) ≡ 4 + sum_by (ruled_length LABELS_FROM) rs
+unfolding rulesets_form rules_form rule_list_form
+rulesets_long version rs new = rw (same_layout version new) (ap (λ (n : ℕ). 4 + n) (sum_of-map (length_of (rules_form LABELS_FROM)) plain_ruled rs))
 
 pub tables_long : (ts : List PlainPlacedTable) → length_of kept_tables_form (map plain_tabled ts) ≡ 4 + sum_by tabled_length ts
 unfolding kept_tables_form

@@ -10,4 +10,5 @@ pub mod Unreached
 pub mod Entries
 pub mod Leading
 pub mod Blocks
+pub mod Labels
 pub mod Lengths

@@ -1,6 +1,7 @@
 //! What is active: rulesets and tables.
-ghost use Rattle.std.specs.{Prelude.{◌≡◌, ◌<◌, ◌^◌, ℕ, [], ◌∷◌, length, IfOk, nat_lt}, Option.{MatchOption, option_map}};
-ghost use Rattle.pf_anchor.specs.{Forms.{config_length, configured}, Tables.{placed_table, table_found, tables_at, named_table, IsTableMap}, Rulesets.{ruled, rules_at, children, IsMap}, Configurations.{nothing, with_rulesets, with_tables}, Limits.{ruleset_refusal, table_refusal}, Evaluation.judged};
+ghost use Rattle.std.specs.{Prelude.{◌≡◌, ◌<◌, ◌^◌, ℕ, true, [], ◌∷◌, length, IfOk, nat_lt}, Option.{MatchOption, option_map}};
+ghost use Rattle.pf_rule.specs.Sum.Layouts.{has_labels};
+ghost use Rattle.pf_anchor.specs.{Forms.{allows_config, config_length, configured}, Tables.{placed_table, table_found, tables_at, named_table, IsTableMap}, Rulesets.{ruled, rules_at, children, IsMap}, Configurations.{nothing, with_rulesets, with_tables}, Limits.{ruleset_refusal, table_refusal}, Evaluation.judged};
 ghost use Rattle.pf_addr.specs.Refusing.{Refuses};
 ghost use Rattle.pf_anchor.specs.declared.fault.ConfigFault.TheVariants.{Memory};
 
@@ -225,14 +226,26 @@ impl Config {
         self.rulesets.get(path)
     }
 
-    /// How many bytes the rulesets and the tables take where they are kept, with the numbers before them, in each version. It looks at none
-    /// of them.
+    /// How many bytes the rulesets and the tables take where they are kept, with the numbers before them, in each version that has labels.
+    /// It looks at none of them.
     #[tactic(auto, using(crate::proofs::Lengths::rulesets_long, crate::proofs::Lengths::tables_long))]
     pub fn byte_length(&self) -> u128
-        ensures exact { (version : ℕ) → result ≡ config_length version self.now }
+        ensures exact { (version : ℕ) → has_labels version ≡ true → result ≡ config_length version self.now }
         ensures light { result < 2 ^ 98 }
     {
         8 + self.rulesets.weight() + self.tables.weight()
+    }
+
+    /// Whether a version allows the rules of each ruleset. It looks at no rule.
+    pub fn is_allowed_in(&self, version: u8) -> bool
+        ensures { result ≡ allows_config version self.now }
+    {
+        for placed in self.each_ruleset() {
+            if !placed.value().is_allowed_in(version) {
+                return false;
+            }
+        }
+        true
     }
 
     /// The rulesets, in the order of their paths. It takes no memory.

@@ -1,8 +1,8 @@
 //! What follows from the definitions that contracts cite: functions that do nothing, whose contracts are the laws.
-ghost use Rattle.std.specs.Prelude.{◌≡◌, ◌+◌, ◌*◌, ℕ, All, length};
+ghost use Rattle.std.specs.Prelude.{◌≡◌, ◌+◌, ◌*◌, ℕ, true, All, length};
 ghost use Rattle.pf_rule.specs.Rules.{IsRule};
 ghost use Rattle.pf_anchor.specs.declared.limits.TheConstants.{RULE_LIMIT, RULESET_LIMIT, TABLE_COUNT_LIMIT};
-ghost use Rattle.pf_anchor.specs.{Forms.{ruled_length, tabled_length}, Rulesets.PlainPlaced, Tables.PlainPlacedTable, Laws.Configurations.{ReplacesInTurn, StaysMap, OneMap, ChildrenHaveRules}, Laws.Tables.{ReplacesTables, HasItsEntries, OtherNamesStay, OtherPathsStay, StaysTableMap, EmptyIsAbsent, OneTableMap, LeavesTheOther, TablesAtPath, OwnAnswers, OwnHidesMain, MainAnswersElse, NoneElse, OthersAnswerNothing}, Laws.Evaluation.{TellsWhatDecides, Unrolls, IsTheOnly, DepthIsEnough, OwnMatch, EndsOutside, NothingWithin, MatchWithin, InTurn, LeadsToTheseAlone, QuickEnds, EndsTheVerdict, AnchorsNeverDecide, ToldRuleDecides, UnreachedIsNothing, InTwoParts, PassedOver}};
+ghost use Rattle.pf_anchor.specs.{Forms.{allows_rules, labels_length, ruled_length, tabled_length}, Rulesets.PlainPlaced, Tables.PlainPlacedTable, Laws.Configurations.{ReplacesInTurn, StaysMap, OneMap, ChildrenHaveRules}, Laws.Tables.{ReplacesTables, HasItsEntries, OtherNamesStay, OtherPathsStay, StaysTableMap, EmptyIsAbsent, OneTableMap, LeavesTheOther, TablesAtPath, OwnAnswers, OwnHidesMain, MainAnswersElse, NoneElse, OthersAnswerNothing}, Laws.Evaluation.{TellsWhatDecides, Unrolls, IsTheOnly, DepthIsEnough, OwnMatch, EndsOutside, NothingWithin, MatchWithin, InTurn, LeadsToTheseAlone, QuickEnds, EndsTheVerdict, AnchorsNeverDecide, ToldRuleDecides, UnreachedIsNothing, InTwoParts, PassedOver}};
 
 /// A ruleset has at most 1,024 rules, and there are at most 1,024 rulesets and 1,024 tables.
 pub fn the_limits_of_rulesets()
@@ -11,11 +11,12 @@ pub fn the_limits_of_rulesets()
     ensures tables { TABLE_COUNT_LIMIT ≡ 1024 }
 {}
 
-/// How many bytes a ruleset and a table take where they are kept: a rule 204, an entry 20, a path and a name one more than their
-/// bytes, and a number four.
+/// How many bytes a ruleset and a table take where they are kept: a rule 204 and its label, in a version that allows each of the rules, an
+/// entry 20, a path and a name one more than their bytes, and a number four.
 #[tactic(auto, using(crate::proofs::Lengths::ruled_long, crate::proofs::Lengths::tabled_long))]
 pub fn rulesets_and_tables_take_so_many_bytes()
-    ensures ruleset { (version : ℕ) (r : PlainPlaced) → All IsRule r.1 → ruled_length version r ≡ 5 + length r.0 + 204 * length r.1 }
+    ensures ruleset { (version : ℕ) (r : PlainPlaced) → All IsRule r.1 → allows_rules version r.1 ≡ true
+        → ruled_length version r ≡ 5 + length r.0 + 204 * length r.1 + labels_length r.1 }
     ensures table { (t : PlainPlacedTable) → tabled_length t ≡ 6 + length t.0.0 + length t.0.1 + 20 * length t.1 }
 {}
 

@@ -15,7 +15,8 @@
 //! Proved: what each change leaves of both maps, how many bytes they take, and that `Config::judge` finds what the evaluation of
 //! specs/Evaluation.antt finds (the contracts of `Config`, `RuleList` and the lengths); that evaluation is the one solution of its
 //! equation, that the last or the first quick rule decides, what anchor rules lead to, that no anchor rule decides, and which table a
-//! rule's name means (`laws`). Nothing is only tested here; how fast it judges isn't stated.
+//! rule's name means (`laws`).
+//! Only tests of other crates show that memory runs out only if a growth was refused; how fast it judges isn't stated.
 #![tactic(auto)]
 
 mod config;

@@ -1,12 +1,16 @@
 //! Lists of rules that are shared.
-ghost use Rattle.std.specs.{Prelude.{◌≡◌, ◌<◌, ◌≤◌, [], ◌∷◌, ◌++◌, All, length, IfOk, IfSome, OnOk, OnErr}, Arc.arc_value, Option.{option_map, option_map_or}, Vec.vec_items};
+ghost use Rattle.std.specs.{Prelude.{◌≡◌, ◌<◌, ◌≤◌, [], ◌∷◌, ◌++◌, ◌*◌, All, length, IfOk, IfSome, OnOk, OnErr}, Arc.arc_value, Option.{option_map, option_map_or}, Vec.vec_items};
 ghost use Rattle.pf_map.specs.ListMaps.{unless_empty, kept_again};
 ghost use Rattle.pf_rule.specs.Rules.{IsRule};
+ghost use Rattle.pf_rule.specs.declared.value.label.TheConstants.{LABEL_LIMIT};
+ghost use Rattle.pf_anchor.specs.declared.limits.TheConstants.{RULE_LIMIT};
+ghost use Rattle.pf_anchor.specs.Forms.{allows_rules, labels_length};
 
 use crate::limits::RULE_LIMIT;
 use pf_lanes::{LANES, RuleCols};
 use pf_map::Content;
 use pf_rule::Rule;
+use pf_rule::sum::LABELS_FROM;
 use std::alloc::{AllocError, Global};
 use std::marker::Model;
 use std::sync::Arc;
@@ -19,6 +23,8 @@ pub struct RuleList {
     rules: Option<Arc<Vec<Rule>>>,
     // The same rules in columns, once they are active: packets are judged by them. A list that grows has none.
     columns: Option<Arc<RuleCols>>,
+    // How many bytes their labels have together, so that nobody has to look at the rules for it.
+    label_bytes: usize,
 }
 
 impl Model for RuleList {
@@ -28,6 +34,7 @@ impl Model for RuleList {
     ghost use Rattle.std.specs.Arc.{arc_value};
     ghost use Rattle.std.specs.Option.{option_map, option_map_or};
     ghost use Rattle.std.specs.Vec.{vec_items};
+    ghost use Rattle.pf_anchor.specs.Forms.{labels_length};
 
     ghost Value = { List PlainRule };
 
@@ -35,7 +42,8 @@ impl Model for RuleList {
 
     ghost invariant = { λ l. (length (option_map_or vec_items (option_map arc_value l.rules) []) ≤ RULE_LIMIT)
         × All IsRule (option_map_or vec_items (option_map arc_value l.rules) [])
-        × IfSome l.columns (λ c. arc_value c ≡ option_map_or vec_items (option_map arc_value l.rules) []) };
+        × IfSome l.columns (λ c. arc_value c ≡ option_map_or vec_items (option_map arc_value l.rules) [])
+        × (l.label_bytes ≡ labels_length (option_map_or vec_items (option_map arc_value l.rules) [])) };
 }
 
 // Appends a rule. If others share the rules, they are copied first, so that the others' stay as they are.
@@ -53,13 +61,19 @@ fn add_own(rules: &mut Arc<Vec<Rule>>, alloc: Global, rule: Rule) -> Result<(), 
     Ok(())
 }
 
-// The invariant of each rule.
-fn are_rules(rules: &[Rule])
-    ensures { All IsRule rules.now }
+// How many bytes the labels of rules have together.
+fn labels_length(rules: &[Rule]) -> usize
+    requires { length rules.now ≤ RULE_LIMIT }
+    ensures value { result ≡ labels_length rules.now }
+    // the invariant of each rule
+    ensures rules { All IsRule rules.now }
 {
+    let mut total = 0;
     for rule in rules {
         let _effect = rule.effect();
+        total += rule.label().len();
     }
+    total
 }
 
 // Appends a rule to those that are there, if any. On an error they stay as they were.
@@ -90,6 +104,7 @@ impl RuleList {
         RuleList {
             rules: None,
             columns: None,
+            label_bytes: 0,
         }
     }
 
@@ -98,10 +113,11 @@ impl RuleList {
         requires { length rules.items ≤ RULE_LIMIT }
         ensures { IfOk result (λ l. l ≡ rules.items) }
     {
-        are_rules(rules.as_slice());
+        let label_bytes = labels_length(rules.as_slice());
         Ok(RuleList {
             rules: Some(Arc::new(alloc, rules)?),
             columns: None,
+            label_bytes,
         })
     }
 
@@ -112,6 +128,7 @@ impl RuleList {
         Ok(RuleList {
             rules: self.rules.clone()?,
             columns: self.columns.clone()?,
+            label_bytes: self.label_bytes,
         })
     }
 
@@ -128,6 +145,7 @@ impl RuleList {
         Ok(RuleList {
             rules: list.rules,
             columns: Some(Arc::new(alloc, columns)?),
+            label_bytes: list.label_bytes,
         })
     }
 
@@ -159,6 +177,22 @@ impl RuleList {
         }
     }
 
+    /// How many bytes the labels of the rules have together. It looks at none of them.
+    pub fn labels_length(&self) -> usize
+        ensures value { result ≡ labels_length self.now }
+        ensures few { result ≤ LABEL_LIMIT * RULE_LIMIT }
+    {
+        self.label_bytes
+    }
+
+    /// Whether a version allows each of the rules. It looks at none of them.
+    #[tactic(auto, using(crate::proofs::Labels::allowed_by))]
+    pub fn is_allowed_in(&self, version: u8) -> bool
+        ensures { result ≡ allows_rules version self.now }
+    {
+        version >= LABELS_FROM || self.label_bytes == 0
+    }
+
     /// Appends a rule, if there are fewer than 1,024. Rules that others share are copied first. Out of memory: all is as before.
     pub fn add(&mut self, alloc: Global, rule: Rule) -> Result<(), AllocError>
         requires { length self.old < RULE_LIMIT }
@@ -166,8 +200,10 @@ impl RuleList {
         ensures err { OnErr result (self.new ≡ self.old) }
     {
         let _effect = rule.effect();
+        let more = rule.label().len();
         push_rule(&mut self.rules, alloc, rule)?;
         self.columns = None;
+        self.label_bytes += more;
         Ok(())
     }
 }

@@ -1,5 +1,6 @@
 //! The active rulesets.
-ghost use Rattle.std.specs.Prelude.{◌≡◌, ℕ, IfOk};
+ghost use Rattle.std.specs.Prelude.{◌≡◌, ℕ, true, IfOk};
+ghost use Rattle.pf_rule.specs.Sum.Layouts.{has_labels};
 ghost use Rattle.pf_anchor.specs.Forms.{ruled_length};
 
 use crate::rule_list::RuleList;
@@ -11,24 +12,25 @@ use std::alloc::{AllocError, Global};
 /// A ruleset at its path, shared by all its holders: path and rules are stored once. Contracts see it as a `PlainPlaced`.
 pub type Placed = KeyValue<Path, RuleList>;
 
-/// How many bytes a ruleset takes where it is kept, in each version: a path after its length, and rules after their number. It looks at no
-/// rule.
-#[tactic(auto, using(crate::proofs::Lengths::ruled_long, crate::proofs::Lengths::path_short))]
+/// How many bytes a ruleset takes where it is kept, in each version that has labels: a path after its length, and rules after their
+/// number. It looks at no rule.
+#[tactic(auto, using(crate::proofs::Lengths::ruled_long, crate::proofs::Lengths::path_short, crate::proofs::Labels::all_allowed))]
 pub fn ruleset_length(placed: &Placed) -> u32
-    ensures { (version : ℕ) → result ≡ ruled_length version placed.now }
+    ensures { (version : ℕ) → has_labels version ≡ true → result ≡ ruled_length version placed.now }
 {
     let path = placed.key().as_bytes();
-    let rules = placed.value().as_slice();
-    (5 + path.len() + RULE_FORM * rules.len()) as u32
+    let rules = placed.value();
+    (5 + path.len() + RULE_FORM * rules.as_slice().len() + rules.labels_length()) as u32
 }
 
-/// The weight of a ruleset: the bytes that it takes where it is kept, in the first version and so in each.
+/// The weight of a ruleset: the bytes that it takes where it is kept, in the first version that has labels and so in each that does.
 pub(crate) struct RulesetBytes;
 
 impl Weigher<Path, RuleList> for RulesetBytes {
+    ghost use Rattle.pf_rule.specs.declared.sum.layout.TheConstants.{LABELS_FROM};
     ghost use Rattle.pf_anchor.specs.Forms.{ruled_length};
 
-    ghost weight = { ruled_length 1 };
+    ghost weight = { ruled_length LABELS_FROM };
 
     fn weigh(placed: &Placed) -> u32 {
         ruleset_length(placed)

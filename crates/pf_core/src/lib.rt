@@ -21,7 +21,8 @@
 //! world: no limit is passed, nothing is there twice, no ticket is given twice or outlives an opening, each opening gives all that was kept
 //! before it, and what a worker saw or learnt stays (specs/Laws/Worlds.antt, specs/Laws/Openings.antt). specs/Laws/Commands.antt says what
 //! one step does, and specs/Laws/Groups.antt compares a group with its commands one by one. That what runs is such a world is proved in
-//! pf_book. Nothing is only tested here.
+//! pf_book.
+//! Only tests of other crates show that memory runs out only if a growth was refused.
 #![tactic(auto)]
 
 mod command;

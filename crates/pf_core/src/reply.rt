@@ -139,8 +139,8 @@ pub enum Refusal {
     BadLine,
     /// The first word at which the text can't go on, from 0; the number of words if one is missing. No command was read: all is as before.
     BadWord { at: usize },
-    /// The same, for a name past its limit: 15 bytes for an interface, 31 for a table, 63 for a path's component and for a
-    /// reference, 255 for a path, and 16 components in a path. No command was read: all is as before.
+    /// The same, for a name past its limit: 15 bytes for an interface, 31 for a table, 63 for a path's component, a label
+    /// and a reference, 255 for a path, and 16 components in a path. No command was read: all is as before.
     NameTooLong { at: usize },
     /// The same, for a word that isn't a protocol. No command was read: all is as before.
     BadProto { at: usize },

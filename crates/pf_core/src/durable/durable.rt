@@ -6,7 +6,8 @@ ghost use Rattle.pf_table.specs.{Edits.{added, additions, deleted, deletions, re
 ghost use Rattle.pf_state.specs.Steps.{after, counts, without_state};
 ghost use Rattle.pf_ticket.specs.Replies.{twice_behind};
 ghost use Rattle.pf_core.specs.declared.durable.refusal.ChangeRefusal.TheVariants.{Twice, Memory};
-ghost use Rattle.pf_core.specs.Durable.Forms.{durable_length};
+ghost use Rattle.pf_rule.specs.Sum.Layouts.{has_labels};
+ghost use Rattle.pf_core.specs.Durable.Forms.{allows, durable_length};
 ghost use Rattle.pf_core.specs.Durable.Changes.{is_in_order, name_of, durable_with, kept_nothing, commits, adds, deletes, sets, acts, rulesets_in, replaces_main, placed, tables_in, entries_at, sum_of, main_sum, with_entries, with_states, in_epoch, room_for_table, fits, applied, changed, verdict};
 
 use crate::durable::change::{Change, ChangeKind, Item, names_of};
@@ -175,13 +176,20 @@ impl Durable {
         self.sum
     }
 
-    /// How many bytes its snapshot has, in each version. It looks at no rule, entry or state, and takes no memory.
+    /// How many bytes its snapshot has, in each version that has labels. It looks at no rule, entry or state, and takes no memory.
     #[tactic(auto, unfolding(crate::specs::Durable::Forms::durable_form))]
     pub fn byte_length(&self) -> u128
-        ensures exact { (version : ℕ) → result ≡ durable_length version self.now }
+        ensures exact { (version : ℕ) → has_labels version ≡ true → result ≡ durable_length version self.now }
         ensures light { result < 2 ^ 99 }
     {
         4 + self.config.byte_length() + states_length(&self.states) as u128
+    }
+
+    /// Whether a version allows its rules: one without labels allows none that has one. It looks at no rule, and takes no memory.
+    pub fn is_allowed_in(&self, version: u8) -> bool
+        ensures { result ≡ allows version self.now }
+    {
+        self.config.is_allowed_in(version)
     }
 
     /// What happens to a packet: the state of its flow passes it; without one the rule decides that the evaluation of the main ruleset
