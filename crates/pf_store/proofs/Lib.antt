@@ -1,6 +1,7 @@
 pub mod Pushed
 pub mod Taken
 pub mod RecordedForms
+pub mod Allowing
 pub mod Sized
 pub mod Recording
 pub mod Leading

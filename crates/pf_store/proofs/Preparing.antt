@@ -9,7 +9,7 @@ use Rattle.pf_store.proofs.Sized.{snapshot_long}
 pub bank_of : (generation : ℕ) (d : PlainDurable) (bank : NextBank) (n : ℕ) (started pushed : List ℕ) → n ≡ snapshot_length d → started ≡ front NEWEST (generation + 1) n
     → EndsInSnapshot NEWEST d started pushed → bank.behind.items ≡ pushed ++ 0 ∷ [] → bank.length ≡ n → IsBankOf generation bank d
 bank_of generation d bank n started pushed long begins ends closed is_long =
-    let same : length ends.snapshot ≡ n = snapshot_long NEWEST d ends.snapshot ends.written.spelled ∙ sym long in
+    let same : length ends.snapshot ≡ n = snapshot_long NEWEST d ends.snapshot ends.written ∙ sym long in
     let begun : started ≡ front NEWEST (generation + 1) (length ends.snapshot) = begins ∙ ap (front NEWEST (generation + 1)) (sym same) in
     record {
       snapshot = ends.snapshot;
@@ -24,4 +24,4 @@ pub bank_long : (generation : ℕ) (d : PlainDurable) (bank : NextBank) → IsBa
 bank_long generation d bank is =
     let s = is.snapshot in
     let begun = front NEWEST (generation + 1) (length s) in
-    omega (arith, ap length is.next.behind, length-append (begun ++ s) (0 ∷ []), length-append begun s, snapshot_long NEWEST d s is.written.spelled)
+    omega (arith, ap length is.next.behind, length-append (begun ++ s) (0 ∷ []), length-append begun s, snapshot_long NEWEST d s is.written)

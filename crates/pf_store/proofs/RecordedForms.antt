@@ -1,5 +1,5 @@
 -- Data determine what is recorded, and bytes determine the data.
-use Rattle.std.proofs.{Common.{◌≡◌, ◌<◌, ◌^◌, ◌==◌, ◌&&◌, not, ℕ, true, List, [], ◌∷◌, length, map, refl, sym, ap, ◌∙◌, subst, inl, inr, arith}, lemmas.{List.length-map, Bool.Decides.nat_tests}}
+use Rattle.std.proofs.{Common.{◌≡◌, ◌<◌, ◌^◌, ◌==◌, ◌&&◌, ◌+◌, ◌++◌, not, ℕ, true, List, [], ◌∷◌, length, map, take, get_or, refl, sym, ap, ◌∙◌, subst, inl, inr, arith}, lemmas.{List.{length-map, take_more, map-append}, Bool.Decides.nat_tests}}
 use Rattle.std.specs.{Prelude.nat_le, List.{list_all, AllByRecursion}}
 use Rattle.pf_form.specs.{Bytes.{BasicForms.number_bytes, Forms.{list, Value, Fits, Spells, number, onto}}, Laws.Bytes.{Onto.onto_is, Texts.one_value}}
 use Rattle.pf_state.specs.{declared.step.Step.Step, Layouts.Steps.{plain_step, step_in}}
@@ -23,6 +23,13 @@ tables_told (t ∷ ts) = λ i. (t.0, entries_told t.1 i) ∷ tables_told ts i
 pub steps_told : (xs : List Step) → map step_in (map plain_step xs) ≡ xs
 steps_told [] = refl
 steps_told (x ∷ xs) = λ i. step_back x i ∷ steps_told xs i
+
+-- one more of a list that is the same there and back
+pub again_taken : {A B : Type 0} (f : A → B) (g : B → A) (xs : List A) (i : ℕ) (x : A) → i < length xs → x ≡ get_or xs i x
+    → map g (map f (take i xs)) ≡ take i xs → g (f x) ≡ x → map g (map f (take (i + 1) xs)) ≡ take (i + 1) xs
+again_taken {A} f g xs i x within here before one =
+    let more : take (i + 1) xs ≡ take i xs ++ x ∷ [] = take_more xs i x within ∙ ap (λ (y : A). take i xs ++ y ∷ []) (sym here) in
+    rw more (ap (λ ys. map g ys) (map-append f (take i xs) (x ∷ [])) ∙ map-append g (map f (take i xs)) (f x ∷ []) ∙ rw (before, one) refl)
 
 -- ---- which changes have bytes
 

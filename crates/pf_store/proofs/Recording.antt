@@ -7,7 +7,7 @@ use Rattle.pf_store.proofs.Sized.{payload_long}
 
 module _ (version : ℕ) (rs : List Recorded) (front payload out : List ℕ) (four : length front ≡ 4) (is : out ≡ front ++ payload) (recorded : IsRecorded version rs payload) where
   pub pushed_long : length out ≡ 4 + payload_length rs
-  pushed_long = omega (arith, ap length is, length-append front payload, four, payload_long version rs payload recorded.spelled)
+  pushed_long = omega (arith, ap length is, length-append front payload, four, payload_long version rs payload recorded)
 
   pub recorded_by : (whole : Record) → IsOf (drop 4 out) whole → IsRecordOf version rs whole
   recorded_by whole of_rest = record {

@@ -8,8 +8,8 @@ use Rattle.pf_snap.specs.Banks as snap
 use Rattle.pf_snap.proofs.Holding.{one_content}
 use Rattle.pf_core.specs.{Durable.Changes.{PlainDurable}, Worlds.{last_epoch, raised}}
 use Rattle.pf_store.specs.declared.groups.change.Recorded.{Recorded}
-use Rattle.pf_store.specs.{Durables.IsDurable, Groups.IsRecorded, Lengths.snapshot_length, Openings.{HasRoomHere, IsAsLongAs, IsFull, IsNoLaterThan, IsOfOpening, LeavesRoom, gate_of, generation_of}, Stores.{FollowInTurn, left_by_all, Holds, HoldsEither, IsRoomy, Makes}, StoreKept.{Stands, PlainStore, IsStore, HaveKept}}
-use Rattle.pf_store.proofs.{Leading.{leads-push}, Refusing.{one_at, one_gate, one_held}, Sized.{raised_roomy, roomy_in}}
+use Rattle.pf_store.specs.{Durables.IsDurable, Groups.IsRecorded, Lengths.snapshot_length, Openings.{HasRoomHere, IsAsLongAs, IsFull, IsNoLaterThan, IsOfOpening, LeavesRoom, gate_of, generation_of, version_of}, Stores.{FollowInTurn, left_by_all, Holds, HoldsEither, IsRoomy, Makes}, StoreKept.{Stands, PlainStore, IsStore, HaveKept}}
+use Rattle.pf_store.proofs.{Leading.{leads-push}, Refusing.{one_at, one_gate, one_held}, Sized.{raised_roomy, roomy_newest, roomy_own}}
 
 not_greater : (a b : ℕ) → (a ≤ b → ⊥) → b < a
 not_greater a b none = omega (arith, none)
@@ -70,7 +70,7 @@ neither_later g a b one other c (inr has) = no_later g b other c has
 -- an image that holds either of two leaves room
 roomy_as : (seen : List ℕ) (d : PlainDurable) → IsRoomy (bank_size (length seen)) d → (c : List ℕ) → IsAsLongAs seen c → Holds c d → LeavesRoom c
 roomy_as seen d roomy c long has e holds =
-    roomy_in NEWEST holds.content.version (bank_size (length c)) e
+    roomy_own holds.content (bank_size (length c)) e holds.makes
     (subst (λ (k : PlainDurable). IsRoomy (bank_size (length c)) k) (one_held c d e has holds) (subst (λ (n : ℕ). IsRoomy (bank_size n) d) (sym long) roomy))
 
 pub roomy_either : (seen : List ℕ) (d e : PlainDurable) → IsRoomy (bank_size (length seen)) d → IsRoomy (bank_size (length seen)) e
@@ -148,17 +148,14 @@ module _ {D : Type 0} (seen : D → List ℕ) (unsynced : D → ℕ → Bool) wh
         pub by_generation : generation_of image e held ≡ banks.generation
         by_generation = ap (λ (c : Content). c.generation) (one_content image held.content k.content held.bank (have_held k).bank) ∙ sym k.keeps.generation
 
-  -- there is only one version so far
-  one_version : (banks : Banks D) (d : PlainDurable) (k : HaveKept seen banks d) → banks.version ≡ 1
-  one_version banks d k =
-      let known : (1 ≤ k.content.version) × (k.content.version ≤ 1) = k.keeps.holds.bank.front.header.known in
-      omega (arith, k.keeps.version, known.0, known.1)
+        pub by_version : version_of image e held ≡ banks.version
+        by_version = ap (λ (c : Content). c.version) (one_content image held.content k.content held.bank (have_held k).bank) ∙ sym k.keeps.version
 
   pub recorded_here : (banks : Banks D) (d : PlainDurable) (k : HaveKept seen banks d) (xs : List Recorded) (p : List ℕ) → IsRecorded banks.version xs p → IsRecorded k.content.version xs p
   recorded_here banks d k xs p is = subst (λ (v : ℕ). IsRecorded v xs p) k.keeps.version is
 
-  pub recorded_there : (old new : Banks D) (d : PlainDurable) (k : HaveKept seen old d) (l : HaveKept seen new d) (xs : List Recorded) (p : List ℕ) → IsRecorded old.version xs p → IsRecorded l.content.version xs p
-  recorded_there old new d k l xs p is = recorded_here new d l xs p (subst (λ (v : ℕ). IsRecorded v xs p) (one_version old d k ∙ sym (one_version new d l)) is)
+  pub recorded_there : (new : Banks D) (d : PlainDurable) (l : HaveKept seen new d) (xs : List Recorded) (p : List ℕ) → new.version ≡ NEWEST → IsRecorded NEWEST xs p → IsRecorded l.content.version xs p
+  recorded_there new d l xs p newest is = recorded_here new d l xs p (subst (λ (v : ℕ). IsRecorded v xs p) (sym newest) is)
 
   pub have_more : (old new : Banks D) (d : PlainDurable) (p : List ℕ) (xs : List Recorded) (k : HaveKept seen old d) → IsRecorded k.content.version xs p → FollowInTurn d xs → Keeps seen new (with_payload k.content p) → HaveKept seen new (left_by_all d xs)
   have_more old new d p xs k is follows keeps = record { content = with_payload k.content p; keeps = keeps; makes = makes_more k.content d p xs k.makes is follows }
@@ -246,6 +243,6 @@ module _ {D : Type 0} (seen : D → List ℕ) (unsynced : D → ℕ → Bool) wh
           holds = is.0.0;
           generation = λ e there. let by : generation_of c e there ≤ g = is.0.1 e there in omega (arith, by, low);
           roomy = λ room.
-              let own = roomy_in held.content.version NEWEST (bank_size (length (seen old))) d (room d held) in
+              let own = roomy_newest held.content (bank_size (length (seen old))) d held.makes (room d held) in
               roomy_either (seen old) d (raised d) own (raised_roomy (bank_size (length (seen old))) d own) c (cc (is.1, same)) is.0.0;
         })))

@@ -1,39 +1,112 @@
--- How many bytes what is kept takes: the same in each version, and part by part.
-use Rattle.std.proofs.{Common.{◌≡◌, ◌≤◌, ◌+◌, ◌*◌, ℕ, List, [], ◌∷◌, length, map, refl, ap, ◌∙◌, arith}, lemmas.List.Sums.sum_by-cons}
-use Rattle.std.specs.List.{sum_by}
+-- How many bytes what is kept takes: the same in each version that allows it, and part by part.
+use Rattle.std.proofs.{Common.{◌≡◌, ◌+◌, ◌*◌, ◌==◌, ◌||◌, ℕ, Bool, true, false, Option, Some, None, List, [], ◌∷◌, length, map, refl, ap, ◌∙◌, arith}, lemmas.Bool.and_parts, lemmas.List.Sums.sum_by-cons}
+use Rattle.std.specs.{Prelude.is_none, List.{list_all, sum_by}}
 use Rattle.pf_addr.specs.Path.PathForms.{path_form, table_name_form}
-use Rattle.pf_form.specs.{Bytes.Forms.{Spells, counted, length_of}, Laws.Bytes.Lengths.length_is}
-use Rattle.pf_snap.specs.declared.header.TheConstants.{NEWEST}
-use Rattle.pf_rule.specs.Sum.Layouts.{rule_layout}
+use Rattle.pf_form.specs.{Bytes.Forms.{counted, length_of}, Laws.Bytes.Lengths.length_is}
+use Rattle.pf_snap.specs.{Banks.Content, declared.header.TheConstants.NEWEST}
+use Rattle.pf_rule.specs.{declared.rule.Effect.Effect, Rules.PlainRule, Sum.{Forms.effect_byte, Layouts.{label_form, named, plain_ending, rule_layout, plain_rule, has_labels, allows}}}
 use Rattle.pf_table.specs.{Entries.PlainEntry, EntryForms.{entry, plain_entry}, Laws.EntryForms.entry_long}
-use Rattle.pf_anchor.specs.Forms.{rule_list_form, rules_form, rulesets_form, kept_tables_form, named_form, plain_named, plain_entries}
+use Rattle.pf_anchor.specs.Forms.{rule_list_form, rules_form, rulesets_form, kept_tables_form, plain_ruled, allows_rules, allows_ruleset, named_form, plain_named, plain_entries}
+use Rattle.pf_anchor.specs.Rulesets.{PlainPlaced}
 use Rattle.pf_state.specs.{declared.step.Step.Step, Layouts.{States.{held_form, state_form}, Steps.{step_form, plain_step}}}
-use Rattle.pf_core.specs.{declared.durable.change.Item.Item, Durable.{Changes.{PlainDurable, kept_nothing}, Forms.{durable_form, plain_durable, durable_length}}, Worlds.raised}
+use Rattle.pf_core.specs.{declared.durable.change.Item.Item, Durable.{Changes.{PlainDurable, commits, adds, deletes, sets, acts, removes, kept_nothing}, Forms.{durable_form, plain_durable, durable_length}}, Worlds.raised}
+use Rattle.pf_core.specs.Durable.Forms.{allows as allows_durable}
+use Rattle.pf_core.specs.declared.durable.change.Item.TheVariants as item
 use Rattle.pf_ticket.specs.NamedTables.{PlainDefinedTable}
-use Rattle.pf_store.specs.{declared.groups.change.Recorded.{Recorded, TheVariants.Opens as opens}, Groups.{item_form, plain_item, items_form, defined_form, tables_form, edit_form, change_form, group_form, plain_record}, Lengths.{total, snapshot_length, item_length, named_length, edit_length, step_length, recorded_length, payload_length}, Stores.{IsRoomy, IsRoomyIn}}
+use Rattle.pf_store.specs.{declared.groups.change.Recorded.{Recorded, TheVariants.Made as made, TheVariants.Opens as opens}, Durables.IsDurable, Groups.{allows_item, allows_record, allows_group, IsRecorded, item_form, plain_item, items_form, defined_form, tables_form, edit_form, change_form, group_form, plain_record}, Lengths.{total, snapshot_length, item_length, named_length, edit_length, step_length, recorded_length, payload_length}, Stores.{IsRoomy, IsRoomyIn, Makes}}
+use Rattle.pf_store.proofs.Allowing.{durable_allowed, recorded_allowed, made_allowed}
 
 -- ---- in each version
 
-same_snapshot : (version other : ℕ) (d : PlainDurable) → durable_length version d ≡ durable_length other d
-unfolding durable_form rulesets_form rules_form rule_list_form rule_layout state_form held_form
-same_snapshot version other d = refl
+-- without labels they take as many bytes as with them, if there are none
+ending_long : (labels anchors : Bool) (e : Effect) (label : Option (List ℕ)) → (labels || is_none label) ≡ true
+    → length_of (named labels anchors) (plain_ending e label) ≡ length_of (named true anchors) (plain_ending e label)
+unfolding named label_form
+ending_long true anchors e label allowed = refl
+ending_long false true e label allowed = refl
+ending_long false false e None allowed = refl
+ending_long false false e (Some label) allowed = absurd cc
 
-same_record : (version other : ℕ) (r : Recorded) → length_of (change_form version) (plain_record r) ≡ length_of (change_form other) (plain_record r)
-unfolding change_form items_form item_form rules_form rule_list_form rule_layout step_form state_form held_form
-same_record version other r = refl
+rule_long : (version : ℕ) (r : PlainRule) → allows version r ≡ true → length_of (rule_layout version) (plain_rule r) ≡ length_of (rule_layout NEWEST) (plain_rule r)
+unfolding rule_layout
+rule_long version r allowed = omega (arith, ending_long (has_labels version) (effect_byte r.effect == 2) r.effect r.label allowed)
 
-pub snapshot_long : (version : ℕ) (d : PlainDurable) (bytes : List ℕ) → Spells (durable_form version) (plain_durable d) bytes → length bytes ≡ snapshot_length d
-snapshot_long version d bytes is = ap length is.written ∙ length_is (durable_form version) (plain_durable d) ∙ same_snapshot version NEWEST d
+rules_long : (version : ℕ) (rs : List PlainRule) → allows_rules version rs ≡ true
+    → sum_by (length_of (rule_layout version)) (map plain_rule rs) ≡ sum_by (length_of (rule_layout NEWEST)) (map plain_rule rs)
+rules_long version [] all = refl
+rules_long version (r ∷ rs) all =
+    let both = and_parts (allows version r) (allows_rules version rs) all in
+    omega (
+      arith,
+      sum_by-cons (length_of (rule_layout version)) (plain_rule r) (map plain_rule rs),
+      sum_by-cons (length_of (rule_layout NEWEST)) (plain_rule r) (map plain_rule rs),
+      rule_long version r both.0,
+      rules_long version rs both.1,
+    )
 
-records_long : (version : ℕ) (rs : List Recorded) → sum_by (length_of (change_form version)) (map plain_record rs) ≡ total recorded_length rs
-records_long version [] = refl
-records_long version (r ∷ rs) =
-    omega (arith, sum_by-cons (length_of (change_form version)) (plain_record r) (map plain_record rs), same_record version NEWEST r, records_long version rs)
+ruleset_long : (version : ℕ) (r : PlainPlaced) → allows_ruleset version r ≡ true → length_of (rules_form version) (plain_ruled r) ≡ length_of (rules_form NEWEST) (plain_ruled r)
+unfolding rules_form rule_list_form
+ruleset_long version r all = omega (arith, rules_long version r.1 all)
 
-pub payload_long : (version : ℕ) (rs : List Recorded) (payload : List ℕ) → Spells (group_form version) (map plain_record rs) payload → length payload ≡ payload_length rs
+rulesets_long : (version : ℕ) (rs : List PlainPlaced) → list_all (allows_ruleset version) rs ≡ true
+    → sum_by (length_of (rules_form version)) (map plain_ruled rs) ≡ sum_by (length_of (rules_form NEWEST)) (map plain_ruled rs)
+rulesets_long version [] all = refl
+rulesets_long version (r ∷ rs) all =
+    let both = and_parts (allows_ruleset version r) (list_all (allows_ruleset version) rs) all in
+    omega (
+      arith,
+      sum_by-cons (length_of (rules_form version)) (plain_ruled r) (map plain_ruled rs),
+      sum_by-cons (length_of (rules_form NEWEST)) (plain_ruled r) (map plain_ruled rs),
+      ruleset_long version r both.0,
+      rulesets_long version rs both.1,
+    )
+
+same_snapshot : (version : ℕ) (d : PlainDurable) → allows_durable version d ≡ true → durable_length version d ≡ snapshot_length d
+unfolding durable_form rulesets_form state_form held_form
+same_snapshot version d all = omega (arith, rulesets_long version d.config.rulesets all)
+
+item_long : (version : ℕ) (i : Item) → allows_item version i ≡ true → length_of (item_form version) (plain_item i) ≡ length_of (item_form NEWEST) (plain_item i)
+unfolding item_form
+item_long version (item.Rules r) all = omega (arith, ruleset_long version r all)
+item_long version (item.Tables p ts) all = refl
+
+each_item_long : (version : ℕ) (items : List Item) → list_all (allows_item version) items ≡ true
+    → sum_by (length_of (item_form version)) (map plain_item items) ≡ sum_by (length_of (item_form NEWEST)) (map plain_item items)
+each_item_long version [] all = refl
+each_item_long version (i ∷ items) all =
+    let both = and_parts (allows_item version i) (list_all (allows_item version) items) all in
+    omega (
+      arith,
+      sum_by-cons (length_of (item_form version)) (plain_item i) (map plain_item items),
+      sum_by-cons (length_of (item_form NEWEST)) (plain_item i) (map plain_item items),
+      item_long version i both.0,
+      each_item_long version items both.1,
+    )
+
+same_record : (version : ℕ) (r : Recorded) → allows_record version r ≡ true → length_of (change_form version) (plain_record r) ≡ recorded_length r
+unfolding change_form items_form step_form state_form held_form
+same_record version (made (commits items)) all = omega (arith, each_item_long version items all)
+same_record version (made (adds p name xs)) all = refl
+same_record version (made (deletes p name xs)) all = refl
+same_record version (made (sets p name xs)) all = refl
+same_record version (made (acts steps)) all = refl
+same_record version (made (removes name)) all = refl
+same_record version (opens epoch) all = refl
+
+pub snapshot_long : (version : ℕ) (d : PlainDurable) (bytes : List ℕ) → IsDurable version d bytes → length bytes ≡ snapshot_length d
+snapshot_long version d bytes is =
+    ap length is.spelled.written ∙ length_is (durable_form version) (plain_durable d) ∙ same_snapshot version d (durable_allowed version d bytes is)
+
+records_long : (version : ℕ) (rs : List Recorded) → allows_group version rs ≡ true → sum_by (length_of (change_form version)) (map plain_record rs) ≡ total recorded_length rs
+records_long version [] all = refl
+records_long version (r ∷ rs) all =
+    let both = and_parts (allows_record version r) (allows_group version rs) all in
+    omega (arith, sum_by-cons (length_of (change_form version)) (plain_record r) (map plain_record rs), same_record version r both.0, records_long version rs both.1)
+
+pub payload_long : (version : ℕ) (rs : List Recorded) (payload : List ℕ) → IsRecorded version rs payload → length payload ≡ payload_length rs
 unfolding group_form
 payload_long version rs payload is =
-    ap length is.written ∙ length_is (group_form version) (map plain_record rs) ∙ ap (λ (n : ℕ). 1 + n) (records_long version rs)
+    ap length is.spelled.written ∙ length_is (group_form version) (map plain_record rs) ∙ ap (λ (n : ℕ). 1 + n) (records_long version rs (recorded_allowed version rs payload is))
 
 pub opening_long : (epoch : ℕ) → payload_length (opens epoch ∷ []) ≡ 6
 unfolding change_form
@@ -48,9 +121,12 @@ raised_long : (d : PlainDurable) → snapshot_length (raised d) ≡ snapshot_len
 unfolding durable_form
 raised_long d = refl
 
--- room in one version is room in each
-pub roomy_in : (version other size : ℕ) (d : PlainDurable) → IsRoomyIn version size d → IsRoomyIn other size d
-roomy_in version other size d roomy = omega (arith, same_snapshot version other d, roomy)
+-- room in the version that holds it is room in the newest one, and the other way round
+pub roomy_newest : (content : Content) (size : ℕ) (d : PlainDurable) → Makes content d → IsRoomyIn content.version size d → IsRoomy size d
+roomy_newest content size d makes roomy = omega (arith, same_snapshot content.version d (made_allowed content d makes), roomy)
+
+pub roomy_own : (content : Content) (size : ℕ) (d : PlainDurable) → Makes content d → IsRoomy size d → IsRoomyIn content.version size d
+roomy_own content size d makes roomy = omega (arith, same_snapshot content.version d (made_allowed content d makes), roomy)
 
 pub raised_roomy : (size : ℕ) (d : PlainDurable) → IsRoomy size d → IsRoomy size (raised d)
 raised_roomy size d roomy = omega (arith, raised_long d, roomy)

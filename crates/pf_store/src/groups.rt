@@ -24,7 +24,7 @@ mod telling;
 pub use as_change::AsChange;
 pub use change::Recorded;
 pub use fault::GroupFault;
-pub(crate) use group::{have_form, record_group, record_opening};
+pub(crate) use group::{changes_are_allowed_in, have_form, record_group, record_opening};
 pub use group::{read_group, write_group};
 pub(crate) use items::{push_rules, read_rules};
 pub use laws::payloads_tell_one_group;

@@ -1,11 +1,11 @@
 //! A device that holds what is kept: the bank that counts has a snapshot of what was kept when it was begun, and a record for each group
-//! since. If a record has no room there, the other bank is begun first.
+//! since. If a record has no room there, or that bank's version has no form of it, the other bank is begun first.
 //!
 //! Start with `specs/Stores.antt`: what an image holds. Then read `specs/StoreKept.antt`: what contracts see of a store, and
 //! `specs/Openings.antt`: why a device isn't opened. The modules:
 //!
 //! - `keeping`: [`Store`], which saves changes, and [`Store::open`].
-//! - `adding`: adds a record, after a switch if it has no room.
+//! - `adding`: adds a record, to the bank that counts or after a switch.
 //! - `finding`: [`Store::peek`], what a device holds.
 //! - `formatting`: [`format`], which makes a device hold nothing.
 //! - `replaying`: what a snapshot and payloads make.

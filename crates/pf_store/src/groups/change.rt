@@ -2,9 +2,9 @@
 ghost use Rattle.std.specs.Prelude.{◌≡◌, ◌<◌, ◌^◌, true, length, OnOk};
 ghost use Rattle.pf_form.specs.{Bytes.Forms.{onto, Fits}, Bytes.Readers.Reads};
 ghost use Rattle.pf_anchor.specs.Forms.{plain_entries};
-ghost use Rattle.pf_store.specs.Groups.{EditShape, edit_form, change_form, plain_record, has_form};
+ghost use Rattle.pf_store.specs.Groups.{EditShape, edit_form, change_form, plain_record, has_form, allows_record};
 
-use crate::groups::items::{have_form, push_items, read_items};
+use crate::groups::items::{have_form, items_are_allowed_in, push_items, read_items};
 use crate::groups::tables::{push_entries, read_entries};
 use crate::groups::telling::tells;
 use pf_addr::path::{Path, TableName};
@@ -59,7 +59,7 @@ impl Layout for Recorded {
         read_record(alloc, version, from)
     }
 
-    #[tactic(auto, using(crate::proofs::RecordedForms::formed))]
+    #[tactic(auto, using(crate::proofs::RecordedForms::formed, crate::proofs::Allowing::allowed))]
     fn write(&self, version: u8, out: &mut Vec<u8>) -> Result<(), AllocError> {
         tells(self);
         push_record(out, version, self)
@@ -143,7 +143,8 @@ pub(crate) fn push_record(
     version: u8,
     recorded: &Recorded,
 ) -> Result<(), AllocError>
-    requires { has_form recorded.now ≡ true }
+    requires formed { has_form recorded.now ≡ true }
+    requires allowed { allows_record version recorded.now ≡ true }
     ensures written { OnOk result (out.new.items ≡ onto (change_form version) (plain_record recorded.now) out.old.items) }
     ensures fits { OnOk result (Fits (change_form version) (plain_record recorded.now)) }
 {
@@ -159,7 +160,8 @@ pub(crate) fn push_record(
 /// Appends a change to the bytes, as a version has it; it fits. Fails only when out of memory.
 #[tactic(auto, unfolding(crate::specs::Groups::change_form))]
 pub(crate) fn push_change(out: &mut Vec<u8>, version: u8, change: &Change) -> Result<(), AllocError>
-    requires { has_form (Recorded.Made change.now) ≡ true }
+    requires formed { has_form (Recorded.Made change.now) ≡ true }
+    requires allowed { allows_record version (Recorded.Made change.now) ≡ true }
     ensures written { OnOk result (out.new.items ≡ onto (change_form version) (plain_record (Recorded.Made change.now)) out.old.items) }
     ensures fits { OnOk result (Fits (change_form version) (plain_record (Recorded.Made change.now))) }
 {
@@ -214,5 +216,19 @@ pub(crate) fn has_change_form(change: &Change) -> bool
         | ChangeKind::Set { entries, .. } => entries.as_slice().len() < COUNTS,
         ChangeKind::States(steps) => steps.as_slice().len() < COUNTS,
         ChangeKind::Remove(_) => true,
+    }
+}
+
+/// Whether a version allows its rules. It looks at none of them.
+pub(crate) fn is_allowed_in(change: &Change, version: u8) -> bool
+    ensures { result ≡ allows_record version (Recorded.Made change.now) }
+{
+    match change.kind() {
+        ChangeKind::Commit(items) => items_are_allowed_in(items.as_slice(), version),
+        ChangeKind::Add { .. }
+        | ChangeKind::Delete { .. }
+        | ChangeKind::Set { .. }
+        | ChangeKind::States(_)
+        | ChangeKind::Remove(_) => true,
     }
 }

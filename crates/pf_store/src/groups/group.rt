@@ -2,10 +2,12 @@
 ghost use Rattle.std.specs.{Prelude.{◌≡◌, ◌+◌, ◌^◌, ◌<◌, ◌≤◌, ◌&&◌, ◌++◌, [], ◌∷◌, true, false, length, map, List, ℕ, IfOk, IfErr, OnOk}, List.list_all};
 ghost use Rattle.pf_form.specs.{Bytes.Forms.{counted, onto, Fits}, Bytes.Readers.Reads};
 ghost use Rattle.pf_store.specs.declared.limits.TheConstants.{AROUND, OPENING_RECORD};
-ghost use Rattle.pf_store.specs.{Groups.{change_form, group_form, have_form, has_form, is_group, made_all, plain_record, record_in, IsRecorded, IsRecordOf}, Lengths.payload_length};
+ghost use Rattle.pf_store.specs.{Groups.{change_form, group_form, have_form, have_form_in, has_form, allows_record, allows_group, is_group, made_all, plain_record, record_in, IsRecorded, IsRecordOf}, Lengths.payload_length};
 
 use crate::groups::as_change::AsChange;
-use crate::groups::change::{OPEN, Recorded, has_change_form, push_change, push_record};
+use crate::groups::change::{
+    OPEN, Recorded, has_change_form, is_allowed_in, push_change, push_record,
+};
 use crate::groups::fault::GroupFault;
 use crate::groups::telling::{tell_change, tells};
 use pf_core::GROUP_LIMIT;
@@ -44,7 +46,7 @@ impl Layout for StoredGroup {
         Ok(StoredGroup { records })
     }
 
-    #[tactic(auto, using(crate::proofs::RecordedForms::group_formed))]
+    #[tactic(auto, using(crate::proofs::RecordedForms::group_formed, crate::proofs::Allowing::group_allowed))]
     fn write(&self, version: u8, out: &mut Vec<u8>) -> Result<(), AllocError> {
         tell_records(self.records.as_slice());
         push_records(out, version, self.records.as_slice())
@@ -76,7 +78,8 @@ fn tell_records(records: &[Recorded])
 
 #[tactic(auto, unfolding(crate::specs::Groups::group_form))]
 fn push_records(out: &mut Vec<u8>, version: u8, records: &[Recorded]) -> Result<(), AllocError>
-    requires { have_form records.now ≡ true }
+    requires formed { have_form records.now ≡ true }
+    requires allowed { allows_group version records.now ≡ true }
     ensures { OnOk result (out.new.items ≡ onto (group_form version) (map plain_record records.now) out.old.items) }
 {
     push_u8(out, records.len() as u8)?;
@@ -102,6 +105,7 @@ fn push_changes<C: AsChange>(
 ) -> Result<(), AllocError>
     requires many { is_group changes.now ≡ true }
     requires formed { list_all (λ c. has_form (Recorded.Made (C.as_plain c))) changes.now ≡ true }
+    requires allowed { list_all (λ c. allows_record version (Recorded.Made (C.as_plain c))) changes.now ≡ true }
     ensures written { OnOk result
         (out.new.items ≡ onto (group_form version) (map (λ c. plain_record (Recorded.Made (C.as_plain c))) changes.now) out.old.items) }
     ensures fits { OnOk result (Fits (group_form version) (map (λ c. plain_record (Recorded.Made (C.as_plain c))) changes.now)) }
@@ -132,10 +136,32 @@ fn has_bytes<C: AsChange>(change: &C) -> bool
     has_change_form(change.as_change())
 }
 
+/// Whether a version allows the rules of each of these changes. It looks at none of them.
+pub(crate) fn changes_are_allowed_in<C: AsChange>(changes: &[C], version: u8) -> bool
+    ensures { result ≡ allows_group version (made_all (map C.as_plain changes.now)) }
+{
+    all_are_allowed_in(changes, version)
+}
+
+fn all_are_allowed_in<C: AsChange>(changes: &[C], version: u8) -> bool
+    ensures { result ≡ list_all (λ c. allows_record version (Recorded.Made (C.as_plain c))) changes.now }
+{
+    changes
+        .iter()
+        .all(|change| change_is_allowed_in(change, version))
+}
+
+fn change_is_allowed_in<C: AsChange>(change: &C, version: u8) -> bool
+    ensures { result ≡ allows_record version (Recorded.Made (C.as_plain change.now)) }
+{
+    is_allowed_in(change.as_change(), version)
+}
+
 /// The bytes, at least 2, of a group of changes in a version.
 ///
 /// `NoForm`: it has none. There are no changes or more than 64, or one of them has no bytes, such as a commit of nothing, of more than 64
-/// rulesets, or of more tables at a path than a ticket takes. `Memory`: it has some, but memory ran out.
+/// rulesets, of more tables at a path than a ticket takes, or of a rule with a label in a version without labels. `Memory`: it has some,
+/// but memory ran out.
 pub fn write_group<C: AsChange>(
     alloc: Global,
     version: u8,
@@ -143,11 +169,11 @@ pub fn write_group<C: AsChange>(
 ) -> Result<Vec<u8>, GroupFault>
     ensures written { IfOk result (λ v. IsRecorded version (made_all (map C.as_plain changes.now)) v.items) }
     ensures length { IfOk result (λ v. length v.items ≡ payload_length (made_all (map C.as_plain changes.now))) }
-    ensures formed { OnOk result (have_form (made_all (map C.as_plain changes.now)) ≡ true) }
-    ensures formless { IfErr result (λ e. e ≡ GroupFault.NoForm → have_form (made_all (map C.as_plain changes.now)) ≡ false) }
-    ensures memory { IfErr result (λ e. e ≡ GroupFault.Memory → have_form (made_all (map C.as_plain changes.now)) ≡ true) }
+    ensures formed { OnOk result (have_form_in version (made_all (map C.as_plain changes.now)) ≡ true) }
+    ensures formless { IfErr result (λ e. e ≡ GroupFault.NoForm → have_form_in version (made_all (map C.as_plain changes.now)) ≡ false) }
+    ensures memory { IfErr result (λ e. e ≡ GroupFault.Memory → have_form_in version (made_all (map C.as_plain changes.now)) ≡ true) }
 {
-    if !have_form(changes) {
+    if !have_form(changes) || !changes_are_allowed_in(changes, version) {
         return Err(GroupFault::NoForm);
     }
     let mut out = Vec::new(alloc);
@@ -157,7 +183,8 @@ pub fn write_group<C: AsChange>(
 
 // Appends the bytes of a group of changes to others.
 fn push_group<C: AsChange>(out: &mut Vec<u8>, version: u8, changes: &[C]) -> Result<(), AllocError>
-    requires { have_form (made_all (map C.as_plain changes.now)) ≡ true }
+    requires formed { have_form (made_all (map C.as_plain changes.now)) ≡ true }
+    requires allowed { allows_group version (made_all (map C.as_plain changes.now)) ≡ true }
     ensures { OnOk result ((payload : List ℕ) × (out.new.items ≡ out.old.items ++ payload)
         × IsRecorded version (made_all (map C.as_plain changes.now)) payload) }
 {
@@ -172,6 +199,7 @@ pub(crate) fn record_group<C: AsChange>(
     changes: &[C],
 ) -> Result<Record, AllocError>
     requires formed { have_form (made_all (map C.as_plain changes.now)) ≡ true }
+    requires allowed { allows_group version (made_all (map C.as_plain changes.now)) ≡ true }
     requires short { payload_length (made_all (map C.as_plain changes.now)) < 2 ^ 32 }
     ensures made { IfOk result (λ made. IsRecordOf version (made_all (map C.as_plain changes.now)) made) }
     ensures long { IfOk result (λ made. length made.behind.items + 1 ≡ payload_length (made_all (map C.as_plain changes.now)) + AROUND) }

@@ -3,18 +3,19 @@ ghost use Rattle.std.specs.{Prelude.{◌≡◌, ◌≤◌, ◌&&◌, true, lengt
 ghost use Rattle.pf_form.specs.{Bytes.Forms.{counted, onto, Fits}, Bytes.Readers.Reads};
 ghost use Rattle.pf_rule.specs.Sum.Layouts.{plain_rule};
 ghost use Rattle.pf_ticket.specs.declared.limits.TheConstants.{OFFERED_TABLE_LIMIT};
-ghost use Rattle.pf_anchor.specs.Forms.{RulesShape, rules_form, rule_list_form, plain_named};
-ghost use Rattle.pf_store.specs.Groups.{TablesShape, tables_form, defined_form, item_form, items_form, plain_item, is_commit, has_item_form};
+ghost use Rattle.pf_anchor.specs.Forms.{RulesShape, rules_form, rule_list_form, plain_named, allows_rules};
+ghost use Rattle.pf_store.specs.Groups.{TablesShape, tables_form, defined_form, item_form, items_form, plain_item, is_commit, has_item_form, allows_item};
 
 use crate::groups::tables::{StoredTable, push_named};
 use pf_addr::path::Path;
 use pf_anchor::{Placed, RULE_LIMIT, RuleList};
 use pf_core::Item;
 use pf_form::bytes::{
-    Fault, Layout, Rest, Stop, expect, push_bytes, push_fitting, push_key, push_list, push_u8,
-    push_u32, read_list, read_ordered_list, read_times, read_u8, takes,
+    Fault, Layout, Rest, Stop, expect, push_bytes, push_fitting, push_key, push_u8, push_u32,
+    read_list, read_ordered_list, read_times, read_u8, takes, write_list,
 };
 use pf_rule::Rule;
+use pf_rule::sum::rules_fit;
 use pf_ticket::{Defined, DefinedTable, ENTRY_LIMIT, OFFERED_TABLE_LIMIT};
 use std::alloc::{AllocError, Global};
 
@@ -55,7 +56,23 @@ impl Layout for StoredItem {
 
     #[tactic(auto, using(crate::proofs::Pushed::item_formed))]
     fn write(&self, version: u8, out: &mut Vec<u8>) -> Result<(), AllocError> {
+        is_allowed(&self.item, version);
         push_item(out, version, &self.item)
+    }
+}
+
+// Gives contracts the fact that a version that has a form for an item allows it; does nothing.
+#[tactic(auto, using(crate::proofs::Allowing::kept_allowed), unfolding(crate::specs::Groups::item_form))]
+fn is_allowed(item: &Item, version: u8)
+    requires { Fits (item_form version) (plain_item item.now) }
+    ensures { allows_item version item.now ≡ true }
+{
+    match item {
+        // `as_slice` promises that these are rules
+        Item::Rules(placed) => {
+            let _rules = placed.value().as_slice();
+        }
+        Item::Tables { .. } => {}
     }
 }
 
@@ -114,9 +131,10 @@ fn tables_of(alloc: Global, rows: Vec<StoredTable>) -> Result<Vec<DefinedTable>,
     rows.into_iter().map(|row| row.table).collect(alloc)
 }
 
-/// Appends a path and the rules there to the bytes; they fit. Fails only when out of memory.
+/// Appends a path and the rules there, which the version allows, to the bytes; they fit. Fails only when out of memory.
 #[tactic(auto, unfolding(pf_anchor::specs::Forms::rules_form))]
 pub(crate) fn push_rules(out: &mut Vec<u8>, version: u8, placed: &Placed) -> Result<(), AllocError>
+    requires { allows_rules version placed.now.1 ≡ true }
     ensures written { OnOk result
         (out.new.items ≡ onto {a = RulesShape} (rules_form version) (placed.now.0, map plain_rule placed.now.1) out.old.items) }
     ensures fits { OnOk result (Fits {a = RulesShape} (rules_form version) (placed.now.0, map plain_rule placed.now.1)) }
@@ -127,10 +145,13 @@ pub(crate) fn push_rules(out: &mut Vec<u8>, version: u8, placed: &Placed) -> Res
 
 #[tactic(auto, unfolding(pf_anchor::specs::Forms::rule_list_form), using(crate::proofs::Pushed::rule_list_fits))]
 fn push_rule_list(out: &mut Vec<u8>, version: u8, rules: &RuleList) -> Result<(), AllocError>
+    requires { allows_rules version rules.now ≡ true }
     ensures written { OnOk result (out.new.items ≡ onto (rule_list_form version) (map plain_rule rules.now) out.old.items) }
     ensures fits { OnOk result (Fits (rule_list_form version) (map plain_rule rules.now)) }
 {
-    push_list(out, version, rules.as_slice())
+    let rules = rules.as_slice();
+    rules_fit(rules, version);
+    write_list(rules, version, out)
 }
 
 // Appends a path and the tables there that were defined to the bytes.
@@ -166,7 +187,8 @@ fn push_defined(out: &mut Vec<u8>, version: u8, tables: &Defined) -> Result<(), 
 
 #[tactic(auto, unfolding(crate::specs::Groups::item_form))]
 fn push_item(out: &mut Vec<u8>, version: u8, item: &Item) -> Result<(), AllocError>
-    requires { has_item_form item.now ≡ true }
+    requires formed { has_item_form item.now ≡ true }
+    requires allowed { allows_item version item.now ≡ true }
     ensures written { OnOk result (out.new.items ≡ onto (item_form version) (plain_item item.now) out.old.items) }
     ensures fits { OnOk result (Fits (item_form version) (plain_item item.now)) }
 {
@@ -219,6 +241,7 @@ fn read_rows<'a>(alloc: Global, version: u8, from: &mut Rest<'a>) -> Result<Vec<
 pub(crate) fn push_items(out: &mut Vec<u8>, version: u8, items: &[Item]) -> Result<(), AllocError>
     requires many { is_commit items.now ≡ true }
     requires formed { list_all has_item_form items.now ≡ true }
+    requires allowed { list_all (allows_item version) items.now ≡ true }
     ensures written { OnOk result (out.new.items ≡ onto (items_form version) (map plain_item items.now) out.old.items) }
     ensures fits { OnOk result (Fits (items_form version) (map plain_item items.now)) }
 {
@@ -255,5 +278,21 @@ fn has_item_form(item: &Item) -> bool
     match item {
         Item::Rules(_) => true,
         Item::Tables { tables, .. } => tables.len() <= OFFERED_TABLE_LIMIT,
+    }
+}
+
+/// Whether a version allows each of these. It looks at no rule.
+pub(crate) fn items_are_allowed_in(items: &[Item], version: u8) -> bool
+    ensures { result ≡ list_all (allows_item version) items.now }
+{
+    items.iter().all(|item| item_is_allowed_in(item, version))
+}
+
+fn item_is_allowed_in(item: &Item, version: u8) -> bool
+    ensures { result ≡ allows_item version item.now }
+{
+    match item {
+        Item::Rules(placed) => placed.value().is_allowed_in(version),
+        Item::Tables { .. } => true,
     }
 }

@@ -5,8 +5,8 @@ ghost use Rattle.pf_form.specs.Bytes.Forms.{onto, Fits};
 ghost use Rattle.pf_anchor.specs.Tables.{table_order};
 ghost use Rattle.pf_core.specs.Durable.Changes.{PlainDurable};
 ghost use Rattle.pf_anchor.specs.Forms.{has_some, configured};
-ghost use Rattle.pf_core.specs.Durable.Forms.{durable_form, plain_durable};
-ghost use Rattle.pf_store.specs.{Durables.{durable_has_form, IsDurable}, Lengths.snapshot_length, Snapshots.EndsInSnapshot};
+ghost use Rattle.pf_core.specs.Durable.Forms.{allows, durable_form, plain_durable};
+ghost use Rattle.pf_store.specs.{Durables.{durable_has_form, durable_has_form_in, IsDurable}, Lengths.snapshot_length, Snapshots.EndsInSnapshot};
 
 use crate::groups::GroupFault;
 use crate::snapshots::rulesets::{push_rulesets, read_rulesets};
@@ -48,8 +48,9 @@ impl Layout for Snapshot {
         })
     }
 
-    #[tactic(auto, using(crate::proofs::Durables::durable_formed))]
+    #[tactic(auto, using(crate::proofs::Durables::durable_formed, crate::proofs::Allowing::snapshot_allowed))]
     fn write(&self, version: u8, out: &mut Vec<u8>) -> Result<(), AllocError> {
+        tell_durable(&self.durable);
         push_durable(out, version, &self.durable)
     }
 }
@@ -71,7 +72,8 @@ fn config_of(
 
 #[tactic(auto, unfolding(pf_core::specs::Durable::Forms::durable_form))]
 fn push_durable(out: &mut Vec<u8>, version: u8, durable: &Durable) -> Result<(), AllocError>
-    requires { durable_has_form durable.now ≡ true }
+    requires formed { durable_has_form durable.now ≡ true }
+    requires allowed { allows version durable.now ≡ true }
     ensures written { OnOk result (out.new.items ≡ onto (durable_form version) (plain_durable durable.now) out.old.items) }
     ensures fits { OnOk result (Fits (durable_form version) (plain_durable durable.now)) }
 {
@@ -93,13 +95,14 @@ fn has_form(alloc: Global, durable: &Durable) -> Result<bool, AllocError>
     Ok(!config.would_be_too_many_tables(alloc, &[])?)
 }
 
-/// Appends a snapshot of what is kept, which has one, to the bytes. Fails only when out of memory.
+/// Appends a snapshot of what is kept, which has one in the version, to the bytes. Fails only when out of memory.
 pub(crate) fn push_snapshot(
     out: &mut Vec<u8>,
     version: u8,
     durable: &Durable,
 ) -> Result<(), AllocError>
-    requires { durable_has_form durable.now ≡ true }
+    requires formed { durable_has_form durable.now ≡ true }
+    requires allowed { allows version durable.now ≡ true }
     ensures { OnOk result (EndsInSnapshot version durable.now out.old.items out.new.items) }
 {
     tell_durable(durable);
@@ -108,14 +111,15 @@ pub(crate) fn push_snapshot(
 
 /// The bytes, at least 16, of a snapshot of what is kept, in a version.
 ///
-/// `NoForm`: it has none, since there are more than 1,024 rulesets or tables. `Memory`: out of memory.
+/// `NoForm`: it has none, since there are more than 1,024 rulesets or tables, or a rule with a label in a version without labels. `Memory`:
+/// out of memory.
 pub fn write_durable(alloc: Global, version: u8, durable: &Durable) -> Result<Vec<u8>, GroupFault>
     ensures written { IfOk result (λ v. IsDurable version durable.now v.items) }
     ensures length { IfOk result (λ v. length v.items ≡ snapshot_length durable.now) }
-    ensures formed { OnOk result (durable_has_form durable.now ≡ true) }
-    ensures formless { IfErr result (λ e. e ≡ GroupFault.NoForm → durable_has_form durable.now ≡ false) }
+    ensures formed { OnOk result (durable_has_form_in version durable.now ≡ true) }
+    ensures formless { IfErr result (λ e. e ≡ GroupFault.NoForm → durable_has_form_in version durable.now ≡ false) }
 {
-    if !has_form(alloc, durable)? {
+    if !durable.is_allowed_in(version) || !has_form(alloc, durable)? {
         return Err(GroupFault::NoForm);
     }
     let Ok(length) = usize::try_from(durable.byte_length()) else {

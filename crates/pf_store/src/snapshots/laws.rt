@@ -2,15 +2,16 @@
 ghost use Rattle.std.specs.Prelude.{◌≡◌, ◌↔◌, ℕ, List, false, length, replicate};
 ghost use Rattle.pf_form.specs.Bytes.Forms.{Spells};
 ghost use Rattle.pf_core.specs.Durable.Changes.{PlainDurable, kept_nothing};
-ghost use Rattle.pf_store.specs.{Durables.{IsDurable, durable_has_form, example_kept, example_bytes}, Lengths.snapshot_length, Snapshots.empty_form};
+ghost use Rattle.pf_store.specs.{Durables.{IsDurable, durable_has_form_in, example_kept, example_bytes}, Lengths.snapshot_length, Snapshots.empty_form};
 
-/// In each version bytes are the snapshot of at most one thing kept, and what has more rulesets or tables than allowed has none.
+/// In each version bytes are the snapshot of at most one thing kept. What has more rulesets or tables than allowed, or a rule that the
+/// version doesn't allow, has none.
 pub fn snapshot_is_of_one_durable()
     ensures one { (version : ℕ) (d e : PlainDurable) (bytes : List ℕ) → IsDurable version d bytes → IsDurable version e bytes → d ≡ e }
-    ensures formless { (version : ℕ) (d : PlainDurable) (bytes : List ℕ) → durable_has_form d ≡ false → ¬ IsDurable version d bytes }
+    ensures formless { (version : ℕ) (d : PlainDurable) (bytes : List ℕ) → durable_has_form_in version d ≡ false → ¬ IsDurable version d bytes }
 {}
 
-/// How many bytes a snapshot has, in each version.
+/// How many bytes a snapshot has, in each version that has one.
 pub fn snapshots_are_so_long()
     ensures { (version : ℕ) (d : PlainDurable) (bytes : List ℕ) → IsDurable version d bytes → length bytes ≡ snapshot_length d }
 {}

@@ -3,7 +3,7 @@ ghost use Rattle.std.specs.{Prelude.{◌≡◌, ◌≤◌, ◌&&◌, nat_le, tru
 ghost use Rattle.pf_addr.specs.Path.Paths.{path_order};
 ghost use Rattle.pf_form.specs.Bytes.{Forms.{onto, Fits}, Readers.Reads};
 ghost use Rattle.pf_anchor.specs.{declared.limits.TheConstants.RULESET_LIMIT, Rulesets.IsMap};
-ghost use Rattle.pf_anchor.specs.Forms.{has_some, rulesets_form, plain_ruled};
+ghost use Rattle.pf_anchor.specs.Forms.{has_some, rulesets_form, plain_ruled, allows_config};
 
 use crate::groups::{push_rules, read_rules};
 use pf_anchor::{Config, Path, Placed, RULESET_LIMIT};
@@ -34,7 +34,10 @@ impl Layout for StoredRuleset {
         })
     }
 
+    #[tactic(auto, using(crate::proofs::Allowing::kept_allowed))]
     fn write(&self, version: u8, out: &mut Vec<u8>) -> Result<(), AllocError> {
+        // `as_slice` promises that these are rules
+        let _rules = self.placed.value().as_slice();
         push_rules(out, version, &self.placed)
     }
 }
@@ -116,7 +119,8 @@ pub(crate) fn push_rulesets(
     version: u8,
     config: &Config,
 ) -> Result<(), AllocError>
-    requires { length config.now.rulesets ≤ RULESET_LIMIT }
+    requires few { length config.now.rulesets ≤ RULESET_LIMIT }
+    requires allowed { allows_config version config.now ≡ true }
     ensures written { OnOk result (out.new.items ≡ onto (rulesets_form version) (map plain_ruled config.now.rulesets) out.old.items) }
     ensures fits { OnOk result (Fits (rulesets_form version) (map plain_ruled config.now.rulesets)) }
 {

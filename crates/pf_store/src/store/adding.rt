@@ -1,11 +1,12 @@
-//! Adding a record, after a switch to the other bank if it has no room.
-ghost use Rattle.std.specs.Prelude.{◌≡◌, ◌↔◌, ◌+◌, ◌^◌, ◌<◌, ◌≤◌, true, List, ℕ, length, OnOk, OnErr, IsErrOf, if◌then◌else◌};
+//! Adding a record, to the bank that counts or after a switch to the other one.
+ghost use Rattle.std.specs.Prelude.{◌≡◌, ◌↔◌, ◌+◌, ◌^◌, ◌<◌, ◌≤◌, true, false, List, ℕ, length, OnOk, OnErr, IsErrOf, if◌then◌else◌};
 ghost use Rattle.pf_disk.specs.Disk.{EachMoment};
 ghost use Rattle.pf_journal.specs.Journal.{IsOf};
 ghost use Rattle.pf_snap.specs.{Banks.bank_size, Faults.is_switch_fault, Ready.IsReady};
 ghost use Rattle.pf_core.specs.Durable.Changes.{PlainDurable};
 ghost use Rattle.pf_store.specs.declared.groups.change.Recorded.{Recorded};
 ghost use Rattle.pf_store.specs.{Durables.durable_has_form, Groups.IsRecordOf, Lengths.snapshot_length, Snapshots.IsBankOf, StoreFaults.is_add_fault, StoreKept.HaveKept, Openings.{IsAsLongAs, IsNoLaterThan}, Stores.{FollowInTurn, left_by_all, Holds, HoldsEither}};
+ghost use Rattle.pf_snap.specs.declared.header.TheConstants.{NEWEST};
 
 use crate::snapshots::push_snapshot;
 use crate::store::fault::AddFault;
@@ -16,13 +17,65 @@ use pf_journal::Record;
 use pf_snap::{BANK_HEADER, Banks, NEWEST, NextBank, SwitchFault};
 use std::alloc::AllocError;
 
-/// Adds this record, of a group that follows what is kept, in at most ten moments of the device. If the bank that counts has no room for
-/// it, the other one is begun first, with a snapshot of what is kept, in the memory of `next`. All memory is taken before the first call
-/// of the device.
+/// Adds this record, of a group that follows what is kept, in at most ten moments of the device. `here` says whether it is added to the
+/// bank that counts, which then has room for it; otherwise the other one is begun first, with a snapshot of what is kept, in the memory of
+/// `next`. All memory is taken before the first call of the device.
 ///
-/// The record is in the version of the bank that counts, which is that of the other one too: there is only one so far.
+/// The record is in the version of the bank that it is added to: the newest one, if that is the other bank.
 ///
-/// The banks have to be ready and hold what is kept. `Full`: the record has no room, nor would it have after such a snapshot.
+/// The banks have to be ready and hold what is kept. `Full`: the record isn't for the bank that counts, and has no room after such a
+/// snapshot.
+pub(crate) fn add_to<D: Disk>(
+    banks: &mut Banks<D>,
+    next: &mut NextBank,
+    durable: &Durable,
+    added: &Record,
+    here: bool,
+) -> Result<(), AddFault>
+    requires ready { IsReady D.seen D.unsynced banks.old }
+    requires kept { HaveKept D.seen banks.old durable.now }
+    requires early { banks.old.generation + 1 < 2 ^ 64 }
+    requires few { D.fault_count banks.old.journal.disk < 2 ^ 63 }
+    requires made { (payload : List ℕ) × IsOf payload added.now }
+    requires room { here ≡ true → banks.old.journal.gate + (length added.now.behind.items + 1) ≤ banks.old.journal.end }
+    ensures any_moment { (xs : List Recorded) → IsRecordOf (if here then banks.old.version else NEWEST) xs added.now → FollowInTurn durable.now xs
+        → EachMoment D.moment D.left_since banks.old.journal.disk banks.new.journal.disk (HoldsEither durable.now (left_by_all durable.now xs)) }
+    ensures generations { EachMoment D.moment D.left_since banks.old.journal.disk banks.new.journal.disk
+        (IsNoLaterThan (banks.old.generation + 1)) }
+    ensures lengths { EachMoment D.moment D.left_since banks.old.journal.disk banks.new.journal.disk
+        (IsAsLongAs (D.seen banks.old.journal.disk)) }
+    ensures kept { OnOk result ((xs : List Recorded) → IsRecordOf (if here then banks.old.version else NEWEST) xs added.now → FollowInTurn durable.now xs
+        → HaveKept D.seen banks.new (left_by_all durable.now xs)) }
+    ensures ready { OnOk result (IsReady D.seen D.unsynced banks.new) }
+    ensures full { IsErrOf result AddFault.Full ↔ ((here ≡ false)
+        × (bank_size (length (D.seen banks.old.journal.disk)) < BANK_HEADER + snapshot_length durable.now + (length added.now.behind.items + 1))) }
+    ensures unchanged_where_full { IsErrOf result AddFault.Full → banks.new ≡ banks.old }
+    ensures unchanged_without_memory { IsErrOf result AddFault.Memory → banks.new ≡ banks.old }
+    ensures generation { banks.new.generation ≤ banks.old.generation + 1 }
+    ensures generation_stays { banks.old.generation ≤ banks.new.generation }
+    ensures here { OnOk result (here ≡ true → (banks.new.generation ≡ banks.old.generation) × (banks.new.version ≡ banks.old.version)) }
+    ensures there { OnOk result (here ≡ false → (banks.new.generation ≡ banks.old.generation + 1) × (banks.new.version ≡ NEWEST)) }
+    ensures same_size { length (D.seen banks.new.journal.disk) ≡ length (D.seen banks.old.journal.disk) }
+    ensures moments { D.moment banks.new.journal.disk ≤ D.moment banks.old.journal.disk + 10 }
+    ensures faults { D.fault_count banks.new.journal.disk
+        ≡ D.fault_count banks.old.journal.disk + (if is_add_fault result then 1 else 0) }
+{
+    // its gate, and what comes after it
+    let needed = 1 + added.behind.len();
+    if !here && !has_room(durable, banks.size(), needed) {
+        return Err(AddFault::Full);
+    }
+    if here {
+        banks.append_record(added)?;
+        return Ok(());
+    }
+    switch(banks, next, durable)?;
+    banks.append_record(added)?;
+    Ok(())
+}
+
+/// As [`add_to`], for a record that is the same in the version of the bank that counts and in the newest one: it is added to that bank if it
+/// has room there.
 pub(crate) fn add<D: Disk>(
     banks: &mut Banks<D>,
     next: &mut NextBank,
@@ -34,13 +87,13 @@ pub(crate) fn add<D: Disk>(
     requires early { banks.old.generation + 1 < 2 ^ 64 }
     requires few { D.fault_count banks.old.journal.disk < 2 ^ 63 }
     requires made { (payload : List ℕ) × IsOf payload added.now }
-    ensures any_moment { (xs : List Recorded) → IsRecordOf banks.old.version xs added.now → FollowInTurn durable.now xs
+    ensures any_moment { (xs : List Recorded) → ((version : ℕ) → IsRecordOf version xs added.now) → FollowInTurn durable.now xs
         → EachMoment D.moment D.left_since banks.old.journal.disk banks.new.journal.disk (HoldsEither durable.now (left_by_all durable.now xs)) }
     ensures generations { EachMoment D.moment D.left_since banks.old.journal.disk banks.new.journal.disk
         (IsNoLaterThan (banks.old.generation + 1)) }
     ensures lengths { EachMoment D.moment D.left_since banks.old.journal.disk banks.new.journal.disk
         (IsAsLongAs (D.seen banks.old.journal.disk)) }
-    ensures kept { OnOk result ((xs : List Recorded) → IsRecordOf banks.old.version xs added.now → FollowInTurn durable.now xs
+    ensures kept { OnOk result ((xs : List Recorded) → ((version : ℕ) → IsRecordOf version xs added.now) → FollowInTurn durable.now xs
         → HaveKept D.seen banks.new (left_by_all durable.now xs)) }
     ensures ready { OnOk result (IsReady D.seen D.unsynced banks.new) }
     ensures full { IsErrOf result AddFault.Full ↔ ((banks.old.journal.end < banks.old.journal.gate + (length added.now.behind.items + 1))
@@ -50,9 +103,9 @@ pub(crate) fn add<D: Disk>(
     ensures generation { banks.new.generation ≤ banks.old.generation + 1 }
     ensures generation_stays { banks.old.generation ≤ banks.new.generation }
     ensures here { OnOk result (banks.old.journal.gate + (length added.now.behind.items + 1) ≤ banks.old.journal.end
-        → banks.new.generation ≡ banks.old.generation) }
+        → (banks.new.generation ≡ banks.old.generation) × (banks.new.version ≡ banks.old.version)) }
     ensures there { OnOk result (banks.old.journal.end < banks.old.journal.gate + (length added.now.behind.items + 1)
-        → banks.new.generation ≡ banks.old.generation + 1) }
+        → (banks.new.generation ≡ banks.old.generation + 1) × (banks.new.version ≡ NEWEST)) }
     ensures same_size { length (D.seen banks.new.journal.disk) ≡ length (D.seen banks.old.journal.disk) }
     ensures moments { D.moment banks.new.journal.disk ≤ D.moment banks.old.journal.disk + 10 }
     ensures faults { D.fault_count banks.new.journal.disk
@@ -60,17 +113,8 @@ pub(crate) fn add<D: Disk>(
 {
     // its gate, and what comes after it
     let needed = 1 + added.behind.len();
-    let fits_here = needed <= banks.room();
-    if !fits_here && !has_room(durable, banks.size(), needed) {
-        return Err(AddFault::Full);
-    }
-    if fits_here {
-        banks.append_record(added)?;
-        return Ok(());
-    }
-    switch(banks, next, durable)?;
-    banks.append_record(added)?;
-    Ok(())
+    let here = needed <= banks.room();
+    add_to(banks, next, durable, added, here)
 }
 
 // Begins the other bank with a snapshot of what is kept.
@@ -93,6 +137,7 @@ fn switch<D: Disk>(
     ensures ready { OnOk result (IsReady D.seen D.unsynced banks.new) }
     ensures gate { OnOk result (banks.new.journal.gate ≡ banks.new.at + BANK_HEADER + snapshot_length durable.now) }
     ensures generation { OnOk result (banks.new.generation ≡ banks.old.generation + 1) }
+    ensures version { OnOk result (banks.new.version ≡ NEWEST) }
     ensures same_generation { OnErr result (banks.new.generation ≡ banks.old.generation) }
     ensures unchanged_without_memory { IsErrOf result SwitchFault.Memory → banks.new ≡ banks.old }
     ensures same_size { length (D.seen banks.new.journal.disk) ≡ length (D.seen banks.old.journal.disk) }

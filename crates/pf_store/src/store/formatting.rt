@@ -1,9 +1,9 @@
 //! Making a device hold nothing.
 ghost use Rattle.std.specs.Prelude.{◌≡◌, ◌↔◌, ◌+◌, ◌^◌, ◌<◌, ◌≤◌, ◌≢◌, ℕ, List, length, replicate, slice_index, OnOk, IsErrOf, if◌then◌else◌};
 ghost use Rattle.pf_disk.specs.{Disk.{EachMoment, IsImage, IsSynced}, declared.image.TheConstants.OPEN_GATE};
-ghost use Rattle.pf_snap.specs.{Banks.{IsSize, bank_size, IsOfFormat}, Faults.is_format_fault};
+ghost use Rattle.pf_snap.specs.{Banks.{IsSize, bank_size, IsOfFormat}, Faults.is_format_fault, declared.header.TheConstants.NEWEST};
 ghost use Rattle.pf_core.specs.Durable.Changes.{kept_nothing};
-ghost use Rattle.pf_store.specs.{declared.limits.TheConstants.EMPTY_LENGTH, Openings.{generation_of, LeavesRoom}, Stores.Holds};
+ghost use Rattle.pf_store.specs.{declared.limits.TheConstants.EMPTY_LENGTH, Openings.{generation_of, version_of, LeavesRoom}, Stores.Holds};
 
 use crate::limits::EMPTY_LENGTH;
 use pf_disk::Disk;
@@ -19,9 +19,9 @@ pub fn format<D: Disk>(alloc: Global, disk: &mut D) -> Result<(), FormatFault>
     requires few { D.fault_count disk.old < 2 ^ 63 }
     ensures holds { OnOk result ((c : List ℕ) → IsImage (D.seen disk.new) (D.unsynced disk.new) c → Holds c (kept_nothing 0)) }
 
-    // By the first generation.
+    // By the first generation, in the newest version.
     ensures first { OnOk result ((c : List ℕ) → IsImage (D.seen disk.new) (D.unsynced disk.new) c
-        → (held : Holds c (kept_nothing 0)) → generation_of c (kept_nothing 0) held ≡ 1) }
+        → (held : Holds c (kept_nothing 0)) → (generation_of c (kept_nothing 0) held ≡ 1) × (version_of c (kept_nothing 0) held ≡ NEWEST)) }
 
     // What each image holds leaves room for an opening.
     ensures roomy { OnOk result ((c : List ℕ) → IsImage (D.seen disk.new) (D.unsynced disk.new) c → LeavesRoom c) }

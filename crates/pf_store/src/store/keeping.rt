@@ -6,19 +6,20 @@ ghost use Rattle.pf_snap.specs.{Banks.bank_size, Ready.IsReady};
 ghost use Rattle.pf_core.specs.{Durable.Changes.PlainDurable, Laws.Durable.IsWithin, Worlds.{last_epoch, raised}};
 ghost use Rattle.pf_store.specs.declared.store.fault.SaveFault.TheVariants as saving;
 ghost use Rattle.pf_store.specs.declared.store.fault.OpenFault.TheVariants as opening;
+ghost use Rattle.pf_snap.specs.declared.header.TheConstants.{NEWEST};
 ghost use Rattle.pf_store.specs.declared.limits.TheConstants.{AROUND, OPENING_RECORD};
 ghost use Rattle.pf_store.specs.declared.groups.change.Recorded.TheVariants as recorded;
-ghost use Rattle.pf_store.specs.{Groups.{can_be_wanted, is_group, made_all, IsRecordOf}, Lengths.payload_length, Stores.{FollowInTurn, left_by_all, Holds, HoldsEither, FindsRoom, HasRoom}, StoreKept.{Stands, HaveKept}, StoreFaults.{is_save_fault, TellsRoom, is_fault}, Openings.{HasRoomHere, IsUnopened, IsFull, IsOfOpening, IsAsLongAs, IsNoLaterThan, LeavesRoom, generation_of}};
+ghost use Rattle.pf_store.specs.{Groups.{allows_group, can_be_wanted, is_group, made_all, IsRecordOf}, Lengths.payload_length, Stores.{FollowInTurn, left_by_all, Holds, HoldsEither, FindsRoom, HasRoom}, StoreKept.{Stands, HaveKept}, StoreFaults.{is_save_fault, TellsRoom, is_fault}, Openings.{HasRoomHere, IsUnopened, IsFull, IsOfOpening, IsAsLongAs, IsNoLaterThan, LeavesRoom, generation_of, version_of}};
 
 use crate::groups::{AsChange, record_group, record_opening};
-use crate::store::adding::add;
+use crate::store::adding::{add, add_to};
 use crate::store::fault::{AddFault, OpenFault, SaveFault};
-use crate::store::lengths::find_room;
+use crate::store::lengths::{find_room, goes_here};
 use crate::store::replaying::replay;
 use pf_core::Durable;
 use pf_disk::Disk;
 use pf_journal::Record;
-use pf_snap::{Banks, NextBank};
+use pf_snap::{Banks, NEWEST, NextBank};
 use std::alloc::Global;
 use std::marker::Model;
 
@@ -61,9 +62,10 @@ impl<D: Disk> Store<D> {
     /// all of them or none.
     ///
     /// Unless it is halted, the store has to stand for `before`; each change has to fit what those before it leave, and `after` has to be
-    /// what all of them leave. If their record has no room in the bank that counts, the other one is begun first, with a snapshot of
-    /// `before`. `Full` comes exactly if they have no bytes as one group, if a bank has no room for their record after a snapshot of
-    /// `before`, or if a bank has fewer than 64 bytes left after a snapshot of `after`. So `Memory` comes only if they find room.
+    /// what all of them leave. If their record has no room in the bank that counts, or its version doesn't allow their rules, the other one
+    /// is begun first, in the newest version, with a snapshot of `before`. `Full` comes exactly if they have no bytes as one group, if a
+    /// bank has no room for their record after a snapshot of `before`, or if a bank has fewer than 64 bytes left after a snapshot of
+    /// `after`, in the lengths of the newest version. So `Memory` comes only if they find room.
     pub fn save<C: AsChange>(
         &mut self,
         alloc: Global,
@@ -102,11 +104,13 @@ impl<D: Disk> Store<D> {
         ensures generation { self.new.generation ≤ self.old.generation + 1 }
         ensures generation_stays { self.old.generation ≤ self.new.generation }
 
-        // It switches exactly if their record has no room in the bank that counts.
-        ensures here { OnOk result (payload_length (made_all (map C.as_plain changes.now)) + AROUND ≤ self.old.room
-            → self.new.generation ≡ self.old.generation) }
-        ensures there { OnOk result (self.old.room < payload_length (made_all (map C.as_plain changes.now)) + AROUND
-            → self.new.generation ≡ self.old.generation + 1) }
+        // It switches exactly if the version of the bank that counts doesn't allow their rules, or their record has no room there.
+        ensures here { OnOk result (allows_group self.old.version (made_all (map C.as_plain changes.now)) ≡ true
+            → payload_length (made_all (map C.as_plain changes.now)) + AROUND ≤ self.old.room
+            → (self.new.generation ≡ self.old.generation) × (self.new.version ≡ self.old.version)) }
+        ensures there { OnOk result ((allows_group self.old.version (made_all (map C.as_plain changes.now)) ≡ false)
+            ⊎ (self.old.room < payload_length (made_all (map C.as_plain changes.now)) + AROUND)
+            → (self.new.generation ≡ self.old.generation + 1) × (self.new.version ≡ NEWEST)) }
 
         ensures size { self.new.size ≡ self.old.size }
         ensures same_size { length (D.seen self.new.disk) ≡ length (D.seen self.old.disk) }
@@ -119,11 +123,13 @@ impl<D: Disk> Store<D> {
         if !self.has_room(before, changes, after) {
             return Err(SaveFault::Full);
         }
-        let record = match record_group(alloc, self.banks.version, changes) {
+        let here = goes_here(changes, self.banks.version, self.banks.room());
+        let version = version_for(here, self.banks.version);
+        let record = match record_group(alloc, version, changes) {
             Ok(record) => record,
             Err(_) => return Err(SaveFault::Memory),
         };
-        match add(&mut self.banks, &mut self.next, before, &record) {
+        match add_to(&mut self.banks, &mut self.next, before, &record, here) {
             Ok(()) => Ok(()),
             Err(AddFault::Memory) => Err(SaveFault::Memory),
             Err(AddFault::Full) => Err(SaveFault::Full),
@@ -147,11 +153,11 @@ impl<D: Disk> Store<D> {
         ensures images { IfOk result (λ r. (c : List ℕ) → IsImage (D.seen r.1.disk) (D.unsynced r.1.disk) c → Holds c r.0) }
         ensures fresh { IfOk result (λ r. r.1.halted ≡ false) }
 
-        // It switches to the other bank exactly if its record has no room after the others.
+        // It switches to the other bank, and so to the newest version, exactly if its record has no room after the others.
         ensures here { IfOk result (λ r. (d : PlainDurable) (held : Holds (D.seen disk) d) → HasRoomHere (D.seen disk) d held
-            → r.1.generation ≡ generation_of (D.seen disk) d held) }
+            → (r.1.generation ≡ generation_of (D.seen disk) d held) × (r.1.version ≡ version_of (D.seen disk) d held)) }
         ensures there { IfOk result (λ r. (d : PlainDurable) (held : Holds (D.seen disk) d) → ¬ HasRoomHere (D.seen disk) d held
-            → r.1.generation ≡ generation_of (D.seen disk) d held + 1) }
+            → (r.1.generation ≡ generation_of (D.seen disk) d held + 1) × (r.1.version ≡ NEWEST)) }
 
         // The generation is the one that was found, which is below 2^63, or the next one.
         ensures early { IfOk result (λ r. r.1.generation ≤ 2 ^ 63) }
@@ -223,9 +229,11 @@ fn raise_on<D: Disk>(
     ensures fresh { IfOk result (λ r. r.1.halted ≡ false) }
     ensures generation { IfOk result (λ r. r.1.generation ≤ banks.generation + 1) }
     ensures here { IfOk result (λ r. (d : PlainDurable) (held : Holds (D.seen banks.journal.disk) d)
-        → HasRoomHere (D.seen banks.journal.disk) d held → r.1.generation ≡ generation_of (D.seen banks.journal.disk) d held) }
+        → HasRoomHere (D.seen banks.journal.disk) d held → (r.1.generation ≡ generation_of (D.seen banks.journal.disk) d held)
+        × (r.1.version ≡ version_of (D.seen banks.journal.disk) d held)) }
     ensures there { IfOk result (λ r. (d : PlainDurable) (held : Holds (D.seen banks.journal.disk) d)
-        → ¬ HasRoomHere (D.seen banks.journal.disk) d held → r.1.generation ≡ generation_of (D.seen banks.journal.disk) d held + 1) }
+        → ¬ HasRoomHere (D.seen banks.journal.disk) d held → (r.1.generation ≡ generation_of (D.seen banks.journal.disk) d held + 1)
+        × (r.1.version ≡ NEWEST)) }
     ensures generations { IfOk result (λ r. (c : List ℕ) → IsImage (D.seen r.1.disk) (D.unsynced r.1.disk) c
         → IsNoLaterThan r.1.generation c) }
     ensures any_moment { IfOk result (λ r. EachMoment D.moment D.left_since banks.journal.disk r.1.disk
@@ -267,6 +275,13 @@ fn raise_on<D: Disk>(
         Err(AddFault::Full) => Err((OpenFault::Full, banks.into_disk())),
         Err(AddFault::Fault) => Err((OpenFault::Fault, banks.into_disk())),
     }
+}
+
+// The version that a record is written in: that of the bank that counts if it is added there, else the newest, in which the other is begun.
+fn version_for(here: bool, own: u8) -> u8
+    ensures { result ≡ if here then own else NEWEST }
+{
+    if here { own } else { NEWEST }
 }
 
 // What is kept in the next epoch, and the record of that opening.

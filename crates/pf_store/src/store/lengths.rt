@@ -1,10 +1,10 @@
 //! How many bytes a snapshot of what is kept would have, and a group's payload. It looks at items and steps, at no rule, entry or state,
 //! and takes no memory. Each `behind_` function takes the bytes of something off a room: `None` if there are too few.
-ghost use Rattle.std.specs.Prelude.{◌≡◌, ◌↔◌, ◌+◌, ◌<◌, ◌≤◌, map, IsTrue, MatchOption};
+ghost use Rattle.std.specs.Prelude.{◌≡◌, true, ◌↔◌, ◌+◌, ◌<◌, ◌≤◌, map, IsTrue, MatchOption};
 ghost use Rattle.pf_store.specs.declared.groups.change.Recorded.TheVariants as recorded;
-ghost use Rattle.pf_store.specs.{Groups.made_all, Lengths.{named_length, item_length, edit_length, step_length, total, snapshot_length, recorded_length, payload_length}, Stores.{FindsRoom}};
+ghost use Rattle.pf_store.specs.{Groups.{allows_group, made_all}, Lengths.{named_length, item_length, edit_length, step_length, total, snapshot_length, recorded_length, payload_length}, Stores.{FindsRoom}};
 
-use crate::groups::{AsChange, have_form};
+use crate::groups::{AsChange, changes_are_allowed_in, have_form};
 use crate::limits::{AROUND, ROOM_TO_OPEN};
 use pf_addr::path::{Path, TableName};
 use pf_anchor::{named_table_length, ruleset_length};
@@ -31,6 +31,19 @@ pub(crate) fn find_room<C: AsChange>(
                 Some(left) => AROUND <= left,
                 None => false,
             },
+            None => false,
+        }
+}
+
+/// Whether a record of these changes can be added to a bank of this version that has so many bytes left: the version allows their rules, and
+/// there is room.
+pub(crate) fn goes_here<C: AsChange>(changes: &[C], version: u8, room: usize) -> bool
+    ensures { IsTrue result ↔ ((allows_group version (made_all (map C.as_plain changes.now)) ≡ true)
+        × (payload_length (made_all (map C.as_plain changes.now)) + AROUND ≤ room)) }
+{
+    changes_are_allowed_in(changes, version)
+        && match behind_group(changes, room) {
+            Some(left) => AROUND <= left,
             None => false,
         }
 }

@@ -4,7 +4,7 @@ use Rattle.std.specs.{Prelude.{Result, OnOk}, List.list_all}
 use Rattle.pf_form.specs.{Bytes.Forms.{Fits, Value, list, onto, writes}, Laws.Bytes.Onto.onto_is}
 use Rattle.pf_store.specs.Groups.{ChangeShape, group_form, has_form, is_group, made_all, plain_record}
 use Rattle.pf_store.specs.declared.groups.change.Recorded.TheVariants.{Made as made}
-use Rattle.pf_store.proofs.RecordedForms.{as_made, formed_as, spelled}
+use Rattle.pf_store.proofs.{Allowing.allowed_as, RecordedForms.{as_made, formed_as, spelled}}
 use Rattle.pf_store.proofs.groups.group.push_group.Goals as goal
 
 -- from two facts about a result to a third
@@ -15,8 +15,8 @@ on_both (Err e) P Q R f p q = tt
 pub push_changes-requires : goal.push_changes-requires
 push_changes-requires g c =
     let cs = c.args.changes.now in
-    let both = and_parts (is_group cs) (list_all (λ x. has_form (made (g.C.AsChange.as_plain x))) cs) (formed_as g.C.AsChange.as_plain cs ∙ c.requires) in
-    record { many = both.0; formed = both.1 }
+    let both = and_parts (is_group cs) (list_all (λ x. has_form (made (g.C.AsChange.as_plain x))) cs) (formed_as g.C.AsChange.as_plain cs ∙ c.requires.formed) in
+    record { many = both.0; formed = both.1; allowed = allowed_as g.C.AsChange.as_plain c.args.version cs ∙ c.requires.allowed }
 
 -- what was pushed spells the group
 pub returns : goal.returns

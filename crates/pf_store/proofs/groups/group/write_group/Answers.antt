@@ -15,4 +15,4 @@ returns-clause-written g c =
 pub returns-clause-length : goal.returns-clause-length
 returns-clause-length g c =
     let pushed = c.in_ok-push_group.ensures in
-    ap length (alone g c) ∙ payload_long c.args.version (made_all (map g.C.AsChange.as_plain c.args.changes.now)) pushed.0 pushed.2.spelled
+    ap length (alone g c) ∙ payload_long c.args.version (made_all (map g.C.AsChange.as_plain c.args.changes.now)) pushed.0 pushed.2

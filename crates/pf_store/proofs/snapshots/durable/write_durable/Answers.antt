@@ -15,4 +15,4 @@ returns-clause-written c =
 pub returns-clause-length : goal.returns-clause-length
 returns-clause-length c =
     let it = c.in_ok-push_snapshot.ensures in
-    ap length (sym (alone _ _ _ c.in_ok-out.ensures.items it.behind)) ∙ snapshot_long c.args.version c.args.durable.now it.snapshot it.written.spelled
+    ap length (sym (alone _ _ _ c.in_ok-out.ensures.items it.behind)) ∙ snapshot_long c.args.version c.args.durable.now it.snapshot it.written

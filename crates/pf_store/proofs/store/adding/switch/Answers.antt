@@ -89,6 +89,13 @@ returns-clause-lengths g c =
     let b = c.args.banks.now in
     run_lengths d.seen d.unsynced d.moment d.left_since b.journal.disk c.begin.new.self.journal.disk (is_within b.other (BANK_HEADER + c.prepare.new.next.length + 1)) c.begin.ensures.elsewhere
 
+-- in the newest version
+pub returns-clause-version : goal.returns-clause-version
+returns-clause-version g c =
+    let k = c.requires.kept in
+    let next = c.in_ok-prepare.ensures.made in
+    (c.in_ok-begin.ensures.kept k.content next.snapshot k.keeps next.next).version
+
 pub returns-clause-kept : goal.returns-clause-kept
 returns-clause-kept g c =
     let d = g.D.Disk in

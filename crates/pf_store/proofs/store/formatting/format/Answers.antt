@@ -5,7 +5,7 @@ use Rattle.pf_snap.specs.{Banks.{Content, HoldsAt, bank_size, begun}, declared.h
 use Rattle.pf_snap.specs.Banks as snap
 use Rattle.pf_snap.proofs.Holding.{one_content}
 use Rattle.pf_store.specs.{Openings.LeavesRoom, Stores.{Holds, IsRoomy}}
-use Rattle.pf_store.proofs.{Durables.{zeros_are}, Refusing.{one_held}, Sized.{nothing_long, roomy_in}}
+use Rattle.pf_store.proofs.{Durables.{zeros_are}, Refusing.{one_held}, Sized.{nothing_long, roomy_own}}
 use Rattle.pf_store.proofs.store.formatting.format.Goals as goal
 
 mapped : {A E P Q : Type 0} (r : Result A E) → (P → Q) → OnOk r P → OnOk r Q
@@ -28,14 +28,15 @@ returns-clause-first g c =
     mapped c.format.result
     (λ all image is held.
     let there : snap.Holds image (begun NEWEST 1 (replicate 16 0)) = record { at = 0; other = half; holds = all image is } in
-    ap (λ (k : Content). k.generation) (one_content image held.content (begun NEWEST 1 (replicate 16 0)) held.bank there))
+    let same = one_content image held.content (begun NEWEST 1 (replicate 16 0)) held.bank there in
+    (ap (λ (k : Content). k.generation) same, ap (λ (k : Content). k.version) same))
     c.format.ensures.holds
 
 -- a bank of the least size has room after a snapshot of nothing
 leaves_room : (image : List ℕ) (other : ℕ) → HoldsAt 0 other image (begun NEWEST 1 (replicate 16 0)) → LeavesRoom image
 leaves_room image other bank = λ d has.
     let same : kept_nothing 0 ≡ d = one_held image (kept_nothing 0) d (holding image other bank) has in
-    roomy_in NEWEST has.content.version (bank_size (length image)) d
+    roomy_own has.content (bank_size (length image)) d has.makes
     (subst (λ (k : PlainDurable). IsRoomy (bank_size (length image)) k) same (omega (arith, bank.size.least, nothing_long 0)))
 
 pub returns-clause-roomy : goal.returns-clause-roomy

@@ -6,7 +6,7 @@ use Rattle.pf_core.specs.{Durable.Changes.PlainDurable, Worlds.raised}
 use Rattle.pf_store.specs.{Openings.{IsAsLongAs, IsNoLaterThan, IsUnopened}, Stores.{Holds, HoldsEither}}
 use Rattle.pf_store.specs.declared.groups.change.Recorded.TheVariants.{Opens as opens}
 use Rattle.pf_store.proofs.Refusing.{held_in_want}
-use Rattle.pf_store.proofs.Saving.{before, by_generation, have_held, is_full, no_later, no_room_here, room_here, stores, tells_full, unmoved, unmoved_generations, unmoved_lengths}
+use Rattle.pf_store.proofs.Saving.{before, by_generation, by_version, have_held, is_full, no_later, no_room_here, room_here, stores, tells_full, unmoved, unmoved_generations, unmoved_lengths}
 use Rattle.pf_store.proofs.store.keeping.raise_on.Goals as goal
 
 pub returns-in-Err-clause-any_moment_err : goal.returns-in-Err-clause-any_moment_err
@@ -20,14 +20,14 @@ returns-in-Err-clause-any_moment_err g c =
 
 pub add-requires-clause-made : goal.add-requires-clause-made
 add-requires-clause-made g c =
-    let is = c.in-Ok.ensures.made c.args.banks.version in
+    let is = c.in-Ok.ensures.made 1 in
     (is.payload, is.is)
 
 pub invariant_of-result : goal.invariant_of-result
 invariant_of-result g c going =
     let d = g.D.Disk in
     let k = c.args.durable.now in
-    let is = c.in-Ok.ensures.made c.args.banks.version in
+    let is = c.in-Ok.ensures.made in
     stores d.seen d.unsynced d.fault_count c.add.new.banks (raised k) c.in-Ok-add.ensures.ready (c.in-Ok-add.ensures.kept (opens (k.epoch + 1) ∷ []) is (refl, tt))
     (omega (arith, c.requires.few, c.in-Ok-add.ensures.faults))
 
@@ -44,7 +44,9 @@ returns-in-Ok-add-clause-here g c e held room =
     let twelve = c.in-Ok.ensures.long in
     let here = room_here d.seen d.unsynced d.fault_count b c.args.durable.now c.requires.ready c.requires.kept (length c.in-Ok.raised.1.behind.items + 1) twelve e held room in
     let by = by_generation d.seen d.unsynced d.fault_count b c.args.durable.now c.requires.ready c.requires.kept (length c.in-Ok.raised.1.behind.items + 1) twelve e held in
-    c.in-Ok-add.ensures.here here ∙ sym by
+    let version = by_version d.seen d.unsynced d.fault_count b c.args.durable.now c.requires.ready c.requires.kept (length c.in-Ok.raised.1.behind.items + 1) twelve e held in
+    let both = c.in-Ok-add.ensures.here here in
+    (both.0 ∙ sym by, both.1 ∙ sym version)
 
 pub returns-in-Ok-add-clause-there : goal.returns-in-Ok-add-clause-there
 returns-in-Ok-add-clause-there g c e held full =
@@ -53,14 +55,15 @@ returns-in-Ok-add-clause-there g c e held full =
     let twelve = c.in-Ok.ensures.long in
     let there = no_room_here d.seen d.unsynced d.fault_count b c.args.durable.now c.requires.ready c.requires.kept (length c.in-Ok.raised.1.behind.items + 1) twelve e held full in
     let by = by_generation d.seen d.unsynced d.fault_count b c.args.durable.now c.requires.ready c.requires.kept (length c.in-Ok.raised.1.behind.items + 1) twelve e held in
-    c.in-Ok-add.ensures.there there ∙ ap (λ (n : ℕ). n + 1) (sym by)
+    let both = c.in-Ok-add.ensures.there there in
+    (both.0 ∙ ap (λ (n : ℕ). n + 1) (sym by), both.1)
 
 pub returns-in-Ok-add-clause-stands : goal.returns-in-Ok-add-clause-stands
 returns-in-Ok-add-clause-stands g c =
     let d = g.D.Disk in
     let k = c.args.durable.now in
     let disk = c.add.new.banks.journal.disk in
-    let is = c.in-Ok.ensures.made c.args.banks.version in
+    let is = c.in-Ok.ensures.made in
     let holds = have_held d.seen d.unsynced d.fault_count c.add.new.banks (raised k) (c.in-Ok-add.ensures.kept (opens (k.epoch + 1) ∷ []) is (refl, tt)) in
     record { holds = subst (λ (x : PlainDurable). Holds (d.seen disk) x) (sym c.in-Ok.ensures.raised) holds; synced = c.in-Ok-add.ensures.ready.journal.synced }
 
@@ -89,7 +92,7 @@ returns-in-Ok-add-clause-generations g c image is_image =
     let d = g.D.Disk in
     let k = c.args.durable.now in
     let new = c.add.new.banks in
-    let is = c.in-Ok.ensures.made c.args.banks.version in
+    let is = c.in-Ok.ensures.made in
     let kept = c.in-Ok-add.ensures.kept (opens (k.epoch + 1) ∷ []) is (refl, tt) in
     let same = only_read (d.seen new.journal.disk) (d.unsynced new.journal.disk) image c.in-Ok-add.ensures.ready.journal.synced is_image in
     no_later new.generation kept.content (omega (arith, kept.keeps.generation)) image
@@ -107,7 +110,7 @@ returns-clause-refused g c = c.requires.kept.keeps.holds.size
 pub returns-in-Ok-add-clause-any_moment : goal.returns-in-Ok-add-clause-any_moment
 returns-in-Ok-add-clause-any_moment g c =
     let k = c.args.durable.now in
-    let is = c.in-Ok.ensures.made c.args.banks.version in
+    let is = c.in-Ok.ensures.made in
     c.add.ensures.any_moment (opens (k.epoch + 1) ∷ []) is (refl, tt)
 
 pub returns-in-Err-Memory-clause-any_moment_err : goal.returns-in-Err-Memory-clause-any_moment_err
@@ -115,7 +118,7 @@ returns-in-Err-Memory-clause-any_moment_err g c =
     let d = g.D.Disk in
     let b = c.args.banks in
     let k = c.args.durable.now in
-    let is = c.in-Ok.ensures.made b.version in
+    let is = c.in-Ok.ensures.made in
     subst (λ e. EachMoment d.moment d.left_since b.journal.disk e (HoldsEither k (raised k))) (sym c.into_disk-in-Err-Memory.ensures)
     (c.add.ensures.any_moment (opens (k.epoch + 1) ∷ []) is (refl, tt))
 
@@ -124,7 +127,7 @@ returns-in-Err-Full-clause-any_moment_err g c =
     let d = g.D.Disk in
     let b = c.args.banks in
     let k = c.args.durable.now in
-    let is = c.in-Ok.ensures.made b.version in
+    let is = c.in-Ok.ensures.made in
     subst (λ e. EachMoment d.moment d.left_since b.journal.disk e (HoldsEither k (raised k))) (sym c.into_disk-in-Err-Full.ensures)
     (c.add.ensures.any_moment (opens (k.epoch + 1) ∷ []) is (refl, tt))
 
@@ -133,7 +136,7 @@ returns-clause-any_moment_err g c =
     let d = g.D.Disk in
     let b = c.args.banks in
     let k = c.args.durable.now in
-    let is = c.in-Ok.ensures.made b.version in
+    let is = c.in-Ok.ensures.made in
     subst (λ e. EachMoment d.moment d.left_since b.journal.disk e (HoldsEither k (raised k))) (sym c.into_disk-in-Err-Fault.ensures)
     (c.add.ensures.any_moment (opens (k.epoch + 1) ∷ []) is (refl, tt))
 

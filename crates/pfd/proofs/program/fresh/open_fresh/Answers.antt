@@ -23,4 +23,4 @@ returns-in-Err-clause-hindered g c =
     let nothing = c.in_ok-format.ensures.holds seen own in
     let is : IsSize size = subst IsSize c.size.ensures (c.if-not-is_size.ensures.0 refl) in
     subst (λ (f : Fault). Hinders size f) (sym c.from.ensures)
-    (unopened-hinders seen size is c.format.ensures.same_size nothing (c.in_ok-format.ensures.first seen own nothing) c.in-Err.fault c.in-Err.ensures.refused)
+    (unopened-hinders seen size is c.format.ensures.same_size nothing (c.in_ok-format.ensures.first seen own nothing).0 c.in-Err.fault c.in-Err.ensures.refused)

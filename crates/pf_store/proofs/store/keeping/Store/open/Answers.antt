@@ -1,8 +1,8 @@
 use Rattle.std.proofs.Common.{◌≡◌, ◌≤◌, ◌+◌, ℕ, true, List, length, sym, ap, subst, arith}
-use Rattle.pf_snap.specs.{Looked.content_of}
+use Rattle.pf_snap.specs.{Looked.content_of, declared.header.TheConstants.NEWEST}
 use Rattle.pf_snap.specs.Banks as snap
 use Rattle.pf_core.specs.Durable.Changes.{PlainDurable}
-use Rattle.pf_store.specs.{Openings.{HasRoomHere, IsFull, generation_of}, Stores.Holds}
+use Rattle.pf_store.specs.{Openings.{HasRoomHere, IsFull, generation_of, version_of}, Stores.Holds}
 use Rattle.pf_store.proofs.{WithinLimits.made_within, Refusing.unopened, Saving.{on_ok, on_both, on_three, on_three_err, opened, standing}}
 use Rattle.pf_store.proofs.store.keeping.Store.open.Goals as goal
 
@@ -35,13 +35,13 @@ returns-in-Ok-replay-clause-room g c =
 pub returns-in-Ok-replay-clause-here : goal.returns-in-Ok-replay-clause-here
 returns-in-Ok-replay-clause-here g c =
     on_ok c.raise_on.result _ _
-    (λ r here. subst (λ (x : List ℕ). (e : PlainDurable) (held : Holds x e) → HasRoomHere x e held → r.1.generation ≡ generation_of x e held) c.in-Ok.ensures.seen here)
+    (λ r here. subst (λ (x : List ℕ). (e : PlainDurable) (held : Holds x e) → HasRoomHere x e held → (r.1.generation ≡ generation_of x e held) × (r.1.version ≡ version_of x e held)) c.in-Ok.ensures.seen here)
     c.raise_on.ensures.here
 
 pub returns-in-Ok-replay-clause-there : goal.returns-in-Ok-replay-clause-there
 returns-in-Ok-replay-clause-there g c =
     on_ok c.raise_on.result _ _
-    (λ r there. subst (λ (x : List ℕ). (e : PlainDurable) (held : Holds x e) → ¬ HasRoomHere x e held → r.1.generation ≡ generation_of x e held + 1) c.in-Ok.ensures.seen there)
+    (λ r there. subst (λ (x : List ℕ). (e : PlainDurable) (held : Holds x e) → ¬ HasRoomHere x e held → (r.1.generation ≡ generation_of x e held + 1) × (r.1.version ≡ NEWEST)) c.in-Ok.ensures.seen there)
     c.raise_on.ensures.there
 
 pub returns-in-Ok-replay-clause-any_moment : goal.returns-in-Ok-replay-clause-any_moment

@@ -1,0 +1,218 @@
+-- Which versions allow what is held: what the bytes of a version say, that version allows.
+use Rattle.std.proofs.{Common.{◌≡◌, ◌&&◌, ◌||◌, ◌==◌, ℕ, ◌<◌, ◌≤◌, Bool, true, false, List, [], ◌∷◌, map, cond, Option, Some, None, refl, sym, ap, ◌∙◌, subst, inl, inr, arith}, lemmas.Bool.and_parts, lemmas.List.Elements.{All-head, All-tail}}
+use Rattle.std.specs.{Prelude.{All, fold, is_none, ◌⊎◌, if◌then◌else◌}, FinMap.Entries.{by_order, put, where_key}, List.{list_all, AllByRecursion}, Ordering.eq_by_cmp}
+use Rattle.std.specs.declared.cmp.{Ordering.Ordering, Ordering.TheVariants.{Less, Equal, Greater}}
+use Rattle.pf_form.specs.Bytes.Forms.{Value, Fits}
+use Rattle.pf_map.specs.{ListMaps.with_list, Maps.without}
+use Rattle.pf_addr.specs.Path.Paths.{path_order}
+use Rattle.pf_rule.specs.{Rules.{PlainRule, IsRule}, Sum.{Layouts.{EndingShape, RuleShape, label_form, named, rule_layout, plain_rule, has_labels, allows}, Reading.{label_of, rule_of}}}
+use Rattle.pf_rule.proofs.RuleBytes.{fits_allowed}
+use Rattle.pf_anchor.specs.{Forms.{RulesShape, rule_list_form, rules_form, rulesets_form, plain_ruled, ruled_in, allows_rules, allows_ruleset}, Rulesets.{PlainPlaced, with_rules}}
+use Rattle.pf_core.specs.Durable.{Changes.{PlainDurable, PlainChange, commits, adds, deletes, sets, acts, removes, rulesets_in}, Forms.{durable_form, plain_durable, durable_in}}
+use Rattle.pf_core.specs.Durable.Forms.{allows as allows_durable}
+use Rattle.pf_core.specs.declared.durable.change.Item.{Item}
+use Rattle.pf_core.specs.declared.durable.change.Item.TheVariants as item
+use Rattle.pf_snap.specs.{Banks.Content, declared.header.TheConstants.NEWEST}
+use Rattle.pf_store.specs.declared.groups.change.Recorded.{Recorded, TheVariants.Made as made}
+use Rattle.pf_store.specs.{Durables.IsDurable, Groups.{ChangeShape, ItemShape, change_form, group_form, item_form, item_in, items_form, plain_record, record_in, allows_item, allows_record, allows_group, made_all, IsRecorded}, Stores.{left_by, left_by_all, Leads, Makes}}
+
+-- ---- a rule
+
+-- without labels there is none
+ending_allowed : (labels anchors : Bool) (x : Value EndingShape) → Fits (named labels anchors) x → (labels || is_none (label_of x.1)) ≡ true
+unfolding named label_form
+ending_allowed true anchors x fits = refl
+ending_allowed false true x fits = ap (λ l. is_none (label_of l)) fits.1
+ending_allowed false false x fits = ap (λ l. is_none (label_of l)) fits.1
+
+pub rule_allowed : (version : ℕ) (v : Value RuleShape) → Fits (rule_layout version) v → allows version (rule_of v) ≡ true
+unfolding rule_layout rule_of
+rule_allowed version v fits = ending_allowed (has_labels version) (v.0 == 2) v.1.1.1.1.1.1.1.1.1 fits.1.1.1.1.1.1.1.1.1
+
+rules_allowed : (version : ℕ) (vs : List (Value RuleShape)) → AllByRecursion (Fits (rule_layout version)) vs → allows_rules version (map rule_of vs) ≡ true
+rules_allowed version [] each = refl
+rules_allowed version (v ∷ vs) each = rw (rule_allowed version v each.0) (rules_allowed version vs each.1)
+
+pub ruleset_allowed : (version : ℕ) (v : Value RulesShape) → Fits (rules_form version) v → allows_ruleset version (ruled_in v) ≡ true
+unfolding rules_form rule_list_form
+ruleset_allowed version v fits = rules_allowed version v.1 fits.1.0.1
+
+rulesets_allowed : (version : ℕ) (vs : List (Value RulesShape)) → AllByRecursion (Fits (rules_form version)) vs → list_all (allows_ruleset version) (map ruled_in vs) ≡ true
+rulesets_allowed version [] each = refl
+rulesets_allowed version (v ∷ vs) each = rw (ruleset_allowed version v each.0) (rulesets_allowed version vs each.1)
+
+-- the same of rules as they are kept
+kept : (version : ℕ) (rs : List PlainRule) → All IsRule rs → AllByRecursion (Fits (rule_layout version)) (map plain_rule rs) → allows_rules version rs ≡ true
+kept version [] are each = refl
+kept version (r ∷ rs) are each = rw (fits_allowed version r (All-head IsRule r rs are) each.0) (kept version rs (All-tail IsRule r rs are) each.1)
+
+pub kept_allowed : (version : ℕ) (r : PlainPlaced) → All IsRule r.1 → Fits (rules_form version) (plain_ruled r) → allows_rules version r.1 ≡ true
+unfolding rules_form rule_list_form
+kept_allowed version r are fits = kept version r.1 are fits.1.0.1
+
+-- versions that have labels allow all
+rules_all : (version : ℕ) (rs : List PlainRule) → has_labels version ≡ true → allows_rules version rs ≡ true
+rules_all version [] new = refl
+rules_all version (r ∷ rs) new = rw (new, rules_all version rs new) refl
+
+rulesets_all : (version : ℕ) (rs : List PlainPlaced) → has_labels version ≡ true → list_all (allows_ruleset version) rs ≡ true
+rulesets_all version [] new = refl
+rulesets_all version (r ∷ rs) new = rw (rules_all version r.1 new, rulesets_all version rs new) refl
+
+items_all : (version : ℕ) (items : List Item) → has_labels version ≡ true → list_all (allows_item version) items ≡ true
+items_all version [] new = refl
+items_all version (item.Rules r ∷ items) new = rw (rules_all version r.1 new, items_all version items new) refl
+items_all version (item.Tables p named ∷ items) new = items_all version items new
+
+pub newest_allows : (d : PlainDurable) → allows_durable NEWEST d ≡ true
+newest_allows d = rulesets_all NEWEST d.config.rulesets refl
+
+made_in_newest : (es : List PlainChange) → allows_group NEWEST (made_all es) ≡ true
+made_in_newest [] = refl
+made_in_newest (commits items ∷ es) = rw (items_all NEWEST items refl, made_in_newest es) refl
+made_in_newest (adds p name xs ∷ es) = made_in_newest es
+made_in_newest (deletes p name xs ∷ es) = made_in_newest es
+made_in_newest (sets p name xs ∷ es) = made_in_newest es
+made_in_newest (acts steps ∷ es) = made_in_newest es
+made_in_newest (removes name ∷ es) = made_in_newest es
+
+-- changes, each as it was handed in
+pub allowed_as : {C : Type 0} (as_plain : C → PlainChange) (version : ℕ) (cs : List C)
+    → list_all (λ c. allows_record version (made (as_plain c))) cs ≡ allows_group version (made_all (map as_plain cs))
+allowed_as as_plain version [] = refl
+allowed_as as_plain version (c ∷ cs) = ap (λ b. allows_record version (made (as_plain c)) && b) (allowed_as as_plain version cs)
+
+pub newest_allows_group : (es : List PlainChange) → allows_group NEWEST (made_all es) ≡ true
+newest_allows_group = made_in_newest
+
+-- where they are added: to the bank that counts only if its version allows them, and otherwise to the other one, in the newest version
+pub allowed_there : (here : Bool) (own : ℕ) (es : List PlainChange) → (here ≡ true → allows_group own (made_all es) ≡ true)
+    → allows_group (if here then own else NEWEST) (made_all es) ≡ true
+allowed_there true own es is = is refl
+allowed_there false own es is = newest_allows_group es
+
+-- they aren't added to the bank that counts if its version doesn't allow them, or if it has no room
+pub elsewhere : (here allowed : Bool) (needed room : ℕ) → (here ≡ true → (allowed ≡ true) × (needed ≤ room)) → (allowed ≡ false) ⊎ (room < needed) → here ≡ false
+elsewhere false allowed needed room is why = refl
+elsewhere true allowed needed room is why = by (is refl) why where
+  by : (allowed ≡ true) × (needed ≤ room) → (allowed ≡ false) ⊎ (room < needed) → true ≡ false
+  by both (inl refused) = sym both.0 ∙ refused
+  by both (inr less) = absurd (omega (arith, less, both.1))
+
+-- ---- a snapshot
+
+pub durable_allowed : (version : ℕ) (d : PlainDurable) (bytes : List ℕ) → IsDurable version d bytes → allows_durable version d ≡ true
+unfolding durable_form rulesets_form
+durable_allowed version d bytes is =
+    subst (λ (e : PlainDurable). allows_durable version e ≡ true) (sym is.told) (rulesets_allowed version (plain_durable d).1.0 is.spelled.fits.1.0.0.0.1)
+
+pub snapshot_allowed : (version : ℕ) (d : PlainDurable) → durable_in (plain_durable d) ≡ d → Fits (durable_form version) (plain_durable d) → allows_durable version d ≡ true
+unfolding durable_form rulesets_form
+snapshot_allowed version d told fits = subst (λ (e : PlainDurable). allows_durable version e ≡ true) told (rulesets_allowed version (plain_durable d).1.0 fits.1.0.0.0.1)
+
+-- ---- what is recorded
+
+pub item_allowed : (version : ℕ) (v : Value ItemShape) → Fits (item_form version) v → allows_item version (item_in v) ≡ true
+unfolding item_form
+item_allowed version (inl v) fits = ruleset_allowed version v fits
+item_allowed version (inr v) fits = refl
+
+items_allowed : (version : ℕ) (vs : List (Value ItemShape)) → AllByRecursion (Fits (item_form version)) vs → list_all (allows_item version) (map item_in vs) ≡ true
+items_allowed version [] each = refl
+items_allowed version (v ∷ vs) each = rw (item_allowed version v each.0) (items_allowed version vs each.1)
+
+record_allowed : (version : ℕ) (v : Value ChangeShape) → Fits (change_form version) v → allows_record version (record_in v) ≡ true
+unfolding change_form items_form
+record_allowed version (inl vs) fits = items_allowed version vs fits.0.1
+record_allowed version (inr (inl v)) fits = refl
+record_allowed version (inr (inr (inl v))) fits = refl
+record_allowed version (inr (inr (inr (inl v)))) fits = refl
+record_allowed version (inr (inr (inr (inr (inl steps))))) fits = refl
+record_allowed version (inr (inr (inr (inr (inr (inl name)))))) fits = refl
+record_allowed version (inr (inr (inr (inr (inr (inr epoch)))))) fits = refl
+
+pub allowed : (version : ℕ) (r : Recorded) → record_in (plain_record r) ≡ r → Fits (change_form version) (plain_record r) → allows_record version r ≡ true
+allowed version r told fits = subst (λ x. allows_record version x ≡ true) told (record_allowed version (plain_record r) fits)
+
+each_allowed : (version : ℕ) (vs : List (Value ChangeShape)) → AllByRecursion (Fits (change_form version)) vs → allows_group version (map record_in vs) ≡ true
+each_allowed version [] each = refl
+each_allowed version (v ∷ vs) each = rw (record_allowed version v each.0) (each_allowed version vs each.1)
+
+pub group_allowed : (version : ℕ) (rs : List Recorded) → map record_in (map plain_record rs) ≡ rs → Fits (group_form version) (map plain_record rs) → allows_group version rs ≡ true
+unfolding group_form
+group_allowed version rs told fits = subst (λ xs. allows_group version xs ≡ true) told (each_allowed version (map plain_record rs) fits.0.1)
+
+pub recorded_allowed : (version : ℕ) (rs : List Recorded) (payload : List ℕ) → IsRecorded version rs payload → allows_group version rs ≡ true
+recorded_allowed version rs payload is = group_allowed version rs (sym is.told) is.spelled.fits
+
+-- ---- what changes leave
+
+module _ {K X : Type 0} (R : K → K → Ordering) (Q : X → Bool) where
+  filtered : (p : K → Bool) (es : List (K × X)) → list_all (λ e. Q e.1) es ≡ true → list_all (λ e. Q e.1) (where_key R p es) ≡ true
+  filtered p [] all = refl
+  filtered p (e ∷ es) all =
+      let both = and_parts (Q e.1) (list_all (λ e. Q e.1) es) all in
+      let rest = filtered p es both.1 in
+      elim (p e.0) as (λ b. list_all (λ e. Q e.1) (cond b (e ∷ where_key R p es) (where_key R p es)) ≡ true) [ true ↦ rw (both.0) rest | false ↦ rest ]
+
+  with_one : (k : K) (v : X) → Q v ≡ true → (es : List (K × X)) → list_all (λ e. Q e.1) es ≡ true → list_all (λ e. Q e.1) (put R k v es) ≡ true
+  with_one k v new [] all = rw new refl
+  with_one k v new (e ∷ es) all =
+      let both = and_parts (Q e.1) (list_all (λ e. Q e.1) es) all in
+      let rest = with_one k v new es both.1 in
+      elim (R k e.0) as (λ o. list_all (λ e. Q e.1) (by_order o ((k, v) ∷ e ∷ es) ((e.0, v) ∷ es) (e ∷ put R k v es)) ≡ true) [
+        | Less ↦ rw (new, both.0) (both.1)
+        | Equal ↦ rw new (both.1)
+        | Greater ↦ rw (both.0) rest
+      ]
+
+-- a ruleset that is put in place of another
+placed_allowed : (version : ℕ) (es : List PlainPlaced) (e : PlainPlaced) → list_all (allows_ruleset version) es ≡ true → allows_ruleset version e ≡ true
+    → list_all (allows_ruleset version) (with_rules es e) ≡ true
+placed_allowed version es e all is = by e.1 is where
+  others : list_all (allows_ruleset version) (without path_order es e.0) ≡ true
+  others = filtered path_order (allows_rules version) _ es all
+
+  by : (rs : List PlainRule) → allows_rules version rs ≡ true → list_all (allows_ruleset version) (with_list path_order es (e.0, rs)) ≡ true
+  by [] is = others
+  by (r ∷ rs) is = with_one path_order (allows_rules version) e.0 (r ∷ rs) is _ others
+
+rulesets_in_turn : (version : ℕ) (items es : List PlainPlaced) → list_all (allows_ruleset version) items ≡ true → list_all (allows_ruleset version) es ≡ true
+    → list_all (allows_ruleset version) (fold with_rules es items) ≡ true
+rulesets_in_turn version [] es new all = all
+rulesets_in_turn version (e ∷ items) es new all =
+    let both = and_parts (allows_ruleset version e) (list_all (allows_ruleset version) items) new in
+    rulesets_in_turn version items (with_rules es e) both.1 (placed_allowed version es e all both.0)
+
+among : (version : ℕ) (items : List Item) → list_all (allows_item version) items ≡ true → list_all (allows_ruleset version) (rulesets_in items) ≡ true
+among version [] all = refl
+among version (item.Rules r ∷ items) all = let both = and_parts (allows_ruleset version r) (list_all (allows_item version) items) all in rw (both.0) (among version items both.1)
+among version (item.Tables p named ∷ items) all = among version items all
+
+left_allowed : (version : ℕ) (d : PlainDurable) (v : Value ChangeShape) → Fits (change_form version) v → allows_durable version d ≡ true → allows_durable version (left_by d (record_in v)) ≡ true
+unfolding change_form items_form
+left_allowed version d (inl vs) fits all = rulesets_in_turn version (rulesets_in (map item_in vs)) d.config.rulesets (among version (map item_in vs) (items_allowed version vs fits.0.1)) all
+left_allowed version d (inr (inl v)) fits all = all
+left_allowed version d (inr (inr (inl v))) fits all = all
+left_allowed version d (inr (inr (inr (inl v)))) fits all = all
+left_allowed version d (inr (inr (inr (inr (inl steps))))) fits all = all
+left_allowed version d (inr (inr (inr (inr (inr (inl name)))))) fits all = all
+left_allowed version d (inr (inr (inr (inr (inr (inr epoch)))))) fits all = all
+
+in_turn_allowed : (version : ℕ) (d : PlainDurable) (vs : List (Value ChangeShape)) → AllByRecursion (Fits (change_form version)) vs → allows_durable version d ≡ true
+    → allows_durable version (left_by_all d (map record_in vs)) ≡ true
+in_turn_allowed version d [] each all = all
+in_turn_allowed version d (v ∷ vs) each all = in_turn_allowed version (left_by d (record_in v)) vs each.1 (left_allowed version d v each.0 all)
+
+led_allowed : (version : ℕ) (d : PlainDurable) (ps : List (List ℕ)) (e : PlainDurable) → Leads version d ps e → allows_durable version d ≡ true → allows_durable version e ≡ true
+unfolding group_form
+led_allowed version d [] e led all = subst (λ (k : PlainDurable). allows_durable version k ≡ true) led all
+led_allowed version d (p ∷ ps) e led all =
+    led_allowed version (left_by_all d led.0) ps e led.3
+    (subst (λ (xs : List Recorded). allows_durable version (left_by_all d xs) ≡ true) (sym led.1.told)
+    (in_turn_allowed version d (map plain_record led.0) led.1.spelled.fits.0.1 all))
+
+-- what a bank holds, its version allows
+pub made_allowed : (content : Content) (d : PlainDurable) → Makes content d → allows_durable content.version d ≡ true
+made_allowed content d makes =
+    led_allowed content.version makes.first content.payloads d makes.leads (durable_allowed content.version makes.first content.snapshot makes.kept)
