@@ -11,7 +11,7 @@ use Rattle.pf_store.specs.Stores.{Holds, HoldsEither}
 use Rattle.pf_disk.specs.Disk.{EachMoment, IsImage}
 use Rattle.pf_disk.proofs.Moments.{started, weakened}
 use Rattle.pf_book.proofs.{HistoryGroups.halted-is, Steps.never-fault}
-use Rattle.pf_book.specs.Books.{PlainBook, world_book, world_book_of, StaysUnlessKept, judging, log_in, HasRoom, HoldsFront, HoldsLeft, IsMore, IsKept, IsPending, IsUnkept, IsMade, IsTold, is_fault_reply, shows_all}
+use Rattle.pf_book.specs.Books.{BookParts, PlainBook, world_book, world_book_of, StaysUnlessKept, judging, log_in, HasRoom, HoldsFront, HoldsLeft, IsMore, IsKept, IsPending, IsUnkept, IsMade, IsTold, is_fault_reply, shows_all}
 
 -- a world book with another core
 abbrev pub with_core : WorldBook → PlainCore → WorldBook
@@ -30,10 +30,10 @@ pub unchanging : (b : WorldBook) (c : Command) → may_change c ≡ false → Is
 unchanging b c is = ap (λ (m : Bool). m && is_halted b.pending) is
 
 -- it is free too if no change comes after those that were acknowledged
-pub none-behind : (base : PlainDurable) (whole : PlainCore) (log : List PlainChange) (sizes : List ℕ) (acked : ℕ) (setting : Setting) (shown : List PlainChange) (c : Command) → acked ≤ length log → length log ≤ acked → IsFree (world_book_of base whole log sizes acked setting shown) c
-none-behind base whole log sizes acked setting shown c low high =
-    let all : nat_lt acked (length log) ≡ false = grind (arith, nat_tests, high) in
-    ap (λ (x : Bool). may_change c && x) (halted-is log acked low ∙ all) ∙ and-false (may_change c)
+pub none-behind : {D : Type 0} (p : BookParts D) (c : Command) → p.acked ≤ length p.log → length p.log ≤ p.acked → IsFree (world_book_of p) c
+none-behind p c low high =
+    let all : nat_lt p.acked (length p.log) ≡ false = grind (arith, nat_tests, high) in
+    ap (λ (x : Bool). may_change c && x) (halted-is p.log p.acked low ∙ all) ∙ and-false (may_change c)
 
 -- what the core keeps is the world's
 pub durable-is : (h : CurrentOpening) (b : WorldBook) → IsAt h b → IsFolded b → b.whole.durable ≡ durable_of h

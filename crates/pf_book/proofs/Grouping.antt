@@ -4,14 +4,14 @@ use Rattle.std.specs.Prelude.{IfErr, IfOk, Vec, flat_map, fold, map, nat_lt, not
 use Rattle.std.specs.declared.alloc.Global.{Global}
 use Rattle.pf_core.specs.Refusing.{and_then, unless, refused_at, AreBothPassed, both_passed, not_refused}
 use Rattle.pf_ticket.specs.{Tickets.PlainTickets, Mentions.{after as moved_by, switches}}
-use Rattle.pf_core.specs.declared.{command.Command.Command, reply.Refusal.Refusal, reply.Refusal.TheVariants.{Halted, BadCount, NotGrouped, HistoryFull, Full, Fault, Memory}, reply.Reply.Reply, reply.Reply.TheVariants.{Answer as Answered, Applied, Stored, Refused}, step.Step.Step, step.Step.TheVariants.{Done, Wants, OfHistory}}
-use Rattle.pf_core.specs.{Commands.{bad_number, group_words, may_be_grouped}, Durable.Changes.{PlainDurable, PlainChange, after, voided_by}, WorldBooks.{WorldBook, IsFolded, IsAt, LeadsGroup}, Cores.PlainCore, Worlds.{Setting, CurrentOpening, down, grouping, Upshot, upshot, flat, log_of, durable_of, is_halted, is_fault, step_in, reply_to, changes_of, room_for, grouped, amid, changes_with, changes_due, replies_due, group_start, group_check, replies_unless, due_group, group_all, kept_groups, shown_by, as_stored, GroupStandsIn, LegalReplies}}
+use Rattle.pf_core.specs.declared.{command.Command.Command, reply.Refusal.Refusal, reply.Refusal.TheVariants.{Halted, BadCount, NotGrouped, HistoryFull, Full, Fault, Memory}, reply.Reply.Reply, step.Step.Step, step.Step.TheVariants.{Done, Wants, OfHistory}}
+use Rattle.pf_core.specs.{Commands.{bad_number, group_words, may_be_grouped}, Durable.Changes.{PlainDurable, PlainChange, after, voided_by}, WorldBooks.{WorldBook, IsFolded, IsAt, LeadsGroup}, Cores.PlainCore, Worlds.{Setting, CurrentOpening, down, grouping, Upshot, upshot, flat, log_of, is_halted, is_fault, step_in, reply_to, changes_of, room_for, grouped, amid, changes_with, changes_due, replies_due, group_start, group_check, replies_unless, due_group, group_all, kept_groups, shown_by, as_stored, GroupStandsIn, LegalReplies}}
 use Rattle.pf_core.proofs.{Courses.{durable-amid, length-with, log-amid, IsOfGroup, told, wanted, refused, step-amid, MayBeGrouped, IsTaken, taken-group, told_as, IsAccepted, accepted}, GroupLeads.{IsShownSo, shown-due, shown-stored, refused-group-leads, fault-group-leads, kept-group-leads}, Groups.rooms-found}
 use Rattle.pf_store.specs.Stores.{Holds, HoldsEither}
 use Rattle.pf_disk.specs.Disk.{EachMoment, IsImage}
 use Rattle.pf_disk.proofs.Moments.{weakened}
-use Rattle.pf_book.specs.{Books.{PlainBook, world_book, HasRoom, HoldsFront, HoldsLeft, IsMore, IsPending, IsUnkept, AreMade, AreNumbered, Stays, StaysUnlessAnyKept, is_fault_result, replied, shows_all}, Courses.IsCalm}
-use Rattle.pf_book.proofs.{Calling.{durable-is, log-acked, front-left, still-left, own}, HistoryGroups.{grouped-some, flat-grouped}}
+use Rattle.pf_book.specs.{Books.{PlainBook, world_book, HasRoom, HoldsFront, HoldsLeft, IsMore, IsPending, AreMade, AreNumbered, StaysUnlessAnyKept, is_fault_result, replied, shows_all}, Courses.IsCalm}
+use Rattle.pf_book.proofs.{Calling.{durable-is, log-acked, front-left, still-left, own}, HistoryGroups.{grouped-some}}
 
 -- ---- a calm opening
 
@@ -320,13 +320,12 @@ module _ {D : Type 0} (seen : D → List ℕ) (unsynced : D → ℕ → Bool) (m
 
 -- ---- by what the commands came to
 
-module _ (h : CurrentOpening) (b b' : WorldBook) (commands : List Command) (at : IsAt h b) (begun : IsBegun b commands) (replies : List Reply) (changes : List PlainChange) (same : b' ≡ b)
+module _ (h : CurrentOpening) (b : WorldBook) (commands : List Command) (at : IsAt h b) (begun : IsBegun b commands) (replies : List Reply) (changes : List PlainChange)
     (told_is : replies ≡ replies_due h [] commands) (wants : changes ≡ changes_due h [] commands) where
-  as_due : (result : Result (List Reply) Refusal) (new : WorldBook) → AreMade result replies changes b' new → AreMade result (replies_due h [] commands) (changes_due h [] commands) b new
-  as_due result new made = subst (λ (rs : List Reply). AreMade result rs (changes_due h [] commands) b new) told_is
-      (subst (λ (es : List PlainChange). AreMade result replies es b new) wants (subst (λ (p : WorldBook). AreMade result replies changes p new) same made))
+  as_due : (result : Result (List Reply) Refusal) (new : WorldBook) → AreMade result replies changes b new → AreMade result (replies_due h [] commands) (changes_due h [] commands) b new
+  as_due result new made = subst (λ (rs : List Reply). AreMade result rs (changes_due h [] commands) b new) told_is (subst (λ (es : List PlainChange). AreMade result replies es b new) wants made)
 
-  pub told-leads : (result : Result (List Reply) Refusal) (new : WorldBook) (failed : Bool) → 0 < length changes → AreMade result replies changes b' new → failed ≡ is_fault_result result → LeadsGroup h new commands result (upshot new.shown failed)
+  pub told-leads : (result : Result (List Reply) Refusal) (new : WorldBook) (failed : Bool) → 0 < length changes → AreMade result replies changes b new → failed ≡ is_fault_result result → LeadsGroup h new commands result (upshot new.shown failed)
   told-leads result new failed some made is = all-made-leads h b commands at begun.none begun.words result new failed (subst (λ (es : List PlainChange). 0 < length es) wants some) (as_due result new made) is
 
   pub told-unchanged : changes ≡ [] → LeadsGroup h b commands (Ok replies) (upshot b.shown false)
@@ -335,7 +334,7 @@ module _ (h : CurrentOpening) (b b' : WorldBook) (commands : List Command) (at :
   pub told-moment : {D : Type 0} (seen : D → List ℕ) (unsynced : D → ℕ → Bool) (moment : D → ℕ) (left_since : D → ℕ → List ℕ → Type 0) (new : WorldBook) → IsFolded b → (old next : D)
       → ((c : List ℕ) → left_since old (moment old) c → IsImage (seen old) (unsynced old) c) → ((c : List ℕ) → IsImage (seen old) (unsynced old) c → HoldsFront b c)
       → EachMoment moment left_since old next (HoldsEither b.whole.durable (after b.whole.durable changes))
-      → (result : Result (List Reply) Refusal) → AreMade result replies changes b' new
+      → (result : Result (List Reply) Refusal) → AreMade result replies changes b new
       → ((why : Refusal) → result ≡ Err why → is_fault why ≡ false → next ≡ old) → EachMoment moment left_since old next (HoldsLeft h (grouping commands))
   told-moment seen unsynced moment left_since new folded old next only images moved result made still =
       all-made-moment seen unsynced moment left_since h b new commands at begun.none begun.words folded old next only images

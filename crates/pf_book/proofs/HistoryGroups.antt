@@ -1,11 +1,11 @@
 -- Parts of a history, and its groups.
 use Rattle.std.specs.Prelude.{nat_lt, sum}
-use Rattle.std.proofs.{lemmas.Bool.Decides.nat_tests, Common.{◌≡◌, ℕ, zero, suc, ◌+◌, ◌-◌, ◌<◌, ◌≤◌, List, [], ◌∷◌, ◌++◌, length, map, take, drop, refl, ap, sym, ◌∙◌, subst, arith, append-nil, Result, Ok, Err, OnOk, OnErr}, Math.Seq.take-add, lemmas.List.{take_all, take-append-le, drop_all, drop-append-le, length-append, length-take-le, length-drop, take-append-drop}, lemmas.List.Sums.{sum_by-cons, sum_by_push}}
+use Rattle.std.proofs.{lemmas.Bool.Decides.nat_tests, Common.{◌≡◌, ℕ, zero, suc, ◌+◌, ◌-◌, ◌<◌, ◌≤◌, Bool, false, List, [], ◌∷◌, ◌++◌, length, map, take, drop, refl, ap, sym, ◌∙◌, subst, arith, append-nil, Result, Ok, Err, OnOk, OnErr}, Math.Seq.take-add, lemmas.List.{take_all, take-append-le, drop_all, drop-append-le, length-append, length-take-le, length-drop, take-append-drop}, lemmas.List.Sums.{sum_by-cons, sum_by_push}}
 use mathlib.Core.List.{IsPrefix}
 use Rattle.pf_core.specs.{Durable.Changes.PlainChange, Worlds.{flat, grouped, is_halted}}
 use Rattle.pf_core.proofs.Prefixes.{flat-append}
 use Rattle.pf_past.proofs.Prefixes.{prefix_self, prefix_trans}
-use Rattle.pf_book.specs.Books.{cut}
+use Rattle.pf_book.specs.Books.{BookParts, cut}
 
 map-take : {A B : Type 0} (f : A → B) (xs : List A) (n : ℕ) → map f (take n xs) ≡ take n (map f xs)
 map-take f xs zero = refl
@@ -121,6 +121,14 @@ left-group log group acked all = drop-append-le acked log group (omega (arith, a
 pub flat-acked : (log : List PlainChange) (sizes : List ℕ) (acked : ℕ) → sum sizes ≡ acked → flat (cut sizes log) ≡ take acked log
 flat-acked log sizes acked cuts = flat-cut sizes log ∙ ap (λ (n : ℕ). take n log) cuts
 
+-- the log is what was acknowledged, if nothing is pending
+pub acked-is : (log : List PlainChange) (sizes : List ℕ) (acked : ℕ) → sum sizes ≡ acked → acked ≡ length log → flat (cut sizes log) ≡ log
+acked-is log sizes acked cuts all = flat-acked log sizes acked cuts ∙ take_all acked log (omega (arith, all))
+
+-- the store isn't halted if all was acknowledged
+pub goes-on : (halted : Bool) (log : List PlainChange) (acked : ℕ) → halted ≡ nat_lt acked (length log) → acked ≡ length log → halted ≡ false
+goes-on halted log acked is all = is ∙ grind (arith, nat_tests, all)
+
 -- how many changes were acknowledged
 pub counted-acked : (log : List PlainChange) (sizes : List ℕ) (acked : ℕ) → sum sizes ≡ acked → acked ≤ length log → acked ≡ length (flat (cut sizes log))
 counted-acked log sizes acked cuts low = sym (length-take-le acked log low) ∙ ap length (sym (flat-acked log sizes acked cuts))
@@ -142,29 +150,29 @@ halted-is log acked low = by (drop acked log) (length-drop acked log)
 -- ---- one group more
 
 -- if all was acknowledged: one group more is too, and its size is noted
-pub record IsGrown (log log' : List PlainChange) (sizes sizes' : List ℕ) (acked acked' : ℕ) (group : List PlainChange) : Type 0 where
-  pub cuts : sum sizes ≡ acked
-  pub all : acked ≡ length log
+pub record IsGrown {D : Type 0} (p : BookParts D) (log : List PlainChange) (sizes : List ℕ) (acked : ℕ) (group : List PlainChange) : Type 0 where
+  pub cuts : sum p.sizes ≡ p.acked
+  pub all : p.acked ≡ length p.log
   pub some : 0 < length group
-  pub logged : log' ≡ log ++ group
-  pub sized : sizes' ≡ sizes ++ length group ∷ []
-  pub counted : acked' ≡ acked + length group
+  pub logged : log ≡ p.log ++ group
+  pub sized : sizes ≡ p.sizes ++ length group ∷ []
+  pub counted : acked ≡ p.acked + length group
 
-module _ (log log' : List PlainChange) (sizes sizes' : List ℕ) (acked acked' : ℕ) (group : List PlainChange) (g : IsGrown log log' sizes sizes' acked acked' group) where
-  pub grown-cuts : sum sizes' ≡ acked'
-  grown-cuts = ap sum g.sized ∙ sum_by_push (λ (x : ℕ). x) sizes (length group) ∙ ap (λ (n : ℕ). n + length group) g.cuts ∙ sym g.counted
+module _ {D : Type 0} {p : BookParts D} {log : List PlainChange} {sizes : List ℕ} {acked : ℕ} {group : List PlainChange} (g : IsGrown p log sizes acked group) where
+  pub grown-cuts : sum sizes ≡ acked
+  grown-cuts = ap sum g.sized ∙ sum_by_push (λ (x : ℕ). x) p.sizes (length group) ∙ ap (λ (n : ℕ). n + length group) g.cuts ∙ sym g.counted
 
-  pub grown-length : length log' ≡ length log + length group
-  grown-length = ap length g.logged ∙ length-append log group
+  pub grown-length : length log ≡ length p.log + length group
+  grown-length = ap length g.logged ∙ length-append p.log group
 
-  pub grown-all : acked' ≡ length log'
+  pub grown-all : acked ≡ length log
   grown-all = omega (arith, grown-length, g.all, g.counted)
 
-  pub grown-acked : cut sizes' log' ≡ cut sizes log ++ group ∷ []
-  grown-acked = ap (λ (ns : List ℕ). cut ns log') g.sized ∙ ap (cut (sizes ++ length group ∷ [])) g.logged ∙ cut-more sizes log group (g.cuts ∙ g.all)
+  pub grown-acked : cut sizes log ≡ cut p.sizes p.log ++ group ∷ []
+  grown-acked = ap (λ (ns : List ℕ). cut ns log) g.sized ∙ ap (cut (p.sizes ++ length group ∷ [])) g.logged ∙ cut-more p.sizes p.log group (g.cuts ∙ g.all)
 
-  pub grown-flat : flat (cut sizes' log') ≡ flat (cut sizes log) ++ group
-  grown-flat = ap flat grown-acked ∙ flat-more (cut sizes log) group
+  pub grown-flat : flat (cut sizes log) ≡ flat (cut p.sizes p.log) ++ group
+  grown-flat = ap flat grown-acked ∙ flat-more (cut p.sizes p.log) group
 
-  pub grown-pending : grouped (drop acked' log') ≡ []
-  grown-pending = ap grouped (drop_all acked' log' (omega (arith, grown-all)))
+  pub grown-pending : grouped (drop acked log) ≡ []
+  grown-pending = ap grouped (drop_all acked log (omega (arith, grown-all)))

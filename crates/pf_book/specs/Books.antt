@@ -32,10 +32,6 @@ opening_of store d history = record { disk = store.disk; given = d; size = store
 abbrev pub setting_of : {D : Type 0} → PlainOpening D → ℕ → Setting
 setting_of o limit = on_device limit o.size
 
--- the limits of a Book over a store
-abbrev pub setting_in : {D : Type 0} → PlainStore D → ℕ → Setting
-setting_in store limit = on_device limit store.size
-
 -- These name an opening whose history may have `limit` changes: what it gave, its history, and its limits.
 abbrev pub IsNamed : {D : Type 0} → PlainDurable → Book → Setting → PlainOpening D → ℕ → Type 0
 IsNamed base history setting o limit = (o.given ≡ base) × (o.history ≡ history) × (setting_of o limit ≡ setting)
@@ -68,19 +64,6 @@ abbrev pub cut : List ℕ → List PlainChange → List (List PlainChange)
 cut [] es = []
 cut (n ∷ sizes) es = take n es ∷ cut sizes (drop n es)
 
--- What a world's laws see of a Book. Of `log`, the changes since the opening, the first `acked` were acknowledged, in groups of these
--- `sizes`; what comes after them, if anything, is one group. `shown` are the changes that are shown.
-abbrev pub world_book_of : PlainDurable → PlainCore → List PlainChange → List ℕ → ℕ → Setting → List PlainChange → WorldBook
-world_book_of base whole log sizes acked setting shown = record {
-  base = base;
-  whole = whole;
-  acked = cut sizes log;
-  pending = grouped (drop acked log);
-  setting = setting;
-  shown = length shown;
-  published = after base shown;
-}
-
 -- What contracts see of a Book: its device; what its opening gave; its core; the groups of changes that were acknowledged, and the one, if
 -- any, that wasn't; how many changes it may have, how many bytes each bank of its device has, and the generation of the bank that counts;
 -- how many changes are shown, and the copy that shows them.
@@ -96,20 +79,6 @@ pub record PlainBook (D : Type 0) : Type 0 where
   pub shown : ℕ
   pub published : PlainDurable
 
-abbrev pub book_with : {D : Type 0} → D → PlainDurable → PlainCore → List PlainChange → List ℕ → (acked limit size generation : ℕ) → List PlainChange → PlainBook D
-book_with disk base whole log sizes acked limit size generation shown = record {
-  disk = disk;
-  base = base;
-  whole = whole;
-  acked = cut sizes log;
-  pending = grouped (drop acked log);
-  limit = limit;
-  size = size;
-  generation = generation;
-  shown = length shown;
-  published = after base shown;
-}
-
 -- what a world's laws see of it, with its limits
 abbrev pub world_book : {D : Type 0} → PlainBook D → WorldBook
 world_book b = record {
@@ -122,6 +91,60 @@ world_book b = record {
   published = b.published;
 }
 
+-- What a Book's fields hold: the store of its device; what its opening gave; its core, and what that keeps, shared; the changes since the
+-- opening, of which the first `acked` were acknowledged, in groups of these `sizes`, and the first `offered` were offered to be shown (what
+-- comes after the acknowledged ones, if anything, is one group); how many changes it may have; what is shown; and the history with its
+-- acknowledged part.
+pub record BookParts (D : Type 0) : Type 0 where
+  pub store : PlainStore D
+  pub base : PlainDurable
+  pub whole : PlainCore
+  pub durable : PlainDurable
+  pub log : List PlainChange
+  pub sizes : List ℕ
+  pub acked : ℕ
+  pub offered : ℕ
+  pub limit : ℕ
+  pub shower : PlainShower
+  pub tip : PlainFront
+  pub front : PlainFront
+
+-- the parts, by the fields in their order
+abbrev pub parts_of : {D : Type 0} → PlainStore D → (base : PlainDurable) → PlainCore → PlainDurable → List PlainChange → List ℕ → (acked offered limit : ℕ) → PlainShower → (tip front : PlainFront) → BookParts D
+parts_of store base whole durable log sizes acked offered limit shower tip front = record {
+  store = store;
+  base = base;
+  whole = whole;
+  durable = durable;
+  log = log;
+  sizes = sizes;
+  acked = acked;
+  offered = offered;
+  limit = limit;
+  shower = shower;
+  tip = tip;
+  front = front;
+}
+
+-- what contracts see of a Book with these parts
+abbrev pub book_of : {D : Type 0} → BookParts D → PlainBook D
+book_of p = record {
+  disk = p.store.disk;
+  base = p.base;
+  whole = p.whole;
+  acked = cut p.sizes p.log;
+  pending = grouped (drop p.acked p.log);
+  limit = p.limit;
+  size = p.store.size;
+  generation = p.store.generation;
+  shown = length p.shower.shown;
+  published = after p.base p.shower.shown;
+}
+
+-- and what a world's laws see of it
+abbrev pub world_book_of : {D : Type 0} → BookParts D → WorldBook
+world_book_of p = world_book (book_of p)
+
 -- The image holds the fold of a front of the history that has all that was acknowledged and cuts no group.
 abbrev pub HoldsFront : WorldBook → List ℕ → Type 0
 HoldsFront b image = (n : ℕ) × Holds image (after b.base (flat (b.acked ++ take n b.pending)))
@@ -131,33 +154,32 @@ abbrev pub HoldsLeft : CurrentOpening → Doing → List ℕ → Type 0
 HoldsLeft h doing image = (d : PlainDurable) × Holds image d × Leaves h doing d
 
 -- what a Book's type keeps (its invariant)
-pub record IsBook {D : Type 0} (seen : D → List ℕ) (unsynced : D → ℕ → Bool)
-    (store : PlainStore D) (b : WorldBook) (d : PlainDurable) (log : List PlainChange) (sizes : List ℕ) (acked offered : ℕ) (stage : PlainShower) (past front : PlainFront) : Type 0 where
-  pub folded : IsFolded b
+pub record IsBook {D : Type 0} (seen : D → List ℕ) (unsynced : D → ℕ → Bool) (p : BookParts D) : Type 0 where
+  pub folded : IsFolded (world_book_of p)
   -- so whatever a command wants can be written as bytes, if the device has room for them
-  pub tickets : AreTicketsWithin b.whole.tickets
-  pub log_is : past.front ≡ log
-  pub acked_is : past.acked ≡ acked
-  pub front_is : front ≡ all_acked (take acked log)
+  pub tickets : AreTicketsWithin p.whole.tickets
+  pub log_is : p.tip.front ≡ p.log
+  pub acked_is : p.tip.acked ≡ p.acked
+  pub front_is : p.front ≡ all_acked (take p.acked p.log)
   -- the groups have as many changes as were acknowledged
-  pub cuts : sum sizes ≡ acked
-  pub low : acked ≤ length log
+  pub cuts : sum p.sizes ≡ p.acked
+  pub low : p.acked ≤ length p.log
   -- at most one group comes after them
-  pub high : length log ≤ acked + GROUP_LIMIT
-  pub halted : store.halted ≡ nat_lt acked (length log)
-  pub stands : store.halted ≡ false → Stands seen unsynced store b.whole.durable
+  pub high : length p.log ≤ p.acked + GROUP_LIMIT
+  pub halted : p.store.halted ≡ nat_lt p.acked (length p.log)
+  pub stands : p.store.halted ≡ false → Stands seen unsynced p.store p.whole.durable
   -- each group has a change, and raises the bank's generation by at most one
-  pub early : store.halted ≡ false → store.generation ≤ 2 ^ 63 + length log
-  pub limit : b.setting.limit ≤ 2 ^ 20
-  pub few : length log ≤ b.setting.limit
-  pub images : (c : List ℕ) → IsImage (seen store.disk) (unsynced store.disk) c → HoldsFront b c
-  pub generations : (c : List ℕ) → IsImage (seen store.disk) (unsynced store.disk) c → IsNoLaterThan (store.generation + 1) c
+  pub early : p.store.halted ≡ false → p.store.generation ≤ 2 ^ 63 + length p.log
+  pub limit : p.limit ≤ 2 ^ 20
+  pub few : length p.log ≤ p.limit
+  pub images : (c : List ℕ) → IsImage (seen p.store.disk) (unsynced p.store.disk) c → HoldsFront (world_book_of p) c
+  pub generations : (c : List ℕ) → IsImage (seen p.store.disk) (unsynced p.store.disk) c → IsNoLaterThan (p.store.generation + 1) c
   -- an opening finds room, if it would in what the last one gave
-  pub roomy : IsRoomy store.size b.base → (c : List ℕ) → IsImage (seen store.disk) (unsynced store.disk) c → LeavesRoom c
-  pub offered_low : offered ≤ acked
-  pub offered_is : stage.offered ≡ take offered log
-  pub shown_is : IsPrefix stage.shown stage.offered
-  pub latest : d ≡ b.whole.durable
+  pub roomy : IsRoomy p.store.size p.base → (c : List ℕ) → IsImage (seen p.store.disk) (unsynced p.store.disk) c → LeavesRoom c
+  pub offered_low : p.offered ≤ p.acked
+  pub offered_is : p.shower.offered ≡ take p.offered p.log
+  pub shown_is : IsPrefix p.shower.shown p.shower.offered
+  pub latest : p.durable ≡ p.whole.durable
 
 -- ---- what a call leaves
 

@@ -1,6 +1,7 @@
 pub mod Books
 pub mod Courses
 pub mod Groups
+pub mod Pairs
 pub mod Receipts
 -- what public clauses cite of the crates below
 pub use Rattle.pf_disk.specs.Disk

@@ -54,15 +54,15 @@ pub struct Book<D: Disk + Drop, J: Chapter, R: Wait + Drop> {
 impl<D: Disk + Drop, J: Chapter, R: Wait + Drop> Model for Book<D, J, R> {
     ghost use Rattle.std.specs.Prelude.{map};
     ghost use Rattle.std.specs.Arc.{arc_value};
-    ghost use Rattle.pf_book.specs.Books.{PlainBook, book_with, world_book_of, IsBook, setting_in};
+    ghost use Rattle.pf_book.specs.Books.{PlainBook, parts_of, book_of, IsBook};
 
     ghost Value = { PlainBook D };
 
-    ghost view = { λ b. book_with b.store.disk J.base b.core (map arc_value b.log.items) b.sizes.items b.acked b.limit b.store.size b.store.generation b.shower.shown };
+    ghost view = { λ b. book_of (parts_of b.store J.base b.core (arc_value b.durable) (map arc_value b.log.items) b.sizes.items b.acked b.offered b.limit
+        b.shower b.tip b.front) };
 
-    ghost invariant = { λ b. IsBook D.seen D.unsynced b.store
-        (world_book_of J.base b.core (map arc_value b.log.items) b.sizes.items b.acked (setting_in b.store b.limit) b.shower.shown)
-        (arc_value b.durable) (map arc_value b.log.items) b.sizes.items b.acked b.offered b.shower b.tip b.front };
+    ghost invariant = { λ b. IsBook D.seen D.unsynced (parts_of b.store J.base b.core (arc_value b.durable) (map arc_value b.log.items) b.sizes.items b.acked
+        b.offered b.limit b.shower b.tip b.front) };
 }
 
 // Why no history begins: out of memory, or no place for what it would show.
@@ -251,7 +251,7 @@ impl<D: Disk + Drop, J: Chapter, R: Wait + Drop> Book<D, J, R> {
         ensures device { self.new.disk ≡ self.old.disk }
         ensures size { self.new.size ≡ self.old.size }
         ensures generation { self.new.generation ≡ self.old.generation }
-        ensures world_book { MatchBool result ((world_book self.new) ≡ shows_all (world_book self.old)) ((world_book self.new) ≡ (world_book self.old)) }
+        ensures shown { MatchBool result ((world_book self.new) ≡ shows_all (world_book self.old)) ((world_book self.new) ≡ (world_book self.old)) }
     {
         if !offer_rest(
             &mut self.shower,

@@ -4,7 +4,7 @@ ghost use Rattle.pf_disk.specs.Disk.{EachMoment};
 ghost use Rattle.std.specs.{Arc.arc_value, List.AllByRecursion, Option.{ForSome, option_copied, option_map}, Vec.Iter.into_iter_items};
 ghost use mathlib.Core.List.{IsPrefix};
 ghost use Rattle.pf_core.specs.{Calls.call, WorldBooks.{IsAt, Leads, LeadsGroup}, Worlds.{CurrentOpening, calling, grouping, flat, upshot}};
-ghost use Rattle.pf_book.specs.{Groups.{behind, is_kept, given_to, kept_count, left_behind, paired, slip_at, told, replies_of, HasReceipts}, Books.{StaysUnlessAnyKept, HoldsLeft, StaysOpenable, StaysUnlessKept, world_book, log_in}, Receipts.{token_of, Confirms, EndsIn, Follows, IsGiven, ShownFits}};
+ghost use Rattle.pf_book.specs.{Groups.{told, replies_of, HasReceipts}, Pairs.{behind, is_kept, given_to, kept_count, left_behind, paired, slip_at}, Books.{StaysUnlessAnyKept, HoldsLeft, StaysOpenable, StaysUnlessKept, world_book, log_in}, Receipts.{token_of, Confirms, EndsIn, Follows, IsGiven, ShownFits}};
 
 use crate::book::Book;
 use crate::chapter::Chapter;

@@ -1,8 +1,8 @@
 use Rattle.std.proofs.{Common.{rules, ◌≡◌, ◌≤◌, ◌-◌, ◌<◌, ◌∙◌, ℕ, zero, suc, List, length, map, Option, Some, None, option_map, slice_get, refl, ap, sym, subst, arith}, lemmas.Option.{slice_get-map, slice_get_past, slice_get_read}, lemmas.Grind.common_steps}
 use Rattle.std.specs.Arc.{arc_value}
 use Rattle.pf_core.specs.Durable.Changes.{PlainChange}
-use Rattle.pf_book.specs.Books.{PlainBook, world_book, change_in, log_in}
-use Rattle.pf_book.proofs.HistoryGroups.{whole-log}
+use Rattle.pf_book.specs.Books.{change_in}
+use Rattle.pf_book.proofs.OpenedBooks.{log-of}
 use Rattle.pf_book.proofs.book.Book.change_at.Goals as goal
 
 there : (log : List PlainChange) (number : ℕ) (r : Option PlainChange) → (number ≡ 0 → ⊥) → slice_get log (number - 1) ≡ r → r ≡ change_in log number
@@ -20,8 +20,7 @@ returns-in-Some g c =
     let at : slice_get (map arc_value items) i ≡ Some c.deref-in-Some.result.now =
     slice_get-map arc_value items i ∙ ap (option_map arc_value) (ap (λ xs. slice_get xs i) (sym same) ∙ read) ∙ ap Some (sym c.deref-in-Some.ensures) in
     there (map arc_value items) c.args.number (Some c.deref-in-Some.result.now) c.if-number-eq0.false at
-    ∙ ap (λ (l : List PlainChange). change_in l c.args.number) (sym (whole-log (map arc_value items) c.self.inside.sizes.items c.self.inside.acked c.self.invariant.cuts))
-    ∙ ap (λ (b : PlainBook g.row.D.Denot). change_in (log_in (world_book b)) c.args.number) c.self.view_is
+    ∙ ap (λ (l : List PlainChange). change_in l c.args.number) (sym (log-of c.self.invariant c.self.view_is))
 
 pub returns-in-None : goal.returns-in-None
 returns-in-None g c =
@@ -29,5 +28,4 @@ returns-in-None g c =
     let counted : length c.deref.result.now ≡ length log = grind (arith, common_steps, c.deref.ensures.value) in
     let short : length log ≤ c.args.number - 1 = grind (arith, common_steps, c.in-None.ensures.lookup.0, counted) in
     there log c.args.number None c.if-number-eq0.false (slice_get_past log (c.args.number - 1) short)
-    ∙ ap (λ (l : List PlainChange). change_in l c.args.number) (sym (whole-log log c.self.inside.sizes.items c.self.inside.acked c.self.invariant.cuts))
-    ∙ ap (λ (b : PlainBook g.row.D.Denot). change_in (log_in (world_book b)) c.args.number) c.self.view_is
+    ∙ ap (λ (l : List PlainChange). change_in l c.args.number) (sym (log-of c.self.invariant c.self.view_is))

@@ -1,10 +1,12 @@
-use Rattle.std.proofs.{Common.{◌≡◌, ℕ, ◌+◌, arith, List, [], ◌∷◌, length, map, refl, sym, ap, ◌∙◌, subst, append-nil, true, Bool}, lemmas.Result.err_from_is_err_and}
-use Rattle.std.specs.{Arc.arc_value, Prelude.◌&&◌, List.list_all}
+use Rattle.std.proofs.{Common.{◌≡◌, arith, List, map, refl, sym, ap, ◌∙◌, subst, true}, lemmas.Result.err_from_is_err_and}
+use Rattle.std.specs.{Arc.arc_value, List.list_all}
 use Rattle.pf_disk.specs.Disk.{EachMoment}
-use Rattle.pf_core.specs.{Durable.Changes.{PlainDurable, PlainChange, after, applied, voided_by}, Nexts.{PlainNext, next_with}, WorldBooks.WorldBook}
+use Rattle.pf_core.specs.{Durable.Changes.{PlainChange, after}, Nexts.PlainNext, WorldBooks.WorldBook}
 use Rattle.pf_store.specs.{Groups.{can_be_wanted, is_group, made_all}, Stores.{FindsRoom, FollowInTurn, HoldsEither}}
 use Rattle.pf_book.specs.Books.{HasRoom, HasNoRoom, IsMore, IsUnkept, left_together, world_book}
 use Rattle.pf_book.proofs.Finding.{unroomed, unroomed-calm}
+use Rattle.pf_book.proofs.book.Book.keep_all.Given.{Over}
+use Rattle.pf_book.proofs.book.Book.keep_all.Goals.{After-as_slice-2}
 use Rattle.pf_book.proofs.book.Book.keep_all.Goals as goal
 
 pub find_room-requires-clause-left : goal.find_room-requires-clause-left
@@ -46,56 +48,38 @@ returns-in_err-changes-clause-any_moment g c =
     let l = c.args.self.now in
     subst (λ (es : List PlainChange). EachMoment g.D.Disk.moment g.D.Disk.left_since l.disk l.disk (HoldsEither l.whole.durable (after l.whole.durable es))) c.as_slice.ensures.value c.find_room.ensures.still
 
+-- what is saved are the changes
+shared : (g : Over) (c : After-as_slice-2 g) → map arc_value c.as_slice-2.result.now ≡ c.args.changes.items
+shared g c = ap (map arc_value) c.as_slice-2.ensures.value ∙ c.in_ok-changes.ensures
+
 pub save-requires-clause-made : goal.save-requires-clause-made
-save-requires-clause-made g c =
-    let es : List PlainChange = c.args.changes.items in
-    let d : PlainDurable = c.args.self.now.whole.durable in
-    let shared : map arc_value c.as_slice-2.result.now ≡ es = ap (map arc_value) c.as_slice-2.ensures.value ∙ c.in_ok-changes.ensures in
-    c.requires.made ∙ ap (left_together d) (sym shared)
+save-requires-clause-made g c = c.requires.made ∙ ap (left_together c.args.self.now.whole.durable) (sym (shared g (goal.at.save-requires-clause-made g c).After-as_slice-2))
 
 pub save-requires-clause-fit : goal.save-requires-clause-fit
-save-requires-clause-fit g c =
-    let es : List PlainChange = c.args.changes.items in
-    let d : PlainDurable = c.args.self.now.whole.durable in
-    let shared : map arc_value c.as_slice-2.result.now ≡ es = ap (map arc_value) c.as_slice-2.ensures.value ∙ c.in_ok-changes.ensures in
-    subst (λ (es : List PlainChange). FollowInTurn d (made_all es)) (sym shared) c.requires.fit
+save-requires-clause-fit g c = subst (λ (es : List PlainChange). FollowInTurn c.args.self.now.whole.durable (made_all es)) (sym (shared g (goal.at.save-requires-clause-fit g c).After-as_slice-2)) c.requires.fit
 
 pub save-requires-clause-room : goal.save-requires-clause-room
-save-requires-clause-room g c =
-    let es : List PlainChange = c.args.changes.items in
-    let shared : map arc_value c.as_slice-2.result.now ≡ es = ap (map arc_value) c.as_slice-2.ensures.value ∙ c.in_ok-changes.ensures in
-    subst (HasRoom (world_book c.args.self.now)) (c.as_slice.ensures.value ∙ sym shared) c.in_ok-find_room.ensures.ok
+save-requires-clause-room g c = subst (HasRoom (world_book c.args.self.now)) (c.as_slice.ensures.value ∙ sym (shared g (goal.at.save-requires-clause-room g c).After-as_slice-2)) c.in_ok-find_room.ensures.ok
 
 pub save-requires-clause-found : goal.save-requires-clause-found
 save-requires-clause-found g c =
-    let es : List PlainChange = c.args.changes.items in
     let l = c.args.self.now in
-    let shared : map arc_value c.as_slice-2.result.now ≡ es = ap (map arc_value) c.as_slice-2.ensures.value ∙ c.in_ok-changes.ensures in
-    subst (FindsRoom l.size l.whole.durable c.args.next.durable) (c.as_slice.ensures.value ∙ sym shared) c.in_ok-find_room.ensures.found
+    subst (FindsRoom l.size l.whole.durable c.args.next.durable) (c.as_slice.ensures.value ∙ sym (shared g (goal.at.save-requires-clause-found g c).After-as_slice-2)) c.in_ok-find_room.ensures.found
 
 pub returns-in_err-save-clause-any_moment : goal.returns-in_err-save-clause-any_moment
 returns-in_err-save-clause-any_moment g c =
-    let es : List PlainChange = c.args.changes.items in
     let l = c.args.self.now in
-    let shared : map arc_value c.as_slice-2.result.now ≡ es = ap (map arc_value) c.as_slice-2.ensures.value ∙ c.in_ok-changes.ensures in
-    subst (λ (es : List PlainChange). EachMoment g.D.Disk.moment g.D.Disk.left_since l.disk c.save.new.self.disk (HoldsEither l.whole.durable (after l.whole.durable es))) shared c.save.ensures.any_moment
+    subst (λ (es : List PlainChange). EachMoment g.D.Disk.moment g.D.Disk.left_since l.disk c.save.new.self.disk (HoldsEither l.whole.durable (after l.whole.durable es))) (shared g (goal.at.returns-in_err-save-clause-any_moment g c).After-as_slice-2) c.save.ensures.any_moment
 
 pub returns-clause-any_moment : goal.returns-clause-any_moment
 returns-clause-any_moment g c =
-    let es : List PlainChange = c.args.changes.items in
     let l = c.args.self.now in
-    let shared : map arc_value c.as_slice-2.result.now ≡ es = ap (map arc_value) c.as_slice-2.ensures.value ∙ c.in_ok-changes.ensures in
-    subst (λ (es : List PlainChange). EachMoment g.D.Disk.moment g.D.Disk.left_since l.disk c.save.new.self.disk (HoldsEither l.whole.durable (after l.whole.durable es))) shared c.save.ensures.any_moment
+    subst (λ (es : List PlainChange). EachMoment g.D.Disk.moment g.D.Disk.left_since l.disk c.save.new.self.disk (HoldsEither l.whole.durable (after l.whole.durable es))) (shared g (goal.at.returns-clause-any_moment g c).After-as_slice-2) c.save.ensures.any_moment
 
 pub returns-in_err-save-clause-err : goal.returns-in_err-save-clause-err
 returns-in_err-save-clause-err g c =
-    let es : List PlainChange = c.args.changes.items in
-    let shared : map arc_value c.as_slice-2.result.now ≡ es = ap (map arc_value) c.as_slice-2.ensures.value ∙ c.in_ok-changes.ensures in
     let p = err_from_is_err_and c.from_residual-in_err-save.result c.from_residual-in_err-save.ensures.1 in
-    rw (p.1, p.2) (subst (IsUnkept c.in_err-save.field-0.0 (world_book c.args.self.now) (world_book c.save.new.self)) shared c.in_err-save.ensures.err)
+    rw (p.1, p.2) (subst (IsUnkept c.in_err-save.field-0.0 (world_book c.args.self.now) (world_book c.save.new.self)) (shared g (goal.at.returns-in_err-save-clause-err g c).After-as_slice-2) c.in_err-save.ensures.err)
 
 pub returns-clause-ok : goal.returns-clause-ok
-returns-clause-ok g c =
-    let es : List PlainChange = c.args.changes.items in
-    let shared : map arc_value c.as_slice-2.result.now ≡ es = ap (map arc_value) c.as_slice-2.ensures.value ∙ c.in_ok-changes.ensures in
-    subst (IsMore (world_book c.args.self.now) (world_book c.save.new.self)) shared c.in_ok-save.ensures.ok
+returns-clause-ok g c = subst (IsMore (world_book c.args.self.now) (world_book c.save.new.self)) (shared g (goal.at.returns-clause-ok g c).After-as_slice-2) c.in_ok-save.ensures.ok

@@ -1,31 +1,28 @@
-use Rattle.std.proofs.Common.{◌≡◌, [], ◌∷◌, length, map, Some, refl, sym, ap, ◌∙◌, subst}
-use Rattle.std.specs.Arc.{arc_value}
+use Rattle.std.proofs.Common.{◌≡◌, [], ◌∷◌, length, Some, refl, sym, ap, ◌∙◌, subst}
 use Rattle.pf_core.specs.{WorldBooks.WorldBook, Worlds.flat}
-use Rattle.pf_book.specs.Books.{PlainBook, world_book, IsMore}
-use Rattle.pf_book.proofs.{LockedCalls.added-by, Openable.then-still, HistoryGroups.counted-acked}
+use Rattle.pf_book.specs.Books.{world_book, IsMore}
+use Rattle.pf_book.proofs.{LockedCalls.added-by, OpenedBooks.acked-of, Openable.then-still}
 use Rattle.pf_book.proofs.book.Book.make.Goals as goal
 
 pub returns-then-show_all-clause-made : goal.returns-then-show_all-clause-made
 returns-then-show_all-clause-made g c =
-    let s = c.self.inside in
-    let number : s.acked ≡ length (flat c.keep.new.self.acked) = counted-acked (map arc_value s.log.items) s.sizes.items s.acked c.self.invariant.cuts c.self.invariant.low ∙ ap (λ (l : PlainBook g.row.D.Denot). length (flat l.acked)) c.self.view_is in
-    (refl, world_book c.keep.new.self, record { more = c.in-Ok.ensures.ok; number = number }, c.if-show_all.ensures.world_book)
+    let number : c.self.inside.acked ≡ length (flat c.keep.new.self.acked) = acked-of c.self.invariant c.self.view_is in
+    (refl, world_book c.keep.new.self, record { more = c.in-Ok.ensures.ok; number = number }, c.if-show_all.ensures.shown)
 
 pub returns-else-show_all-clause-made : goal.returns-else-show_all-clause-made
 returns-else-show_all-clause-made g c =
-    let s = c.self.inside in
-    let same : world_book c.show_all.new.self ≡ world_book c.keep.new.self = c.if-show_all.ensures.world_book in
-    let number : s.acked ≡ length (flat c.keep.new.self.acked) = counted-acked (map arc_value s.log.items) s.sizes.items s.acked c.self.invariant.cuts c.self.invariant.low ∙ ap (λ (l : PlainBook g.row.D.Denot). length (flat l.acked)) c.self.view_is in
+    let same : world_book c.show_all.new.self ≡ world_book c.keep.new.self = c.if-show_all.ensures.shown in
+    let number : c.self.inside.acked ≡ length (flat c.keep.new.self.acked) = acked-of c.self.invariant c.self.view_is in
     (refl, record { more = subst (λ (p : WorldBook). IsMore (world_book c.args.self.now) p (c.args.change ∷ [])) (sym same) c.in-Ok.ensures.ok; number = number ∙ ap (λ (p : WorldBook). length (flat p.acked)) (sym same) })
 
 pub returns-then-show_all-clause-given : goal.returns-then-show_all-clause-given
 returns-then-show_all-clause-given g c =
-    let same = c.if-show_all.ensures.world_book in
+    let same = c.if-show_all.ensures.shown in
     added-by (world_book c.args.self.now) (world_book c.keep.new.self) (world_book c.show_all.new.self) c.args.change _ c.in-Ok.ensures.ok (ap (λ (p : WorldBook). p.acked) same) (ap (λ (p : WorldBook). p.pending) same) c.requires.free (ap Some c.in-Ok.ensures.given)
 
 pub returns-else-show_all-clause-given : goal.returns-else-show_all-clause-given
 returns-else-show_all-clause-given g c =
-    let same = c.if-show_all.ensures.world_book in
+    let same = c.if-show_all.ensures.shown in
     added-by (world_book c.args.self.now) (world_book c.keep.new.self) (world_book c.show_all.new.self) c.args.change _ c.in-Ok.ensures.ok (ap (λ (p : WorldBook). p.acked) same) (ap (λ (p : WorldBook). p.pending) same) c.requires.free (ap Some c.in-Ok.ensures.given)
 
 pub returns-then-show_all-clause-openable : goal.returns-then-show_all-clause-openable

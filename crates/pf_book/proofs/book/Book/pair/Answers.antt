@@ -1,9 +1,19 @@
-use Rattle.std.proofs.{Common.{◌≡◌, ◌+◌, ◌≤◌, ◌++◌, ℕ, List, [], ◌∷◌, Option, length, map, drop, take, refl, sym, ap, ◌∙◌, subst, append_assoc, append-nil, arith}, lemmas.Grind.common_steps}
+use Rattle.std.proofs.{Common.{◌≡◌, ◌+◌, ◌≤◌, ◌++◌, ℕ, List, [], ◌∷◌, Option, Some, length, map, drop, take, refl, sym, ap, ◌∙◌, subst, append_assoc, append-nil, arith}, lemmas.Grind.common_steps}
 use Rattle.std.specs.{Arc.arc_value, List.AllByRecursion, Option.option_map, Vec.Iter.{into_iter_items}}
 use Rattle.pf_core.specs.{declared.reply.Reply.Reply, Durable.Changes.PlainChange}
-use Rattle.pf_book.specs.{Books.{PlainBook, world_book, log_in}, Groups.{Answered, behind, given_to, kept_count, paired, slip_at}, Receipts.{PlainReceipt, EndsIn, ShownFits}}
-use Rattle.pf_book.proofs.{HistoryGroups.whole-log, GroupReceipts.{no-items, pair-on}}
+use Rattle.pf_book.specs.{Books.{world_book, log_in}, Groups.Answered, Pairs.{behind, given_to, left_behind, kept_count, paired, slip_at}, Receipts.{PlainReceipt, EndsIn, ShownFits}}
+use Rattle.pf_book.proofs.{OpenedBooks.log-of, GroupReceipts.{IsPaired, no-items, pair-on}}
+use Rattle.pf_book.proofs.book.Book.pair.Given.{Over}
+use Rattle.pf_book.proofs.book.Book.pair.Goals.{After-behind-seq}
 use Rattle.pf_book.proofs.book.Book.pair.Goals as goal
+
+-- where the reply's change is among the group's
+one : (g : Over) (c : After-behind-seq g)
+    → IsPaired (log_in (world_book c.args.self.now)) (behind c.in-Some.reply c.loop-reply.seq) (left_behind c.in-Some.reply (map arc_value (into_iter_items c.loop-reply.given))) (into_iter_items c.next.new.self)
+    × ((e : PlainChange) → given_to c.in-Some.reply (map arc_value (into_iter_items c.loop-reply.given)) ≡ Some e → EndsIn (take (behind c.in-Some.reply c.loop-reply.seq) (log_in (world_book c.args.self.now))) e)
+one g c =
+    let at = c.loop-reply in
+    pair-on (log_in (world_book c.args.self.now)) at.seq (map arc_value (into_iter_items at.given)) c.in-Some.reply (into_iter_items c.next.new.self) at.invariant.given at.invariant.within (ap kept_count (sym c.in-Some.ensures.steps.0) ∙ at.invariant.kept)
 
 pub loop-reply-preserved : goal.loop-reply-preserved
 loop-reply-preserved g c =
@@ -15,7 +25,7 @@ loop-reply-preserved g c =
     let given : List PlainChange = map arc_value (into_iter_items at.given) in
     let left : List PlainChange = map arc_value (into_iter_items c.give-change.new.given) in
     let number : c.behind-seq.result ≡ behind r at.seq = c.behind-seq.ensures in
-    let one = pair-on log at.seq given r others at.invariant.given at.invariant.within (ap kept_count (sym steps) ∙ at.invariant.kept) in
+    let here = one g (goal.at.loop-reply-preserved g c).After-behind-seq in
     let rest : List Answered = paired log c.behind-seq.result others left in
     let old : List Answered = at.answers.items in
     let slip : c.receipt_at-receipt.result ≡ slip_at log (behind r at.seq) (given_to r given) r =
@@ -28,34 +38,20 @@ loop-reply-preserved g c =
           ∙ ap (λ (m : ℕ). old ++ ((r, slip_at log (behind r at.seq) (given_to r given) r) ∷ paired log m others left)) number
           ∙ ap (λ (l : List PlainChange). old ++ ((r, slip_at log (behind r at.seq) (given_to r given) r) ∷ paired log (behind r at.seq) others l)) c.give-change.ensures.left
           ∙ ap (λ (rs : List Reply). old ++ paired log at.seq rs given) (sym steps) ∙ at.invariant.told;
-      given = ap (λ (m : ℕ). drop m log) number ∙ one.0.given_is ∙ sym c.give-change.ensures.left;
-      within = subst (λ (m : ℕ). m ≤ length log) (sym number) one.0.within;
-      kept = one.0.kept ∙ ap length (sym c.give-change.ensures.left);
+      given = ap (λ (m : ℕ). drop m log) number ∙ here.0.given_is ∙ sym c.give-change.ensures.left;
+      within = subst (λ (m : ℕ). m ≤ length log) (sym number) here.0.within;
+      kept = here.0.kept ∙ ap length (sym c.give-change.ensures.left);
       shown = (subst (λ (rs : List Reply). AllByRecursion (λ r. ShownFits r c.args.self.now.shown (length log)) rs) steps at.invariant.shown).1;
       room = omega (arith, at.invariant.room, c.push_reserved.ensures.len, c.push_reserved.ensures.capacity, ap length steps);
     }
 
 pub receipt_at-receipt-requires-clause-last : goal.receipt_at-receipt-requires-clause-last
-receipt_at-receipt-requires-clause-last g c = λ e some.
-    let at = c.loop-reply in
-    let log : List PlainChange = log_in (world_book c.args.self.now) in
-    let r : Reply = c.in-Some.reply in
-    let others : List Reply = into_iter_items c.next.new.self in
-    let steps : into_iter_items at.reply-iterator ≡ r ∷ others = c.in-Some.ensures.steps.0 in
-    let given : List PlainChange = map arc_value (into_iter_items at.given) in
-    let one = pair-on log at.seq given r others at.invariant.given at.invariant.within (ap kept_count (sym steps) ∙ at.invariant.kept) in
-    subst (λ (m : ℕ). EndsIn (take m log) e) (sym c.behind-seq.ensures) (one.1 e (sym c.give-change.ensures.given ∙ some))
+receipt_at-receipt-requires-clause-last g c e some =
+    subst (λ (m : ℕ). EndsIn (take m (log_in (world_book c.args.self.now))) e) (sym c.behind-seq.ensures) ((one g (goal.at.receipt_at-receipt-requires-clause-last g c).After-behind-seq).1 e (sym c.give-change.ensures.given ∙ some))
 
 pub receipt_at-receipt-requires-clause-within : goal.receipt_at-receipt-requires-clause-within
 receipt_at-receipt-requires-clause-within g c =
-    let at = c.loop-reply in
-    let log : List PlainChange = log_in (world_book c.args.self.now) in
-    let r : Reply = c.in-Some.reply in
-    let others : List Reply = into_iter_items c.next.new.self in
-    let steps : into_iter_items at.reply-iterator ≡ r ∷ others = c.in-Some.ensures.steps.0 in
-    let given : List PlainChange = map arc_value (into_iter_items at.given) in
-    let one = pair-on log at.seq given r others at.invariant.given at.invariant.within (ap kept_count (sym steps) ∙ at.invariant.kept) in
-    subst (λ (m : ℕ). m ≤ length log) (sym c.behind-seq.ensures) one.0.within
+    subst (λ (m : ℕ). m ≤ length (log_in (world_book c.args.self.now))) (sym c.behind-seq.ensures) (one g (goal.at.receipt_at-receipt-requires-clause-within g c).After-behind-seq).0.within
 
 pub receipt_at-receipt-requires-clause-shown : goal.receipt_at-receipt-requires-clause-shown
 receipt_at-receipt-requires-clause-shown g c =
@@ -66,10 +62,9 @@ receipt_at-receipt-requires-clause-shown g c =
 
 pub behind-seq-requires : goal.behind-seq-requires
 behind-seq-requires g c =
-    let s = c.self.inside in
     let i = c.self.invariant in
-    let log : List PlainChange = map arc_value s.log.items in
-    let whole : log_in (world_book c.args.self.now) ≡ log = ap (λ (l : PlainBook g.row.D.Denot). log_in (world_book l)) (sym c.self.view_is) ∙ whole-log log s.sizes.items s.acked i.cuts in
+    let log : List PlainChange = map arc_value c.self.inside.log.items in
+    let whole : log_in (world_book c.args.self.now) ≡ log = log-of i c.self.view_is in
     omega (arith, c.loop-reply.invariant.within, ap length whole, i.few, i.limit)
 
 pub loop-reply-init : goal.loop-reply-init

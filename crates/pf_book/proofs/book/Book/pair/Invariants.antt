@@ -1,6 +1,6 @@
 use Rattle.std.proofs.Common.{◌≡◌, ◌+◌, ◌≤◌, ◌++◌, length, map, drop, vec_len, vec_capacity}
 use Rattle.std.specs.{Arc.arc_value, List.AllByRecursion, Vec.Iter.{into_iter_items, into_iter_len}}
-use Rattle.pf_book.specs.{Books.{world_book, log_in}, Groups.{kept_count, paired}, Receipts.ShownFits}
+use Rattle.pf_book.specs.{Books.{world_book, log_in}, Pairs.{kept_count, paired}, Receipts.ShownFits}
 use Rattle.pf_book.proofs.book.Book.pair.Given as goal
 
 -- the answers so far, with those to the replies that are left, are all the answers

@@ -1,190 +1,164 @@
-use Rattle.std.proofs.{Common.{true, false, ◌≡◌, ◌<◌, ◌≤◌, ◌+◌, ℕ, List, [], ◌∷◌, ◌++◌, length, map, take, drop, refl, sym, ap, ◌∙◌, subst, arith}, lemmas.{Grind.common_steps, List.{length-append, length-map}, Result.err_from_is_err_and}}
+use Rattle.std.proofs.{Common.{true, false, ◌≡◌, ◌+◌, ℕ, List, [], ◌∷◌, ◌++◌, length, map, refl, sym, ap, ◌∙◌, subst, arith}, lemmas.{Grind.common_steps, List.length-map, Result.err_from_is_err_and}}
 use Rattle.std.specs.Arc.{arc_value}
-use Rattle.pf_disk.specs.Disk.{EachMoment}
+use Rattle.pf_disk.specs.Disk.{EachMoment, IsImage}
 use Rattle.pf_ticket.specs.{Laws.Tickets.IsWithin as AreTicketsWithin, Mentions.{after as moved_by, switches}}
 use Rattle.pf_ticket.proofs.TicketLimits.{keeps_the_limits}
-use Rattle.pf_core.specs.{Durable.Changes.{PlainDurable, PlainChange, after}, Nexts.PlainNext, WorldBooks.WorldBook, Cores.PlainCore, Worlds.{Setting, flat, grouped}}
-use Rattle.pf_store.specs.{Groups.made_all, Rooms.on_device, Stores.{FollowInTurn, Holds, HoldsEither, FindsRoom, IsRoomy, left_by_all}, StoreKept.{Stands, PlainStore}}
+use Rattle.pf_core.specs.{Durable.Changes.{PlainDurable, PlainChange, after}, Nexts.PlainNext, WorldBooks.WorldBook, Cores.PlainCore}
+use Rattle.pf_store.specs.{Groups.made_all, Openings.{IsNoLaterThan, LeavesRoom}, Rooms.on_device, Stores.{FollowInTurn, Holds, HoldsEither, FindsRoom, IsRoomy}, StoreKept.{Stands, PlainStore}}
 use Rattle.pf_store.proofs.Leading.{left_by_made}
-use Rattle.pf_book.specs.{Books.{PlainBook, cut, world_book, world_book_of, IsBook, IsMore, IsPending, HasRoom, setting_in}}
-use Rattle.pf_book.proofs.{Calling.still-either, Finding.{same-room, few-formed, some-formed}, BookInvariant.{acked-is, goes-on, pending-page, more-book, fault-book}, Openable.{itself, later, saved-openable, still-openable}, HistoryGroups.{all-acked, grouped-some, IsGrown, grown-acked, grown-pending}}
+use Rattle.pf_book.specs.Books.{PlainBook, cut, book_of, world_book, world_book_of, IsMore, IsPending, StaysOpenable}
+use Rattle.pf_book.proofs.{Finding.{same-room, few-formed, some-formed}, BookInvariant.{with-pending, more-book, fault-book}, OpenedBooks.{parts, left-of, room-of, same-of, openable-of, none-of, all-of, flat-of, going-of, either-of}, Openable.{itself, later, saved-openable, then-still}, HistoryGroups.{grouped-some, IsGrown, grown-acked, grown-pending}}
+use Rattle.pf_book.proofs.book.Book.save.Given.{Over}
+use Rattle.pf_book.proofs.book.Book.save.Goals.{After-save, After-accept, In-Err-Halted}
 use Rattle.pf_book.proofs.book.Book.save.Goals as goal
 
 pub save-requires-clause-stands : goal.save-requires-clause-stands
 save-requires-clause-stands g c going =
-    let s = c.self.inside in
-    subst (λ (k : PlainDurable). Stands g.D.Disk.seen g.D.Disk.unsynced s.store k) (sym c.durable.ensures) (c.self.invariant.stands going)
+    subst (λ (k : PlainDurable). Stands g.D.Disk.seen g.D.Disk.unsynced c.self.inside.store k) (sym c.durable.ensures) (c.self.invariant.stands going)
 
 pub save-requires-clause-leads : goal.save-requires-clause-leads
 save-requires-clause-leads g c =
-    let s = c.self.inside in
     let es : List PlainChange = map arc_value c.args.changes.now in
-    let left : c.args.next.durable ≡ after s.core.durable es = ap (λ (r : PlainNext). r.durable) c.requires.made ∙ ap (λ (l : PlainBook g.row.D.Denot). after l.whole.durable es) (sym c.self.view_is) in
-    c.deref.ensures ∙ c.in_ok-logged.ensures.after ∙ left ∙ ap (λ (k : PlainDurable). after k es) (sym c.durable.ensures) ∙ sym (left_by_made c.durable.result.now es)
+    c.deref.ensures ∙ c.in_ok-logged.ensures.after ∙ left-of c.self.invariant c.self.view_is c.args.next es c.requires.made ∙ ap (λ (k : PlainDurable). after k es) (sym c.durable.ensures) ∙ sym (left_by_made c.durable.result.now es)
 
 pub save-requires-clause-fit : goal.save-requires-clause-fit
 save-requires-clause-fit g c =
-    let es : List PlainChange = map arc_value c.args.changes.now in
-    subst (λ (k : PlainDurable). FollowInTurn k (made_all es)) (sym c.durable.ensures) (subst (λ (l : PlainBook g.row.D.Denot). FollowInTurn l.whole.durable (made_all es)) (sym c.self.view_is) c.requires.fit)
+    subst (λ (k : PlainDurable). FollowInTurn k (made_all (map arc_value c.args.changes.now))) (ap (λ (l : PlainBook g.row.D.Denot). l.whole.durable) (sym c.self.view_is) ∙ sym c.durable.ensures) c.requires.fit
 
 pub save-requires-clause-early : goal.save-requires-clause-early
 save-requires-clause-early g c going =
-    let s = c.self.inside in
     let i = c.self.invariant in
-    let log : List PlainChange = map arc_value s.log.items in
-    let none : grouped (drop s.acked log) ≡ [] = ap (λ (l : PlainBook g.row.D.Denot). l.pending) c.self.view_is ∙ c.requires.free in
-    let all : s.acked ≡ length log = all-acked log s.acked i.low none in
-    let b : WorldBook = world_book_of g.J.Naming.base s.core log s.sizes.items s.acked (setting_in s.store s.limit) s.shower.shown in
-    let room : HasRoom b (map arc_value c.args.changes.now) = subst (λ (l : PlainBook g.row.D.Denot). HasRoom (world_book l) (map arc_value c.args.changes.now)) (sym c.self.view_is) c.requires.room in
-    omega (arith, i.early going, i.limit, room.few, ap length (acked-is log s.sizes.items s.acked i.cuts all))
+    let room = room-of i c.self.view_is (map arc_value c.args.changes.now) c.requires.room in
+    omega (arith, i.early going, i.limit, room.few, ap length (flat-of i c.self.view_is c.requires.free))
 
 pub returns-in_err-logged-clause-any_moment : goal.returns-in_err-logged-clause-any_moment
 returns-in_err-logged-clause-any_moment g c =
-    let s = c.self.inside in
-    let i = c.self.invariant in
-    let es : List PlainChange = map arc_value c.args.changes.now in
-    let log : List PlainChange = map arc_value s.log.items in
-    let none : grouped (drop s.acked log) ≡ [] = ap (λ (l : PlainBook g.row.D.Denot). l.pending) c.self.view_is ∙ c.requires.free in
-    let b : WorldBook = world_book_of g.J.Naming.base s.core log s.sizes.items s.acked (setting_in s.store s.limit) s.shower.shown in
-    let disk = s.store.disk in
-    subst (λ (l : PlainBook g.row.D.Denot). EachMoment g.D.Disk.moment g.D.Disk.left_since l.disk disk (HoldsEither l.whole.durable (after l.whole.durable es))) c.self.view_is
-    (still-either g.D.Disk.seen g.D.Disk.unsynced g.D.Disk.moment g.D.Disk.left_since b es disk (g.met.D.Disk.only_now disk) i.images i.folded none)
+    either-of c.self.invariant c.self.view_is c.requires.free g.D.Disk.moment g.D.Disk.left_since (g.met.D.Disk.only_now c.self.inside.store.disk) (map arc_value c.args.changes.now) c.self.inside.store.disk refl
 
 pub returns-in_err-logged-clause-err : goal.returns-in_err-logged-clause-err
 returns-in_err-logged-clause-err g c =
-    let s = c.self.inside in
     let p = err_from_is_err_and c.from_residual.result c.from_residual.ensures.1 in
-    let same = ap (λ xs. world_book_of g.J.Naming.base s.core (map arc_value xs) c.prepare.new.sizes.items s.acked (setting_in s.store s.limit) s.shower.shown) c.prepare.ensures.log
-    ∙ ap (λ ns. world_book_of g.J.Naming.base s.core (map arc_value s.log.items) ns s.acked (setting_in s.store s.limit) s.shower.shown) c.prepare.ensures.sizes ∙ ap world_book c.self.view_is in
+    let same = same-of c.self.invariant c.self.view_is c.self.inside.store (map arc_value c.prepare.new.log.items) c.prepare.new.sizes.items refl (ap (map arc_value) c.prepare.ensures.log) c.prepare.ensures.sizes in
     rw (p.1, p.2) (same, c.requires.room)
 
 pub returns-in_err-logged-clause-openable : goal.returns-in_err-logged-clause-openable
-returns-in_err-logged-clause-openable g c =
-    let i = c.self.invariant in
-    let disk = c.self.inside.store.disk in
-    still-openable g.D.Disk.seen g.D.Disk.unsynced g.D.Disk.moment g.D.Disk.left_since _ _ _ c.self.view_is refl refl refl (g.met.D.Disk.only_now disk) i.generations i.roomy
+returns-in_err-logged-clause-openable g c = openable-of c.self.invariant c.self.view_is g.D.Disk.moment g.D.Disk.left_since (g.met.D.Disk.only_now c.self.inside.store.disk) _ refl refl refl
+
+-- what the store's save leaves
+module _ (g : Over) (c : After-save g) where
+  abbrev Each : (List ℕ → Type 0) → Type 0
+  Each P = (image : List ℕ) → IsImage (g.D.Disk.seen c.save.new.self.disk) (g.D.Disk.unsynced c.save.new.self.disk) image → P image
+
+  abbrev Moments : (List ℕ → Type 0) → Type 0
+  Moments P = EachMoment g.D.Disk.moment g.D.Disk.left_since c.self.inside.store.disk c.save.new.self.disk P
+
+  going : c.self.inside.store.halted ≡ false
+  going = going-of c.self.invariant c.self.view_is c.requires.free
+
+  left : c.args.next.durable ≡ after c.self.inside.core.durable (map arc_value c.args.changes.now)
+  left = left-of c.self.invariant c.self.view_is c.args.next (map arc_value c.args.changes.now) c.requires.made
+
+  run : Moments (HoldsEither c.self.inside.core.durable (after c.self.inside.core.durable (map arc_value c.args.changes.now)))
+  run = subst (λ (k : PlainDurable). Moments (HoldsEither c.self.inside.core.durable k)) (c.deref.ensures ∙ c.in_ok-logged.ensures.after ∙ left)
+      (subst (λ (k : PlainDurable). Moments (HoldsEither k c.deref.result.now)) c.durable.ensures (c.save.ensures.any_moment going))
+
+  early : Moments (IsNoLaterThan (c.self.inside.store.generation + 1))
+  early = c.save.ensures.generations going
+
+  leaves : IsRoomy c.self.inside.store.size g.J.Naming.base → Moments LeavesRoom
+  leaves room =
+      let disk = c.self.inside.store.disk in
+      c.save.ensures.roomy going (c.self.invariant.roomy room (g.D.Disk.seen disk) (itself (g.D.Disk.seen disk) (g.D.Disk.unsynced disk)))
+
+  each : (P : List ℕ → Type 0) → Moments P → Each P
+  each P so image is = so.each image (g.met.D.Disk.counts_now c.save.new.self.disk (g.D.Disk.moment c.self.inside.store.disk) image so.later is)
+
+  generations : Each (IsNoLaterThan (c.save.new.self.generation + 1))
+  generations image is =
+      later (c.self.inside.store.generation + 1) (c.save.new.self.generation + 1) (omega (arith, c.save.ensures.generation_stays)) image (each (IsNoLaterThan (c.self.inside.store.generation + 1)) early image is)
+
+  roomy : IsRoomy c.save.new.self.size g.J.Naming.base → Each LeavesRoom
+  roomy room = each LeavesRoom (leaves (subst (λ (n : ℕ). IsRoomy n g.J.Naming.base) c.save.ensures.size room))
+
+  any_moment : EachMoment g.D.Disk.moment g.D.Disk.left_since c.args.self.now.disk c.save.new.self.disk (HoldsEither c.args.self.now.whole.durable (after c.args.self.now.whole.durable (map arc_value c.args.changes.now)))
+  any_moment = subst (λ (l : PlainBook g.row.D.Denot). EachMoment g.D.Disk.moment g.D.Disk.left_since l.disk c.save.new.self.disk (HoldsEither l.whole.durable (after l.whole.durable (map arc_value c.args.changes.now)))) c.self.view_is run
+
+  openable : (new : PlainBook g.row.D.Denot) → new.disk ≡ c.save.new.self.disk → new.generation ≡ c.save.new.self.generation → new.size ≡ c.save.new.self.size → StaysOpenable g.D.Disk.moment g.D.Disk.left_since c.args.self.now new
+  openable new = then-still g.D.Disk.seen g.D.Disk.unsynced g.D.Disk.moment g.D.Disk.left_since c.args.self.now (book_of (record (parts c.self.invariant) { store = c.save.new.self })) new
+      (saved-openable g.D.Disk.seen g.D.Disk.unsynced g.D.Disk.moment g.D.Disk.left_since (book_of (parts c.self.invariant)) c.args.self.now _ c.self.view_is c.save.ensures.generation_stays c.save.ensures.generation c.save.ensures.size early leaves)
+
+-- the changes are one group more
+grown : (g : Over) (c : After-accept g) → IsGrown (parts c.self.invariant) (map arc_value c.put_all.new.log.items) c.push_reserved.new.self.items (c.self.inside.acked + length c.args.changes.now) (map arc_value c.args.changes.now)
+grown g c =
+    let s = c.self.inside in
+    let es : List PlainChange = map arc_value c.args.changes.now in
+    let logged : map arc_value c.put_all.new.log.items ≡ map arc_value s.log.items ++ es = grind (arith, common_steps, c.put_all.ensures, c.prepare.ensures.log, c.in_ok-logged.ensures.logged) in
+    let counted : length c.args.changes.now ≡ length es = sym (length-map c.args.changes.now arc_value) in
+    let found : FindsRoom c.args.self.now.size c.args.self.now.whole.durable c.args.next.durable es = c.requires.found in
+    record {
+      cuts = c.self.invariant.cuts;
+      all = all-of c.self.invariant c.self.view_is c.requires.free;
+      some = some-formed es found.formed;
+      logged = logged;
+      sized = c.push_reserved.ensures.items ∙ ap (λ (ns : List ℕ). ns ++ length c.args.changes.now ∷ []) c.prepare.ensures.sizes ∙ ap (λ (n : ℕ). s.sizes.items ++ n ∷ []) counted;
+      counted = ap (λ (n : ℕ). s.acked + n) counted;
+    }
 
 pub invariant_of-self-in-Ok : goal.invariant_of-self-in-Ok
 invariant_of-self-in-Ok g c =
     let s = c.self.inside in
     let i = c.self.invariant in
+    let saved = (goal.at.invariant_of-self-in-Ok g c).After-save in
     let es : List PlainChange = map arc_value c.args.changes.now in
-    let log : List PlainChange = map arc_value s.log.items in
-    let none : grouped (drop s.acked log) ≡ [] = ap (λ (l : PlainBook g.row.D.Denot). l.pending) c.self.view_is ∙ c.requires.free in
-    let all : s.acked ≡ length log = all-acked log s.acked i.low none in
-    let disk = s.store.disk in
-    let going : s.store.halted ≡ false = goes-on s.store.halted log s.acked i.halted all in
-    let left : c.args.next.durable ≡ after s.core.durable es = ap (λ (r : PlainNext). r.durable) c.requires.made ∙ ap (λ (l : PlainBook g.row.D.Denot). after l.whole.durable es) (sym c.self.view_is) in
-    let next : c.deref.result.now ≡ after s.core.durable es = c.deref.ensures ∙ c.in_ok-logged.ensures.after ∙ left in
-    let log' : List PlainChange = map arc_value c.put_all.new.log.items in
-    let logged : log' ≡ log ++ es = grind (arith, common_steps, c.put_all.ensures, c.prepare.ensures.log, c.in_ok-logged.ensures.logged) in
     let counted : length c.args.changes.now ≡ length es = sym (length-map c.args.changes.now arc_value) in
-    let sizes' : List ℕ = c.push_reserved.new.self.items in
-    let sized : sizes' ≡ s.sizes.items ++ length es ∷ [] = c.push_reserved.ensures.items ∙ ap (λ (ns : List ℕ). ns ++ length c.args.changes.now ∷ []) c.prepare.ensures.sizes ∙ ap (λ (n : ℕ). s.sizes.items ++ n ∷ []) counted in
-    let room : HasRoom (world_book_of g.J.Naming.base s.core log s.sizes.items s.acked (setting_in s.store s.limit) s.shower.shown) es = subst (λ (l : PlainBook g.row.D.Denot). HasRoom (world_book l) es) (sym c.self.view_is) c.requires.room in
-    let d = c.in-Ok.ensures in
-    let found : FindsRoom c.args.self.now.size c.args.self.now.whole.durable c.args.next.durable es = c.requires.found in
-    let grown : IsGrown log log' s.sizes.items sizes' s.acked (s.acked + length c.args.changes.now) es = record {
-      cuts = i.cuts;
-      all = all;
-      some = some-formed es found.formed;
-      logged = logged;
-      sized = sized;
-      counted = ap (λ (n : ℕ). s.acked + n) counted;
-    } in
-    let whole : c.accept.new.self.durable ≡ after s.core.durable es = ap (λ (w : PlainCore). w.durable) c.accept.ensures ∙ left in
-    let kept : c.deref.result.now ≡ c.accept.new.self.durable = next ∙ sym whole in
-    let tickets : AreTicketsWithin c.accept.new.self.tickets = subst (λ (w : PlainCore). AreTicketsWithin w.tickets) (sym c.accept.ensures) (keeps_the_limits.commit s.core.tickets c.args.next.voided i.tickets) in
+    let kept = c.in-Ok.ensures in
     let noted = c.in_ok-logged.ensures.noted in
-    more-book g.D.Disk.seen g.D.Disk.unsynced s.store c.save.new.self g.J.Naming.base s.core c.accept.new.self (arc_value s.durable) _ log log' s.sizes.items sizes' s.acked (s.acked + length c.args.changes.now) es s.offered
-    (setting_in s.store s.limit) (setting_in c.save.new.self s.limit) s.shower s.tip c.note_all.new.tip s.front c.front.result i grown
-    (c.note_all.ensures.front ∙ ap (λ (l : List PlainChange). s.tip.front ++ l) noted)
-    (omega (arith, c.note_all.ensures.acked, simp length-map at (ap length noted)))
-    c.front.ensures whole tickets (c.in_ok-logged.ensures.after ∙ left ∙ sym whole) going d.goes_on
-    (subst (λ (k : PlainDurable). Stands g.D.Disk.seen g.D.Disk.unsynced c.save.new.self k) kept d.stands)
-    d.generation i.limit (omega (arith, room.few, ap length logged, length-append log es, ap length (acked-is log s.sizes.items s.acked i.cuts all)))
-    (λ image is. subst (λ (k : PlainDurable). Holds image k) kept (d.images image is))
-    (λ image is. let run = c.save.ensures.generations going in
-    later (s.store.generation + 1) (c.save.new.self.generation + 1) (omega (arith, c.save.ensures.generation_stays)) image (run.each image (g.met.D.Disk.counts_now c.save.new.self.disk (g.D.Disk.moment disk) image run.later is)))
-    (λ room image is. let run = c.save.ensures.roomy going (i.roomy (subst (λ (n : ℕ). IsRoomy n g.J.Naming.base) c.save.ensures.size room) (g.D.Disk.seen disk) (itself (g.D.Disk.seen disk) (g.D.Disk.unsynced disk))) in
-    run.each image (g.met.D.Disk.counts_now c.save.new.self.disk (g.D.Disk.moment disk) image run.later is))
+    let whole : c.accept.new.self.durable ≡ after s.core.durable es = ap (λ (w : PlainCore). w.durable) c.accept.ensures ∙ left g saved in
+    let next : c.deref.result.now ≡ c.accept.new.self.durable = c.deref.ensures ∙ c.in_ok-logged.ensures.after ∙ left g saved ∙ sym whole in
+    more-book i c.save.new.self c.accept.new.self _ (map arc_value c.put_all.new.log.items) c.push_reserved.new.self.items (s.acked + length c.args.changes.now) c.note_all.new.tip c.front.result es
+    (grown g (goal.at.invariant_of-self-in-Ok g c).After-accept) (room-of i c.self.view_is es c.requires.room)
+    (c.note_all.ensures.front ∙ ap (λ (l : List PlainChange). s.tip.front ++ l) noted) (omega (arith, c.note_all.ensures.acked, simp length-map at (ap length noted))) c.front.ensures
+    whole (subst (λ (w : PlainCore). AreTicketsWithin w.tickets) (sym c.accept.ensures) (keeps_the_limits.commit s.core.tickets c.args.next.voided i.tickets)) (c.in_ok-logged.ensures.after ∙ left g saved ∙ sym whole)
+    (going g saved) kept.goes_on (subst (λ (k : PlainDurable). Stands g.D.Disk.seen g.D.Disk.unsynced c.save.new.self k) next kept.stands) kept.generation
+    (λ image is. subst (λ (k : PlainDurable). Holds image k) next (kept.images image is)) (generations g saved) (roomy g saved)
 
 pub returns-in-Ok-clause-ok : goal.returns-in-Ok-clause-ok
 returns-in-Ok-clause-ok g c =
     let s = c.self.inside in
     let i = c.self.invariant in
     let es : List PlainChange = map arc_value c.args.changes.now in
-    let log : List PlainChange = map arc_value s.log.items in
-    let none : grouped (drop s.acked log) ≡ [] = ap (λ (l : PlainBook g.row.D.Denot). l.pending) c.self.view_is ∙ c.requires.free in
-    let all : s.acked ≡ length log = all-acked log s.acked i.low none in
-    let b : WorldBook = world_book_of g.J.Naming.base s.core log s.sizes.items s.acked (setting_in s.store s.limit) s.shower.shown in
-    let log' : List PlainChange = map arc_value c.put_all.new.log.items in
-    let logged : log' ≡ log ++ es = grind (arith, common_steps, c.put_all.ensures, c.prepare.ensures.log, c.in_ok-logged.ensures.logged) in
-    let counted : length c.args.changes.now ≡ length es = sym (length-map c.args.changes.now arc_value) in
-    let sizes' : List ℕ = c.push_reserved.new.self.items in
-    let sized : sizes' ≡ s.sizes.items ++ length es ∷ [] = c.push_reserved.ensures.items ∙ ap (λ (ns : List ℕ). ns ++ length c.args.changes.now ∷ []) c.prepare.ensures.sizes ∙ ap (λ (n : ℕ). s.sizes.items ++ n ∷ []) counted in
-    let found : FindsRoom c.args.self.now.size c.args.self.now.whole.durable c.args.next.durable es = c.requires.found in
-    let some : 0 < length es = some-formed es found.formed in
-    let grown : IsGrown log log' s.sizes.items sizes' s.acked (s.acked + length c.args.changes.now) es = record {
-      cuts = i.cuts;
-      all = all;
-      some = some;
-      logged = logged;
-      sized = sized;
-      counted = ap (λ (n : ℕ). s.acked + n) counted;
-    } in
-    let room : HasRoom b es = subst (λ (l : PlainBook g.row.D.Denot). HasRoom (world_book l) es) (sym c.self.view_is) c.requires.room in
-    subst (λ (l : PlainBook g.row.D.Denot). IsMore (world_book l) (world_book_of g.J.Naming.base c.accept.new.self log' sizes' (s.acked + length c.args.changes.now) (setting_in c.save.new.self s.limit) s.shower.shown) es) c.self.view_is (record {
-      room = room;
+    let more = grown g (goal.at.returns-in-Ok-clause-ok g c).After-accept in
+    let new : WorldBook = world_book_of (record (parts i) { store = c.save.new.self; whole = c.accept.new.self; log = map arc_value c.put_all.new.log.items; sizes = c.push_reserved.new.self.items; acked = s.acked + length c.args.changes.now }) in
+    subst (λ (l : PlainBook g.row.D.Denot). IsMore (world_book l) new es) c.self.view_is (record {
+      room = room-of i c.self.view_is es c.requires.room;
       base = refl;
       tickets = ap (λ (w : PlainCore). w.tickets) c.accept.ensures ∙ ap (λ (r : PlainNext). moved_by s.core.tickets (switches r.voided)) c.requires.made;
-      acked = grown-acked log log' s.sizes.items sizes' s.acked (s.acked + length c.args.changes.now) es grown ∙ ap (λ (gs : List (List PlainChange)). cut s.sizes.items log ++ gs) (sym (grouped-some es some));
-      pending = grown-pending log log' s.sizes.items sizes' s.acked (s.acked + length c.args.changes.now) es grown ∙ sym none;
+      acked = grown-acked more ∙ ap (λ (gs : List (List PlainChange)). cut s.sizes.items (map arc_value s.log.items) ++ gs) (sym (grouped-some es more.some));
+      pending = grown-pending more ∙ sym (none-of i c.self.view_is c.requires.free);
       setting = ap (λ (n : ℕ). on_device s.limit n) c.in-Ok.ensures.size;
       shown = refl;
     })
 
 pub returns-in-Ok-clause-any_moment : goal.returns-in-Ok-clause-any_moment
-returns-in-Ok-clause-any_moment g c =
-    let s = c.self.inside in
-    let i = c.self.invariant in
-    let es : List PlainChange = map arc_value c.args.changes.now in
-    let log : List PlainChange = map arc_value s.log.items in
-    let none : grouped (drop s.acked log) ≡ [] = ap (λ (l : PlainBook g.row.D.Denot). l.pending) c.self.view_is ∙ c.requires.free in
-    let going : s.store.halted ≡ false = goes-on s.store.halted log s.acked i.halted (all-acked log s.acked i.low none) in
-    let disk = s.store.disk in
-    let left : c.args.next.durable ≡ after s.core.durable es = ap (λ (r : PlainNext). r.durable) c.requires.made ∙ ap (λ (l : PlainBook g.row.D.Denot). after l.whole.durable es) (sym c.self.view_is) in
-    let next : c.deref.result.now ≡ after s.core.durable es = c.deref.ensures ∙ c.in_ok-logged.ensures.after ∙ left in
-    let run : EachMoment g.D.Disk.moment g.D.Disk.left_since disk c.save.new.self.disk (HoldsEither s.core.durable (after s.core.durable es)) =
-    subst (λ (k : PlainDurable). EachMoment g.D.Disk.moment g.D.Disk.left_since disk c.save.new.self.disk (HoldsEither s.core.durable k)) next
-    (subst (λ (k : PlainDurable). EachMoment g.D.Disk.moment g.D.Disk.left_since disk c.save.new.self.disk (HoldsEither k c.deref.result.now)) c.durable.ensures (c.save.ensures.any_moment going)) in
-    subst (λ (l : PlainBook g.row.D.Denot). EachMoment g.D.Disk.moment g.D.Disk.left_since l.disk c.save.new.self.disk (HoldsEither l.whole.durable (after l.whole.durable es))) c.self.view_is run
+returns-in-Ok-clause-any_moment g c = any_moment g (goal.at.returns-in-Ok-clause-any_moment g c).After-save
+
+pub returns-in-Ok-clause-openable : goal.returns-in-Ok-clause-openable
+returns-in-Ok-clause-openable g c = openable g (goal.at.returns-in-Ok-clause-openable g c).After-save _ refl refl refl
 
 pub returns-in-Err-Memory-clause-any_moment : goal.returns-in-Err-Memory-clause-any_moment
 returns-in-Err-Memory-clause-any_moment g c =
-    let s = c.self.inside in
-    let i = c.self.invariant in
-    let es : List PlainChange = map arc_value c.args.changes.now in
-    let log : List PlainChange = map arc_value s.log.items in
-    let none : grouped (drop s.acked log) ≡ [] = ap (λ (l : PlainBook g.row.D.Denot). l.pending) c.self.view_is ∙ c.requires.free in
-    let b : WorldBook = world_book_of g.J.Naming.base s.core log s.sizes.items s.acked (setting_in s.store s.limit) s.shower.shown in
-    let disk = s.store.disk in
     let f = rw c.in-Err-Memory.field-0-is at c.in-Err-Memory.ensures in
-    let same : c.save.new.self ≡ s.store = f.unchanged (λ x. cc (x)) in
-    subst (λ (x : PlainStore g.row.D.Denot). EachMoment g.D.Disk.moment g.D.Disk.left_since c.args.self.now.disk x.disk (HoldsEither c.args.self.now.whole.durable (after c.args.self.now.whole.durable es))) (sym same)
-    (subst (λ (l : PlainBook g.row.D.Denot). EachMoment g.D.Disk.moment g.D.Disk.left_since l.disk disk (HoldsEither l.whole.durable (after l.whole.durable es))) c.self.view_is
-    (still-either g.D.Disk.seen g.D.Disk.unsynced g.D.Disk.moment g.D.Disk.left_since b es disk (g.met.D.Disk.only_now disk) i.images i.folded none))
+    let same : c.save.new.self ≡ c.self.inside.store = f.unchanged (λ x. cc (x)) in
+    either-of c.self.invariant c.self.view_is c.requires.free g.D.Disk.moment g.D.Disk.left_since (g.met.D.Disk.only_now c.self.inside.store.disk) (map arc_value c.args.changes.now) c.save.new.self.disk (ap (λ (x : PlainStore g.row.D.Denot). x.disk) same)
 
 pub returns-in-Err-Memory-clause-err : goal.returns-in-Err-Memory-clause-err
 returns-in-Err-Memory-clause-err g c =
-    let s = c.self.inside in
     let f = rw c.in-Err-Memory.field-0-is at c.in-Err-Memory.ensures in
-    let same : c.save.new.self ≡ s.store = f.unchanged (λ x. cc (x)) in (
-      ap (λ xs. world_book_of g.J.Naming.base s.core (map arc_value xs) c.prepare.new.sizes.items s.acked (setting_in c.save.new.self s.limit) s.shower.shown) c.prepare.ensures.log
-          ∙ ap (λ ns. world_book_of g.J.Naming.base s.core (map arc_value s.log.items) ns s.acked (setting_in c.save.new.self s.limit) s.shower.shown) c.prepare.ensures.sizes
-          ∙ ap (λ (x : PlainStore g.row.D.Denot). world_book_of g.J.Naming.base s.core (map arc_value s.log.items) s.sizes.items s.acked (setting_in x s.limit) s.shower.shown) same ∙ ap world_book c.self.view_is,
-      c.requires.room,
-    )
+    let unchanged : c.save.new.self ≡ c.self.inside.store = f.unchanged (λ x. cc (x)) in
+    (same-of c.self.invariant c.self.view_is c.save.new.self (map arc_value c.prepare.new.log.items) c.prepare.new.sizes.items unchanged (ap (map arc_value) c.prepare.ensures.log) c.prepare.ensures.sizes, c.requires.room)
+
+pub returns-in-Err-Memory-clause-openable : goal.returns-in-Err-Memory-clause-openable
+returns-in-Err-Memory-clause-openable g c = openable g (goal.at.returns-in-Err-Memory-clause-openable g c).After-save _ refl refl refl
 
 -- if the changes find room the store isn't full
 pub unreachable-requires : goal.unreachable-requires
@@ -200,135 +174,48 @@ pub invariant_of-self-in-Err-Fault : goal.invariant_of-self-in-Err-Fault
 invariant_of-self-in-Err-Fault g c =
     let s = c.self.inside in
     let i = c.self.invariant in
+    let saved = (goal.at.invariant_of-self-in-Err-Fault g c).After-save in
     let es : List PlainChange = map arc_value c.args.changes.now in
-    let log : List PlainChange = map arc_value s.log.items in
-    let none : grouped (drop s.acked log) ≡ [] = ap (λ (l : PlainBook g.row.D.Denot). l.pending) c.self.view_is ∙ c.requires.free in
-    let all : s.acked ≡ length log = all-acked log s.acked i.low none in
-    let going : s.store.halted ≡ false = goes-on s.store.halted log s.acked i.halted all in
-    let disk = s.store.disk in
-    let left : c.args.next.durable ≡ after s.core.durable es = ap (λ (r : PlainNext). r.durable) c.requires.made ∙ ap (λ (l : PlainBook g.row.D.Denot). after l.whole.durable es) (sym c.self.view_is) in
-    let next : c.deref.result.now ≡ after s.core.durable es = c.deref.ensures ∙ c.in_ok-logged.ensures.after ∙ left in
-    let run : EachMoment g.D.Disk.moment g.D.Disk.left_since disk c.save.new.self.disk (HoldsEither s.core.durable (after s.core.durable es)) =
-    subst (λ (k : PlainDurable). EachMoment g.D.Disk.moment g.D.Disk.left_since disk c.save.new.self.disk (HoldsEither s.core.durable k)) next
-    (subst (λ (k : PlainDurable). EachMoment g.D.Disk.moment g.D.Disk.left_since disk c.save.new.self.disk (HoldsEither k c.deref.result.now)) c.durable.ensures (c.save.ensures.any_moment going)) in
-    let log' : List PlainChange = map arc_value c.put_all-in-Err-Fault.new.log.items in
-    let logged : log' ≡ log ++ es = grind (arith, common_steps, c.put_all-in-Err-Fault.ensures, c.prepare.ensures.log, c.in_ok-logged.ensures.logged) in
+    let logged : map arc_value c.put_all-in-Err-Fault.new.log.items ≡ map arc_value s.log.items ++ es = grind (arith, common_steps, c.put_all-in-Err-Fault.ensures, c.prepare.ensures.log, c.in_ok-logged.ensures.logged) in
     let found : FindsRoom c.args.self.now.size c.args.self.now.whole.durable c.args.next.durable es = c.requires.found in
-    let room : HasRoom (world_book_of g.J.Naming.base s.core log s.sizes.items s.acked (setting_in s.store s.limit) s.shower.shown) es = subst (λ (l : PlainBook g.row.D.Denot). HasRoom (world_book l) es) (sym c.self.view_is) c.requires.room in
-    let noted = c.in_ok-logged.ensures.noted in
     let f = rw c.in-Err-Fault.field-0-is at c.in-Err-Fault.ensures in
-    subst (λ (ns : List ℕ). IsBook g.D.Disk.seen g.D.Disk.unsynced c.save.new.self (world_book_of g.J.Naming.base s.core log' ns s.acked (setting_in c.save.new.self s.limit) s.shower.shown) (arc_value s.durable) log' ns s.acked s.offered s.shower c.note_all-in-Err-Fault.new.tip s.front)
-    (sym c.prepare.ensures.sizes)
-    (fault-book g.D.Disk.seen g.D.Disk.unsynced s.store c.save.new.self g.J.Naming.base s.core (arc_value s.durable) log log' es s.sizes.items s.acked s.offered (setting_in s.store s.limit) (setting_in c.save.new.self s.limit) s.shower s.tip c.note_all-in-Err-Fault.new.tip s.front i
-    all (some-formed es found.formed) (few-formed es found.formed) logged
-    (c.note_all-in-Err-Fault.ensures.front ∙ ap (λ (l : List PlainChange). s.tip.front ++ l) noted) (omega (arith, c.note_all-in-Err-Fault.ensures.acked)) (f.halts refl) i.limit (omega (arith, room.few, ap length logged, length-append log es, ap length (acked-is log s.sizes.items s.acked i.cuts all)))
-    (λ image is. run.each image (g.met.D.Disk.counts_now c.save.new.self.disk (g.D.Disk.moment disk) image run.later is))
-    (λ image is. let run = c.save.ensures.generations going in
-    later (s.store.generation + 1) (c.save.new.self.generation + 1) (omega (arith, c.save.ensures.generation_stays)) image (run.each image (g.met.D.Disk.counts_now c.save.new.self.disk (g.D.Disk.moment disk) image run.later is)))
-    (λ room image is. let run = c.save.ensures.roomy going (i.roomy (subst (λ (n : ℕ). IsRoomy n g.J.Naming.base) c.save.ensures.size room) (g.D.Disk.seen disk) (itself (g.D.Disk.seen disk) (g.D.Disk.unsynced disk))) in
-    run.each image (g.met.D.Disk.counts_now c.save.new.self.disk (g.D.Disk.moment disk) image run.later is)))
+    fault-book i c.save.new.self (map arc_value c.put_all-in-Err-Fault.new.log.items) c.prepare.new.sizes.items c.note_all-in-Err-Fault.new.tip es
+    (all-of i c.self.view_is c.requires.free) (some-formed es found.formed) (few-formed es found.formed) (room-of i c.self.view_is es c.requires.room) logged c.prepare.ensures.sizes
+    (c.note_all-in-Err-Fault.ensures.front ∙ ap (λ (l : List PlainChange). s.tip.front ++ l) c.in_ok-logged.ensures.noted) (omega (arith, c.note_all-in-Err-Fault.ensures.acked)) (f.halts refl)
+    (each g saved _ (run g saved)) (generations g saved) (roomy g saved)
 
 pub returns-in-Err-Fault-clause-err : goal.returns-in-Err-Fault-clause-err
 returns-in-Err-Fault-clause-err g c =
     let s = c.self.inside in
     let i = c.self.invariant in
     let es : List PlainChange = map arc_value c.args.changes.now in
-    let log : List PlainChange = map arc_value s.log.items in
-    let none : grouped (drop s.acked log) ≡ [] = ap (λ (l : PlainBook g.row.D.Denot). l.pending) c.self.view_is ∙ c.requires.free in
-    let all : s.acked ≡ length log = all-acked log s.acked i.low none in
-    let setting : Setting = setting_in s.store s.limit in
-    let b : WorldBook = world_book_of g.J.Naming.base s.core log s.sizes.items s.acked setting s.shower.shown in
-    let log' : List PlainChange = map arc_value c.put_all-in-Err-Fault.new.log.items in
-    let logged : log' ≡ log ++ es = grind (arith, common_steps, c.put_all-in-Err-Fault.ensures, c.prepare.ensures.log, c.in_ok-logged.ensures.logged) in
-    let setting' : Setting = setting_in c.save.new.self s.limit in
+    let logged : map arc_value c.put_all-in-Err-Fault.new.log.items ≡ map arc_value s.log.items ++ es = grind (arith, common_steps, c.put_all-in-Err-Fault.ensures, c.prepare.ensures.log, c.in_ok-logged.ensures.logged) in
     let f = rw c.in-Err-Fault.field-0-is at c.in-Err-Fault.ensures in
-    let room : HasRoom b es = subst (λ (l : PlainBook g.row.D.Denot). HasRoom (world_book l) es) (sym c.self.view_is) c.requires.room in
-    subst (λ (ns : List ℕ). IsPending (world_book c.args.self.now) (world_book_of g.J.Naming.base s.core log' ns s.acked setting' s.shower.shown) es) (sym c.prepare.ensures.sizes)
-    (subst (λ (l : PlainBook g.row.D.Denot). IsPending (world_book l) (world_book_of g.J.Naming.base s.core log' s.sizes.items s.acked setting' s.shower.shown) es) c.self.view_is
-    (record { room = room; same = pending-page g.J.Naming.base s.core log log' es s.sizes.items s.acked setting setting' s.shower.shown i.cuts logged all (ap (λ (n : ℕ). on_device s.limit n) f.size) }))
+    let new : WorldBook = world_book_of (record (parts i) { store = c.save.new.self; log = map arc_value c.put_all-in-Err-Fault.new.log.items; sizes = c.prepare.new.sizes.items }) in
+    subst (λ (l : PlainBook g.row.D.Denot). IsPending (world_book l) new es) c.self.view_is (record {
+      room = room-of i c.self.view_is es c.requires.room;
+      same = with-pending (parts i) c.save.new.self (map arc_value c.put_all-in-Err-Fault.new.log.items) es c.prepare.new.sizes.items i.cuts (all-of i c.self.view_is c.requires.free) logged c.prepare.ensures.sizes f.size;
+    })
 
 pub returns-in-Err-Fault-clause-any_moment : goal.returns-in-Err-Fault-clause-any_moment
-returns-in-Err-Fault-clause-any_moment g c =
-    let s = c.self.inside in
-    let i = c.self.invariant in
-    let es : List PlainChange = map arc_value c.args.changes.now in
-    let log : List PlainChange = map arc_value s.log.items in
-    let none : grouped (drop s.acked log) ≡ [] = ap (λ (l : PlainBook g.row.D.Denot). l.pending) c.self.view_is ∙ c.requires.free in
-    let going : s.store.halted ≡ false = goes-on s.store.halted log s.acked i.halted (all-acked log s.acked i.low none) in
-    let disk = s.store.disk in
-    let left : c.args.next.durable ≡ after s.core.durable es = ap (λ (r : PlainNext). r.durable) c.requires.made ∙ ap (λ (l : PlainBook g.row.D.Denot). after l.whole.durable es) (sym c.self.view_is) in
-    let next : c.deref.result.now ≡ after s.core.durable es = c.deref.ensures ∙ c.in_ok-logged.ensures.after ∙ left in
-    let run : EachMoment g.D.Disk.moment g.D.Disk.left_since disk c.save.new.self.disk (HoldsEither s.core.durable (after s.core.durable es)) =
-    subst (λ (k : PlainDurable). EachMoment g.D.Disk.moment g.D.Disk.left_since disk c.save.new.self.disk (HoldsEither s.core.durable k)) next
-    (subst (λ (k : PlainDurable). EachMoment g.D.Disk.moment g.D.Disk.left_since disk c.save.new.self.disk (HoldsEither k c.deref.result.now)) c.durable.ensures (c.save.ensures.any_moment going)) in
-    subst (λ (l : PlainBook g.row.D.Denot). EachMoment g.D.Disk.moment g.D.Disk.left_since l.disk c.save.new.self.disk (HoldsEither l.whole.durable (after l.whole.durable es))) c.self.view_is run
-
-pub returns-in-Ok-clause-openable : goal.returns-in-Ok-clause-openable
-returns-in-Ok-clause-openable g c =
-    let s = c.self.inside in
-    let i = c.self.invariant in
-    let log : List PlainChange = map arc_value s.log.items in
-    let none : grouped (drop s.acked log) ≡ [] = ap (λ (l : PlainBook g.row.D.Denot). l.pending) c.self.view_is ∙ c.requires.free in
-    let going : s.store.halted ≡ false = goes-on s.store.halted log s.acked i.halted (all-acked log s.acked i.low none) in
-    let disk = s.store.disk in
-    let f = c.save.ensures in
-    saved-openable g.D.Disk.seen g.D.Disk.unsynced g.D.Disk.moment g.D.Disk.left_since _ _ _ c.self.view_is f.generation_stays f.generation f.size (f.generations going)
-    (λ room. f.roomy going (i.roomy room (g.D.Disk.seen disk) (itself (g.D.Disk.seen disk) (g.D.Disk.unsynced disk))))
-
-pub returns-in-Err-Memory-clause-openable : goal.returns-in-Err-Memory-clause-openable
-returns-in-Err-Memory-clause-openable g c =
-    let s = c.self.inside in
-    let i = c.self.invariant in
-    let log : List PlainChange = map arc_value s.log.items in
-    let none : grouped (drop s.acked log) ≡ [] = ap (λ (l : PlainBook g.row.D.Denot). l.pending) c.self.view_is ∙ c.requires.free in
-    let going : s.store.halted ≡ false = goes-on s.store.halted log s.acked i.halted (all-acked log s.acked i.low none) in
-    let disk = s.store.disk in
-    let f = c.save.ensures in
-    saved-openable g.D.Disk.seen g.D.Disk.unsynced g.D.Disk.moment g.D.Disk.left_since _ _ _ c.self.view_is f.generation_stays f.generation f.size (f.generations going)
-    (λ room. f.roomy going (i.roomy room (g.D.Disk.seen disk) (itself (g.D.Disk.seen disk) (g.D.Disk.unsynced disk))))
+returns-in-Err-Fault-clause-any_moment g c = any_moment g (goal.at.returns-in-Err-Fault-clause-any_moment g c).After-save
 
 pub returns-in-Err-Fault-clause-openable : goal.returns-in-Err-Fault-clause-openable
-returns-in-Err-Fault-clause-openable g c =
-    let s = c.self.inside in
-    let i = c.self.invariant in
-    let log : List PlainChange = map arc_value s.log.items in
-    let none : grouped (drop s.acked log) ≡ [] = ap (λ (l : PlainBook g.row.D.Denot). l.pending) c.self.view_is ∙ c.requires.free in
-    let going : s.store.halted ≡ false = goes-on s.store.halted log s.acked i.halted (all-acked log s.acked i.low none) in
-    let disk = s.store.disk in
-    let f = c.save.ensures in
-    saved-openable g.D.Disk.seen g.D.Disk.unsynced g.D.Disk.moment g.D.Disk.left_since _ _ _ c.self.view_is f.generation_stays f.generation f.size (f.generations going)
-    (λ room. f.roomy going (i.roomy room (g.D.Disk.seen disk) (itself (g.D.Disk.seen disk) (g.D.Disk.unsynced disk))))
+returns-in-Err-Fault-clause-openable g c = openable g (goal.at.returns-in-Err-Fault-clause-openable g c).After-save _ refl refl refl
 
 -- the store isn't halted if nothing is pending
-pub returns-clause-err : goal.returns-clause-err
-returns-clause-err g c =
-    let s = c.self.inside in
-    let i = c.self.invariant in
-    let log : List PlainChange = map arc_value s.log.items in
-    let none : grouped (drop s.acked log) ≡ [] = ap (λ (l : PlainBook g.row.D.Denot). l.pending) c.self.view_is ∙ c.requires.free in
-    let going : s.store.halted ≡ false = goes-on s.store.halted log s.acked i.halted (all-acked log s.acked i.low none) in
+never : (g : Over) (c : In-Err-Halted g) → ⊥
+never g c =
     let f = rw c.in-Err-Halted.field-0-is at c.in-Err-Halted.ensures in
-    let was : s.store.halted ≡ true = f.halted.0 refl in
-    absurd (cc (was, going))
+    let was : c.self.inside.store.halted ≡ true = f.halted.0 refl in
+    let going : c.self.inside.store.halted ≡ false = going-of c.self.invariant c.self.view_is c.requires.free in
+    cc (was, going)
+
+pub returns-clause-err : goal.returns-clause-err
+returns-clause-err g c = absurd (never g (goal.at.returns-clause-err g c).In-Err-Halted)
 
 pub returns-clause-any_moment : goal.returns-clause-any_moment
-returns-clause-any_moment g c =
-    let s = c.self.inside in
-    let i = c.self.invariant in
-    let log : List PlainChange = map arc_value s.log.items in
-    let none : grouped (drop s.acked log) ≡ [] = ap (λ (l : PlainBook g.row.D.Denot). l.pending) c.self.view_is ∙ c.requires.free in
-    let going : s.store.halted ≡ false = goes-on s.store.halted log s.acked i.halted (all-acked log s.acked i.low none) in
-    let f = rw c.in-Err-Halted.field-0-is at c.in-Err-Halted.ensures in
-    let was : s.store.halted ≡ true = f.halted.0 refl in
-    absurd (cc (was, going))
+returns-clause-any_moment g c = absurd (never g (goal.at.returns-clause-any_moment g c).In-Err-Halted)
 
 pub returns-clause-openable : goal.returns-clause-openable
-returns-clause-openable g c =
-    let s = c.self.inside in
-    let i = c.self.invariant in
-    let log : List PlainChange = map arc_value s.log.items in
-    let none : grouped (drop s.acked log) ≡ [] = ap (λ (l : PlainBook g.row.D.Denot). l.pending) c.self.view_is ∙ c.requires.free in
-    let going : s.store.halted ≡ false = goes-on s.store.halted log s.acked i.halted (all-acked log s.acked i.low none) in
-    let f = rw c.in-Err-Halted.field-0-is at c.in-Err-Halted.ensures in
-    let was : s.store.halted ≡ true = f.halted.0 refl in
-    absurd (cc (was, going))
+returns-clause-openable g c = absurd (never g (goal.at.returns-clause-openable g c).In-Err-Halted)

@@ -1,9 +1,9 @@
-use Rattle.std.proofs.Common.{◌≡◌, List, map, take, sym, ap, ◌∙◌, subst}
+use Rattle.std.proofs.Common.{◌≡◌, List, length, map, take, sym, ap, ◌∙◌, subst}
 use Rattle.std.specs.{Arc.arc_value}
 use mathlib.Core.List.{IsPrefix}
-use Rattle.pf_core.specs.{Durable.Changes.{PlainChange, after}, Worlds.Setting}
-use Rattle.pf_book.specs.Books.{PlainBook, world_book, world_book_of, shows_all, setting_in}
-use Rattle.pf_book.proofs.{BookInvariant.{shown-book, shows-page}, HistoryGroups.{flat-acked, prefix_take, shown_either}}
+use Rattle.pf_core.specs.Durable.Changes.{PlainChange, after}
+use Rattle.pf_book.specs.Books.{PlainBook, world_book, world_book_of, shows_all}
+use Rattle.pf_book.proofs.{BookInvariant.{shown-book, shows-acked}, OpenedBooks.parts, HistoryGroups.{flat-acked, prefix_take, shown_either}}
 use Rattle.pf_book.proofs.book.Book.show_all.Goals.{in-Ok, in-Err}
 use Rattle.pf_book.proofs.book.Book.show_all.Goals as goal
 
@@ -23,18 +23,16 @@ invariant_of-self-2 g c =
     subst (λ (l : List PlainChange). IsPrefix s.shower.shown l) (sym offered) (prefix_take log s.shower.shown s.offered s.acked i.offered_low (subst (λ (l : List PlainChange). IsPrefix s.shower.shown l) i.offered_is i.shown_is)) in
     let still : IsPrefix c.offer_rest.new.shower.shown c.offer_rest.new.shower.offered = subst (λ (l : List PlainChange). IsPrefix l c.offer_rest.new.shower.offered) (sym c.offer_rest.ensures.shown) before in
     let shown : IsPrefix c.show.new.self.shown c.offer_rest.new.shower.offered = shown_either c.show.result c.offer_rest.new.shower.shown c.show.new.self.shown c.offer_rest.new.shower.offered c.show.ensures.ok c.show.ensures.err still in
-    shown-book g.D.Disk.seen g.D.Disk.unsynced s.store g.J.Naming.base s.core (arc_value s.durable) log s.sizes.items s.acked s.offered
-    (setting_in s.store s.limit) s.shower c.show.new.self s.tip s.front i (c.show.ensures.offered ∙ offered) (subst (λ (l : List PlainChange). IsPrefix c.show.new.self.shown l) (sym c.show.ensures.offered) shown)
+    shown-book i c.show.new.self (c.show.ensures.offered ∙ offered) (subst (λ (l : List PlainChange). IsPrefix c.show.new.self.shown l) (sym c.show.ensures.offered) shown)
 
-pub returns-clause-world_book : goal.returns-clause-world_book
-returns-clause-world_book g c =
-    let s = c.self.inside in
-    let log : List PlainChange = map arc_value s.log.items in
-    let setting : Setting = setting_in s.store s.limit in
-    let offered : c.offer_rest.new.shower.offered ≡ take s.acked log = c.if-not-offer_rest.ensures.offered ∙ ap (λ xs. take s.acked (map arc_value xs)) c.as_slice.ensures.value in
+pub returns-clause-shown : goal.returns-clause-shown
+returns-clause-shown g c =
+    let i = c.self.invariant in
+    let acked = c.self.inside.acked in
+    let log : List PlainChange = map arc_value c.self.inside.log.items in
+    let offered : c.offer_rest.new.shower.offered ≡ take acked log = c.if-not-offer_rest.ensures.offered ∙ ap (λ xs. take acked (map arc_value xs)) c.as_slice.ensures.value in
     elim c.match-show.branch [
-      | in-Ok w ↦ rw w.result-is
-          (shows-page g.J.Naming.base s.core log s.sizes.items s.acked setting s.shower.shown c.show.new.self.shown c.self.invariant.cuts (w.in-Ok.ensures.ok ∙ offered) ∙ ap (λ (l : PlainBook g.row.D.Denot). shows_all (world_book l)) c.self.view_is)
+      | in-Ok w ↦ rw w.result-is (shows-acked (parts i) c.show.new.self i.cuts (w.in-Ok.ensures.ok ∙ offered) ∙ ap (λ (l : PlainBook g.row.D.Denot). shows_all (world_book l)) c.self.view_is)
       | in-Err w ↦ rw w.result-is
-          (ap (world_book_of g.J.Naming.base s.core log s.sizes.items s.acked setting) (w.in-Err.ensures.err ∙ c.offer_rest.ensures.shown) ∙ ap world_book c.self.view_is)
+          (ap (λ (l : List PlainChange). record (world_book_of (parts i)) { shown = length l; published = after g.J.Naming.base l }) (w.in-Err.ensures.err ∙ c.offer_rest.ensures.shown) ∙ ap world_book c.self.view_is)
     ]

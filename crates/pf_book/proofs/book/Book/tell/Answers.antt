@@ -1,19 +1,18 @@
-use Rattle.std.proofs.{Common.{◌≡◌, ℕ, List, length, map, inl, refl, sym, ap, ◌∙◌, subst, arith}, lemmas.Grind.common_steps}
+use Rattle.std.proofs.{Common.{◌≡◌, ℕ, length, map, inl, refl, sym, ap, ◌∙◌, subst, arith}, lemmas.Grind.common_steps}
 use Rattle.std.specs.Arc.{arc_value}
 use Rattle.pf_core.specs.declared.{command.HistoryCommand.HistoryCommand, reply.Reply.TheVariants.Answer}
 use Rattle.pf_core.specs.declared.reply.Answer.TheVariants as answer
-use Rattle.pf_core.specs.{Durable.Changes.PlainChange, Worlds.flat}
+use Rattle.pf_core.specs.Worlds.{flat}
 use Rattle.pf_book.specs.Books.{PlainBook, world_book, log_in, IsTold}
-use Rattle.pf_book.proofs.HistoryGroups.{counted-acked, whole-log}
+use Rattle.pf_book.proofs.OpenedBooks.{acked-of, log-of}
 use Rattle.pf_book.proofs.book.Book.tell.Goals as goal
 
 pub returns-in-Log-clause-told : goal.returns-in-Log-clause-told
 returns-in-Log-clause-told g c =
     let s = c.self.inside in
-    let log : List PlainChange = map arc_value s.log.items in
-    let counted : c.len.result ≡ length log = grind (arith, common_steps, c.len.ensures) in
-    let all : c.len.result ≡ length (log_in (world_book c.args.self.now)) = counted ∙ ap length (sym (whole-log log s.sizes.items s.acked c.self.invariant.cuts)) ∙ ap (λ (l : PlainBook g.row.D.Denot). length (log_in (world_book l))) c.self.view_is in
-    let acked : s.acked ≡ length (flat c.args.self.now.acked) = counted-acked log s.sizes.items s.acked c.self.invariant.cuts c.self.invariant.low ∙ ap (λ (l : PlainBook g.row.D.Denot). length (flat l.acked)) c.self.view_is in
+    let counted : c.len.result ≡ length (map arc_value s.log.items) = grind (arith, common_steps, c.len.ensures) in
+    let all : c.len.result ≡ length (log_in (world_book c.args.self.now)) = counted ∙ ap length (sym (log-of c.self.invariant c.self.view_is)) in
+    let acked : s.acked ≡ length (flat c.args.self.now.acked) = acked-of c.self.invariant c.self.view_is in
     let shown : c.len-in-Log.result ≡ c.args.self.now.shown = c.len-in-Log.ensures ∙ ap (λ (l : PlainBook g.row.D.Denot). l.shown) c.self.view_is in
     let is = ap (λ (n : ℕ). Answer (answer.Logged n s.acked c.len-in-Log.result)) all ∙ ap (λ (n : ℕ). Answer (answer.Logged (length (log_in (world_book c.args.self.now))) n c.len-in-Log.result)) acked
     ∙ ap (λ (n : ℕ). Answer (answer.Logged (length (log_in (world_book c.args.self.now))) (length (flat c.args.self.now.acked)) n)) shown in
@@ -22,6 +21,6 @@ returns-in-Log-clause-told g c =
 pub returns-then-show_all-clause-told : goal.returns-then-show_all-clause-told
 returns-then-show_all-clause-told g c =
     let s = c.self.inside in
-    let acked : s.acked ≡ length (flat c.args.self.now.acked) = counted-acked (map arc_value s.log.items) s.sizes.items s.acked c.self.invariant.cuts c.self.invariant.low ∙ ap (λ (l : PlainBook g.row.D.Denot). length (flat l.acked)) c.self.view_is in
+    let acked : s.acked ≡ length (flat c.args.self.now.acked) = acked-of c.self.invariant c.self.view_is in
     subst (λ (x : HistoryCommand). IsTold x (Answer (answer.Shown s.acked)) (world_book c.args.self.now) (world_book c.show_all.new.self)) (sym c.in-Publish.is)
-    (inl (ap (λ (n : ℕ). Answer (answer.Shown n)) acked, c.if-show_all.ensures.world_book))
+    (inl (ap (λ (n : ℕ). Answer (answer.Shown n)) acked, c.if-show_all.ensures.shown))
