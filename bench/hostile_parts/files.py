@@ -37,6 +37,10 @@ ALL_KINDS = 2048, [
     "define - 1.2 t 203.0.113.0/24 !203.0.113.7", "commit filter - 1.1 table - 1.2", "tadd - t 10.0.0.0/8 2001:db8::/32",
     "track 7 1 in em0 tcp 198.51.100.7 40000 192.0.2.1 80", f"peer {EXAMPLE.hex()}", "kill 7 1", "tset web v 10.0.0.1", "begin filter web",
     "add web 1.3 block all", "commit filter web 1.3", "tkill - t", "show rules -"]
+# A file of the first version, which is switched for the first label.
+OLDER = 2048, [
+    "tset - t 10.0.0.0/8", "begin filter - filter web", "add - 1.1 block in all label x", "add web 1.2 pass all no state label \"web-1\"",
+    "commit filter - 1.1 filter web 1.2", "tadd - t 10.1.0.0/16", "show rules -", "show rules web"]
 
 
 class Program:
@@ -191,11 +195,13 @@ class Play:
 
 def sweep(job):
     """Each k, until none is met."""
-    options, shim, way, name, size, script, kind = job
+    options, shim, way, name, (size, script), kind = job
     result, met = Result(), 0
     with new_folder() as folder:
         file = os.path.join(folder, "disk")
         first = bytes_of(formatted(options.program, file, size))
+        if script == OLDER[1]:
+            first = first[:1] + b"\1" + first[2:]
         for number in range(1, MOST_CALLS):
             one = Play(options, shim, way, script, kind, number, first)
             has_met = one.play(file)
@@ -251,9 +257,10 @@ def built(folder):
 def play(options):
     with new_folder() as folder:
         shim = built(folder)
-        scripts = [("run", "a small file", *SMALL), ("serve", "groups", *with_groups(chance(options.seed, "groups")))]
+        scripts = [("run", "a small file", SMALL), ("serve", "groups", with_groups(chance(options.seed, "groups"))), ("run", "an older file", OLDER)]
         if not options.is_quick:
-            scripts += [("run", "all kinds", *ALL_KINDS), ("serve", "a small file", *SMALL), ("serve", "all kinds", *ALL_KINDS)]
+            scripts += [("run", "all kinds", ALL_KINDS), ("serve", "a small file", SMALL), ("serve", "all kinds", ALL_KINDS)]
+            scripts.append(("serve", "an older file", OLDER))
         jobs = [(options, shim, *script, kind) for script in scripts for kind in FAILING + KILLING + HARMLESS]
         result = spread(sweep, jobs, options.processes)
         result.add(spread(sweep_format, [(options, shim, kind) for kind in FAILING + KILLING + HARMLESS], options.processes))

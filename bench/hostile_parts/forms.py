@@ -17,7 +17,7 @@ from .streams import read_insert
 SIZES = (512, 1024, 2048, 2048, 4096, 4096, 8192)
 # Places of a rule's bytes, of a state's and of an entry's that mean something by themselves, and bytes for them.
 HOST_PLACES = (0, 1, 2, 3, 4, 6, 8, 11, 12, 23, 24, 25, 55)
-RULE_PLACES = (*range(9), 23, *(24 + place for place in HOST_PLACES), *(80 + place for place in HOST_PLACES), 136, 137, 138, 199, 200, 201, 203)
+RULE_PLACES = (*range(9), 23, *(24 + place for place in HOST_PLACES), *(80 + place for place in HOST_PLACES), 136, 137, 138, 199, 200, 201, 202, 203)
 STATE_PLACES = (*range(16, 24), 24, 35, 36, 40, 52, 53, 54, 55, 56, 60, 63, *range(64, 72), 72, 87, 88, 95)
 STRANGE_PATHS = (b"..", b"-", b"/", b"a/", b"/a", b"a//b", b"a/../b", b"a/-", b"a b", b"a\0", b"*", b"a" * 63, b"a" * 64, b"a/" * 15 + b"a",
                  b"a/" * 16 + b"a", b"abcdefghijklmno/" * 15 + b"abcdefghijklmno", b"b/" * 127 + b"b")
@@ -94,7 +94,7 @@ class Former:
                 break
             except LineFault:
                 continue
-        return self.strange(made, RULE_PLACES) if self.random.randrange(6) == 0 else made
+        return self.strange(made, (*RULE_PLACES, *range(reading.RULE, len(made)))) if self.random.randrange(6) == 0 else made
 
     def state(self):
         insert = read_insert(self.messages.record(1))
@@ -145,11 +145,14 @@ class Former:
 
     # Images
 
+    def version(self):
+        return self.random.choice((0, 3, 4, 255) if self.rarely(60) else (*reading.VERSIONS, reading.NEWEST))
+
     def groups_image(self):
         """A strange group mostly ends an image, so most that aren't opened are left out before the last."""
         half = self.random.choice(SIZES) // 2
         bank, gate, epoch = bytearray(half), 40, 0
-        writing.put_at(bank, 0, writing.bank_bytes(1, bytes(16)))
+        writing.put_at(bank, 0, writing.bank_bytes(1, bytes(16), self.version()))
         for _ in range(self.random.randrange(1, 9)):
             payload, made = self.group(epoch), bytearray(bank)
             if gate + 6 + len(payload) > half:
@@ -181,7 +184,7 @@ class Former:
         some = self.snapshot()
         half = max(128, reading.HEADER + len(some) + self.random.choice((0, 1, 2, 11, 12, 13, 64, 75, 76, 300)))
         generation = self.random.choice((0, 1, 2, reading.MOST_GENERATION, reading.MOST_GENERATION + 1))
-        bank = writing.bank_bytes(generation, some)[:half]
+        bank = writing.bank_bytes(generation, some, self.version())[:half]
         return main_image(self.random.choice((0, half)), bank, half)
 
 
@@ -213,11 +216,11 @@ def image_of(bank):
     return main_image(0, bank, half + half % 2)
 
 
-def snapshot_of(rulesets=(), tables=(), states=()):
+def snapshot_of(rulesets=(), tables=(), states=(), version=reading.NEWEST):
     parts = [number_bytes(0)]
     for part in (rulesets, tables, states):
         parts += [number_bytes(len(part)), *part]
-    return image_of(writing.bank_bytes(1, b"".join(parts)))
+    return image_of(writing.bank_bytes(1, b"".join(parts), version))
 
 
 def ruleset_form(path, rules):
@@ -228,8 +231,8 @@ def table_form(path, name, rows):
     return text_with_length(path) + text_with_length(name) + number_bytes(len(rows)) + b"".join(rows)
 
 
-def records_of(*payloads):
-    bank = bytearray(writing.bank_bytes(1, bytes(16)))
+def records_of(*payloads, version=reading.NEWEST):
+    bank = bytearray(writing.bank_bytes(1, bytes(16), version))
     for payload in payloads:
         writing.appended(bank, len(bank) - 1, payload)
     return image_of(bytes(bank))
@@ -247,7 +250,7 @@ def rules_commit(first, count, rules):
 
 def limits():
     """Each limit and one past it, and what no store leaves."""
-    for some in (limits_of_1024, limits_of_65536, limits_of_64, what_none_leaves):
+    for some in (limits_of_1024, limits_of_65536, limits_of_64, labels, what_none_leaves):
         yield from some()
 
 
@@ -288,6 +291,26 @@ def limits_of_64():
         items = [writing.rules_item(path_of(number), [some_rule()]) for number in range(count)]
         yield f"{count} rulesets in a commit", records_of(group_of(writing.commit_bytes(items)))
         yield f"{count} openings in a record", records_of(writing.group_bytes([writing.opening(number + 1) for number in range(count)]))
+
+
+def labelled(length, label, effect=0):
+    """The bytes of a rule whose label is said to have so many bytes."""
+    return bytes([effect, 1]) + bytes(199) + bytes([length, 0, 0]) + label
+
+
+def labels():
+    for version in (*reading.VERSIONS, reading.NEWEST + 1):
+        for name, some in (("no label", labelled(0, b"")), ("a label", labelled(1, b"x")), ("63 bytes", labelled(63, b"l" * 63)),
+                           ("64 bytes", labelled(64, b"l" * 64)), ("no name", labelled(1, b"!")), ("a byte less", labelled(2, b"x")),
+                           ("a byte more", labelled(1, b"xy")), ("an anchor rule", anchor_rule(b"")), ("its label", anchor_rule(b"x"))):
+            yield f"{name} in a snapshot of version {version}", snapshot_of([ruleset_form(b"", [some])], version=version)
+            yield f"{name} twice in a record of version {version}", records_of(
+                group_of(writing.commit_bytes([writing.rules_item(b"", [some, some])])), version=version)
+
+
+def anchor_rule(label):
+    """An anchor rule that refers to `a`, with a label that it can't have."""
+    return bytes([2]) + bytes(135) + b"a".ljust(65, b"\0") + bytes([len(label), 0, 0]) + label
 
 
 def what_none_leaves():

@@ -7,8 +7,8 @@ What depends on what is kept, as `busy 0`, is no matter of the line: `model.py` 
 import functools
 from typing import NamedTuple
 
-from .reading import (ANCHOR, ANY, BLOCK, MOST_INTERFACE, MOST_NAME, MOST_PART, MOST_PARTS, MOST_PATH, MOST_REFERENCE, NAME_BYTES, NETWORK, PASS,
-                      TABLE, TCP, UDP, Host, Rule)
+from .reading import (ANCHOR, ANY, BLOCK, MOST_INTERFACE, MOST_LABEL, MOST_NAME, MOST_PART, MOST_PARTS, MOST_PATH, MOST_REFERENCE, NAME_BYTES,
+                      NETWORK, PASS, TABLE, TCP, UDP, Host, Rule)
 from .streams import PeerFault, one_message
 
 MOST_LINE, MOST_LISTED = 4096, 64
@@ -185,11 +185,14 @@ def path(words):
     return words.take(parts_of_path(words, word))
 
 
+def unquoted(word):
+    """What stands between double quotes, or the word."""
+    return word[1:-1] if len(word) >= 2 and word[0] == word[-1] == '"' else word
+
+
 def reference(words):
     """A path, perhaps with `/*` at its end, and perhaps in double quotes."""
-    word = words.here()
-    if len(word) >= 2 and word[0] == word[-1] == '"':
-        word = word[1:-1]
+    word = unquoted(words.here())
     if len(word) > MOST_REFERENCE:
         raise words.bad("name")
     wildcard = word.endswith("/*")
@@ -312,6 +315,14 @@ def state_option(words, effect):
     return int(keeps)
 
 
+def label(words, effect):
+    """A name, perhaps in double quotes. An anchor rule has none."""
+    if effect == ANCHOR or not words.next_is("label"):
+        return b""
+    words.place += 1
+    return name(words, MOST_LABEL, unquoted(words.here()))
+
+
 def rule(words):
     effect, referred = words.known({"pass": PASS, "block": BLOCK, "anchor": ANCHOR}), (b"", 0)
     if effect == BLOCK:
@@ -328,14 +339,14 @@ def rule(words):
         words.place += 1
         proto = protocol(words)
     (source, one), (destination, other) = hosts(words)
-    keeps = state_option(words, effect)
+    keeps, labelled = state_option(words, effect), label(words, effect)
     words.end()
     families = {family, one, other} - {0}
     if len(families) > 1:
         raise LineFault("err family")
     if source.test | destination.test and proto not in (TCP, UDP):
         raise LineFault("err portproto")
-    return Rule(effect, direction, quick, keeps, max(families, default=0), proto, interface, source, destination, *referred)
+    return Rule(effect, direction, quick, keeps, max(families, default=0), proto, interface, source, destination, *referred, labelled)
 
 
 def packet_port(words, proto):

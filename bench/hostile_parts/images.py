@@ -20,7 +20,7 @@ from .program import Result, bytes_of, chance, formatted, new_folder, ran, sprea
 
 SIZES = (256, 300, 300, 300, 512, 600, 1024, 2048, 4096)
 BYTES = (0, 1, 2, 3, 4, 5, 6, 7, 8, 16, 17, 32, 64, 0x7F, 0x80, 0xA5, 0xFF)
-EXAMPLE = bytes.fromhex("a5010000000000000000000000000001000000100000000000000000000000000000000000000000a500000006010700000001")
+EXAMPLE = bytes.fromhex("a5020000000000000000000000000001000000100000000000000000000000000000000000000000a500000006010700000001")
 
 
 class Starter:
@@ -64,7 +64,8 @@ def of_snapshot(random, image):
     half = reading.HEADER + len(some) + random.choice((1, 2, 11, 12, 64, 75, 76, 300))
     half = max(half, 128)
     made, start = bytearray(2 * half), random.choice((0, half))
-    writing.put_at(made, start, writing.bank_bytes(random.choice((1, 2, found.generation, reading.MOST_GENERATION)), some))
+    generation, version = random.choice((1, 2, found.generation, reading.MOST_GENERATION)), random.choice(reading.VERSIONS)
+    writing.put_at(made, start, writing.bank_bytes(generation, some, version))
     return bytes(made)
 
 
@@ -158,7 +159,8 @@ def bases_of(options, random, folder):
     table = writing.saved(start, [row])
     switched = writing.saved(writing.saved(table, [row]), [row])
     left = [left_by_lines(options, random, folder, number) for number in range(12)]
-    return [start, table, switched, *left, *(made_of_forms(Former(random)) for _ in range(12))]
+    older = [image[:1] + b"\1" + image[2:] for image in (start, *left[:4])]
+    return [start, table, switched, *older, *left, *(made_of_forms(Former(random)) for _ in range(12))]
 
 
 def made_of_forms(former):

@@ -28,6 +28,8 @@ EDGE_NAMES = ["n" * 31, "n" * 32, "-", "..", "a!", "a/b", "A_z.9-"]
 EDGE_INTERFACES = ["i" * 15, "i" * 16, "-", "..", "em0:1"]
 EDGE_REFERENCES = ["r" * 63, "r" * 64, "r" * 61 + "/*", "r" * 62 + "/*", "r/" * 15 + "r", "r/" * 16 + "r", "*", "/*", '"', '""', '"a', "a/*/b",
                    "-", "..", '"*"', "a*", f'"{"r" * 63}"', f'"{"r" * 64}"']
+EDGE_LABELS = ["l" * 63, "l" * 64, f'"{"l" * 63}"', f'"{"l" * 64}"', f'"{"l" * 62}', f'"{"l" * 63}', '"', '""', '"a', 'a"', '"a"b"', "-", "..", "a/b",
+               "ab!", "label", "", "x label y", "x keep state", "x y"]
 EDGE_PORTS = ["65535", "65536", "00080", "000080", "+5", "1:65536", "1:65535", "000001:2", "1:2:3", ":5", "5:", "1 >< 65536", "= 65536", "=", "==5",
               "><5", "<>5", "1><2", "!5", ">", ">=65535", ">=65536", "=000001"]
 EDGE_PROTOCOLS = ["0", "00", "256", "0255", "ipv6", "TCP", "tcp6"]
@@ -105,7 +107,13 @@ class Maker:
                                  f"from {self.host(has_ports)} to {self.host(has_ports)}"))
         if effect == "pass":
             words.append(self.one_of("", "keep state", "no state"))
+        if self.random.randrange(5) == 0 and not (effect.startswith("anchor") and self.random.randrange(10)):
+            words.append(f"label {self.label()}")
         return " ".join(filter(None, words))
+
+    def label(self):
+        text = self.one_of("x", "y", "web", "in", "label", "a-b.c_9")
+        return self.mostly(self.one_of(text, f'"{text}"'), EDGE_LABELS)
 
     def reference(self):
         text = self.one_of("a", "b", "a/b", "b/*", "a/*", "web", "c", "none", "in")

@@ -80,6 +80,7 @@ def rule_text(form):
     ends = host_text(rule.source, rule.family), host_text(rule.destination, rule.family)
     words.append("all" if ends == ("any", "any") else "from {} to {}".format(*ends))
     words.append({PASS: "keep state" if rule.keeps else "no state"}.get(rule.effect, ""))
+    words.append(f'label "{rule.label.decode()}"' if rule.label else "")
     return " ".join(filter(None, words))
 
 
@@ -96,9 +97,10 @@ def host_bytes(host):
 
 
 def rule_bytes(rule):
-    """The 204 bytes of a rule."""
+    """The 204 bytes of a rule, and those of its label."""
     head = bytes([rule.effect, rule.direction, rule.quick, rule.keeps, rule.family, rule.protocol, 0, 0]) + rule.interface.ljust(16, b"\0")
-    return head + host_bytes(rule.source) + host_bytes(rule.destination) + rule.reference.ljust(64, b"\0") + bytes([rule.wildcard, 0, 0, 0])
+    tail = rule.reference.ljust(64, b"\0") + bytes([rule.wildcard, len(rule.label), 0, 0]) + rule.label
+    return head + host_bytes(rule.source) + host_bytes(rule.destination) + tail
 
 
 # Judging
@@ -241,7 +243,7 @@ class Session:
     def length(self):
         """How many bytes a snapshot of what is kept has."""
         held = self.held
-        return (16 + sum(5 + len(path) + 204 * len(rules) for path, rules in held.rulesets.items())
+        return (16 + sum(5 + len(path) + sum(map(len, rules)) for path, rules in held.rulesets.items())
                 + sum(6 + len(path) + len(name) + 20 * len(rows) for (path, name), rows in held.tables.items()) + 96 * len(held.states))
 
     # Transactions

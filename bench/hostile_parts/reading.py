@@ -16,13 +16,16 @@ from typing import NamedTuple
 
 OPEN = 0xA5
 LEAST_SIZE, MOST_SIZE = 256, 1_073_741_824
-# The bytes of a bank's header, of an opening's record with its gate and the gate behind it, of a rule, and of what stands behind a state's flow.
+# The bytes of a bank's header, of an opening's record with its gate and the gate behind it, of a rule without its label, and of what stands
+# behind a state's flow.
 HEADER, OPENING, RULE, ALL_ONES = 24, 12, 204, b"\xff" * 8
+# The versions that a bank may have. The newest is written; a rule has a label from the second on.
+VERSIONS, NEWEST, LABELS_FROM = (1, 2), 2, 2
 MOST_GENERATION = (1 << 63) - 1
 LAST_EPOCH = (1 << 32) - 1
 MOST_RULES, MOST_RULESETS, MOST_TABLES, MOST_ENTRIES, MOST_STATES = 1024, 1024, 1024, 65_536, 65_536
 MOST_CHANGES, MOST_ITEMS = 64, 64
-MOST_PATH, MOST_PARTS, MOST_PART, MOST_NAME, MOST_INTERFACE, MOST_REFERENCE = 255, 16, 63, 31, 15, 63
+MOST_PATH, MOST_PARTS, MOST_PART, MOST_NAME, MOST_INTERFACE, MOST_REFERENCE, MOST_LABEL = 255, 16, 63, 31, 15, 63, 63
 NAME_BYTES = frozenset(b"ABCDEFGHIJKLMNOPQRSTUVWXYZabcdefghijklmnopqrstuvwxyz0123456789_.-")
 TCP, UDP = 6, 17
 BLOCK, PASS, ANCHOR = 0, 1, 2
@@ -47,10 +50,10 @@ def demand(holds, fault=NoForm):
 
 
 class Reader:
-    """Bytes that are taken from the front on."""
+    """Bytes that are taken from the front on, as a version writes them."""
 
-    def __init__(self, some):
-        self.some, self.place = some, 0
+    def __init__(self, some, version=NEWEST):
+        self.some, self.version, self.place = some, version, 0
 
     def take(self, count):
         demand(self.place + count <= len(self.some))
@@ -121,7 +124,7 @@ class Held:
             del self.flows[state.flow()]
 
     def checksum(self):
-        """MD5 over the bytes of the main rules."""
+        """MD5 over the bytes of the main rules, with their labels."""
         return hashlib.md5(b"".join(self.rulesets.get(b"", []))).digest()
 
     def within_limits(self):
@@ -271,6 +274,7 @@ class Rule(NamedTuple):
     destination: Host
     reference: bytes
     wildcard: int
+    label: bytes
 
 
 def port_test(reader):
@@ -295,16 +299,32 @@ def host(reader, family):
 
 
 def reference(reader, effect):
-    """68 bytes: a path in 64, 1 where `/*` stood behind it, three zeros. Only an anchor rule has one."""
+    """65 bytes: a path in 64, 1 where `/*` stood behind it. Only an anchor rule has one."""
     name, wildcard = filled(reader.take(64)), reader.one_of(0, 1)
-    reader.zeros(3)
     demand(is_path(name, MOST_REFERENCE - 2 * wildcard) if effect == ANCHOR else name == b"" and wildcard == 0)
     return name, wildcard
 
 
+def label(reader, effect):
+    """3 bytes: how long the label is that stands behind them, two zeros. No anchor rule has one, and no rule of the first version."""
+    length = reader.number(1)
+    reader.zeros(2)
+    demand(length == 0 or (effect != ANCHOR and reader.version >= LABELS_FROM))
+    some = reader.take(length)
+    demand(length == 0 or is_name(some, MOST_LABEL))
+    return some
+
+
 def rule_of(some):
-    """204 bytes as the rule that they tell."""
+    """The bytes of a rule, as the newest version writes them, as the rule that they tell."""
     reader = Reader(some)
+    made = rule_from(reader)
+    reader.end()
+    return made
+
+
+def rule_from(reader):
+    """204 bytes and those of the label."""
     effect, direction = reader.one_of(BLOCK, PASS, ANCHOR), reader.one_of(0, 1, 2)
     quick, keeps, family, protocol = reader.one_of(0, 1), reader.one_of(0, 1), reader.one_of(0, 4, 6), reader.number(1)
     demand(keeps == 0 or effect == PASS)
@@ -314,15 +334,14 @@ def rule_of(some):
     source, destination = host(reader, family), host(reader, family)
     demand(protocol in (TCP, UDP) or source.test == destination.test == 0)
     name, wildcard = reference(reader, effect)
-    reader.end()
-    return Rule(effect, direction, quick, keeps, family, protocol, interface, source, destination, name, wildcard)
+    return Rule(effect, direction, quick, keeps, family, protocol, interface, source, destination, name, wildcard, label(reader, effect))
 
 
 def rule(reader):
     """The bytes of a rule, which are one."""
-    some = reader.take(RULE)
-    rule_of(some)
-    return some
+    start = reader.place
+    rule_from(reader)
+    return reader.some[start : reader.place]
 
 
 def rules(reader):
@@ -334,9 +353,9 @@ def rules(reader):
 # A snapshot
 
 
-def read_snapshot(some):
+def read_snapshot(some, version=NEWEST):
     """What was kept when the bank was begun. No ruleset and no table is empty, each stands in its order, and no state's name or flow twice."""
-    reader = Reader(some)
+    reader = Reader(some, version)
     held = Held(reader.number(4))
     read_rulesets(reader, held)
     read_tables(reader, held)
@@ -400,7 +419,7 @@ def state_bytes(name, one):
 
 
 def snapshot(held):
-    """The bytes of a snapshot of what is held."""
+    """The bytes of a snapshot of what is held, in the newest version."""
     some = [number_bytes(held.epoch), number_bytes(len(held.rulesets))]
     for key, forms in sorted(held.rulesets.items()):
         some += [text_with_length(key), number_bytes(len(forms)), *forms]
@@ -416,14 +435,28 @@ def snapshot(held):
 # A record's payload: a group of changes and openings. Each is read, and then made to follow what the ones before it left.
 
 
-def follow_group(held, payload):
-    reader = Reader(payload)
+def follow_group(held, payload, version=NEWEST):
+    for make, *words in group(payload, version):
+        make(held, *words)
+
+
+def group(payload, version):
+    """The changes of a record."""
+    reader = Reader(payload, version)
     count = reader.number(1)
     demand(1 <= count <= MOST_CHANGES)
     changes = [change(reader) for _ in range(count)]
     reader.end()
-    for make, *words in changes:
-        make(held, *words)
+    return changes
+
+
+def has_form(payload, version):
+    """Whether a version writes what these bytes tell in the newest."""
+    try:
+        group(payload, version)
+    except NoForm:
+        return False
+    return True
 
 
 def change(reader):
@@ -552,11 +585,12 @@ def begin_epoch(held, epoch):
 
 
 class Found(NamedTuple):
-    """What an image holds: the bank that counts by its first place, its generation, the place of its closed gate, and whether the other
-    bank's gate is open."""
+    """What an image holds: the bank that counts by its first place, its version and its generation, the place of its closed gate, and whether
+    the other bank's gate is open."""
 
     held: Held
     start: int
+    version: int
     generation: int
     gate: int
     is_other_open: bool
@@ -570,10 +604,10 @@ def read(image):
     half = len(image) // 2
     start, is_other_open = counting(image, half)
     bank = image[start : start + half]
-    generation, length = header(bank, start)
-    held = snapshot_of(bank, length, start)
-    gate = follow_records(held, bank, HEADER + length, start)
-    return Found(held, start, generation, start + gate, is_other_open)
+    version, generation, length = header(bank, start)
+    held = snapshot_of(bank[HEADER : HEADER + length], version, start)
+    gate = follow_records(held, bank, HEADER + length, version, start)
+    return Found(held, start, version, generation, start + gate, is_other_open)
 
 
 def counting(image, half):
@@ -588,34 +622,34 @@ def counting(image, half):
 
 
 def header(bank, start):
-    """The generation and the snapshot's length."""
+    """The version, the generation and the snapshot's length."""
     reader = Reader(bank)
     try:
         reader.take(1)
-        reader.one_of(1)
+        version = reader.one_of(*VERSIONS)
         reader.zeros(6)
         generation, length = reader.number(8), reader.number(4)
         reader.zeros(4)
         demand(generation <= MOST_GENERATION and HEADER + length + 1 <= len(bank))
     except NoForm:
         raise Refusal(f"corrupt at {start}") from None
-    return generation, length
+    return version, generation, length
 
 
-def snapshot_of(bank, length, start):
+def snapshot_of(some, version, start):
     try:
-        return read_snapshot(bank[HEADER : HEADER + length])
+        return read_snapshot(some, version)
     except NoForm:
         raise Refusal(f"corrupt at {start + HEADER}") from None
 
 
-def follow_records(held, bank, gate, start):
+def follow_records(held, bank, gate, version, start):
     """Makes the changes of each record behind an open gate, and gives the place of the closed one."""
     while bank[gate] == OPEN:
         length = int.from_bytes(bank[gate + 1 : gate + 5], "big")
         try:
             demand(gate + 6 + length <= len(bank))
-            follow_group(held, bank[gate + 5 : gate + 5 + length])
+            follow_group(held, bank[gate + 5 : gate + 5 + length], version)
         except (NoForm, NoFit):
             raise Refusal(f"corrupt at {start + gate}") from None
         gate += 5 + length

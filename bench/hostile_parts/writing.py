@@ -8,15 +8,16 @@ A crash within these is no part of it.
 """
 import copy
 
-from .reading import HEADER, LAST_EPOCH, OPEN, Refusal, follow_group, has_room, number_bytes, read, snapshot, text_with_length
+from .reading import (HEADER, LAST_EPOCH, NEWEST, OPEN, Refusal, follow_group, has_form, has_room, number_bytes, read, snapshot,
+                      text_with_length)
 
 # What is kept free in a bank behind a snapshot of what is kept.
 SPARE = 64
 
 
-def bank_bytes(generation, some):
+def bank_bytes(generation, some, version=NEWEST):
     """A bank's header and its snapshot, and a closed gate behind them."""
-    return bytes([OPEN, 1]) + bytes(6) + number_bytes(generation, 8) + number_bytes(len(some)) + bytes(4) + some + b"\0"
+    return bytes([OPEN, version]) + bytes(6) + number_bytes(generation, 8) + number_bytes(len(some)) + bytes(4) + some + b"\0"
 
 
 def put_at(image, place, some):
@@ -39,10 +40,10 @@ def appended(image, gate, payload):
 
 
 def with_record(image, found, payload):
-    """With a record at the closed gate, or in the other bank behind a snapshot of what is held, where it has no room."""
+    """With a record at the closed gate, or in the other bank behind a snapshot of what is held, where it has no room or no form."""
     made, half = bytearray(image), len(image) // 2
     gate = found.gate
-    if gate - found.start + 6 + len(payload) > half:
+    if gate - found.start + 6 + len(payload) > half or not has_form(payload, found.version):
         some = snapshot(found.held)
         put_at(made, half - found.start, bank_bytes(found.generation + 1, some))
         gate = half - found.start + HEADER + len(some)

@@ -7,11 +7,49 @@ use crate::records::{START, with_two};
 use pf_disk::{Disk, FileDisk, Fill, MemDisk};
 use pf_journal::{ReadFault, read_all};
 use std::alloc::Global;
-use std::fs::{File, OpenOptions};
+use std::fs::{self, File, OpenOptions};
 use std::os::unix::fs::FileExt;
 
-/// The bytes of each file, all of them the digit 0.
+/// The bytes of each file that is written, all of them the digit 0.
 const SIZE: usize = 4096;
+
+/// The files that are images of disks, made by a program that knew version 1 alone.
+const IMAGE_NAMES: &[&str] = &[
+    "version-1-formatted",
+    "version-1-opened",
+    "version-1-one-table",
+    "version-1-switched",
+    "version-1-rules",
+    "version-1-rules-in-a-snapshot",
+    "version-1-states",
+    "version-1-tables",
+    "version-1-all",
+    "version-1-full",
+];
+
+/// A file's bytes, and its name.
+#[derive(Drop)]
+pub struct Image {
+    pub name: String,
+    pub bytes: Vec<u8>,
+}
+
+/// The images of version 1 that lie among the files.
+pub fn older_images(rt: &HostRuntime) -> Result<Vec<Image>, ReadFault> {
+    let mut images = Vec::new(rt.alloc());
+    for name in IMAGE_NAMES {
+        images.push(read_image(rt, name)?)?;
+    }
+    Ok(images)
+}
+
+fn read_image(rt: &HostRuntime, name: &str) -> Result<Image, ReadFault> {
+    let name = String::from_str(rt.alloc(), name)?;
+    match fs::read(rt, name.as_str()) {
+        Ok(bytes) => Ok(Image { name, bytes }),
+        Err(_) => Err(ReadFault::Fault),
+    }
+}
 
 pub fn play(rt: &HostRuntime, told: &mut String) -> Result<(), ReadFault> {
     tell_script(rt, told)?;

@@ -28,7 +28,8 @@ pub fn segments(alloc: Global, text: &str) -> Result<Vec<Segment>, AllocError> {
     let mut segment = Segment::new(alloc, false);
     for row in text.split('\n') {
         let opens = row == "open";
-        if opens || row == "format" || row.starts_with("zeros ") {
+        let makes = row.starts_with("zeros ") || row.starts_with("file ");
+        if opens || makes || row == "format" {
             segments.push(segment)?;
             segment = Segment::new(alloc, opens);
         }

@@ -8,6 +8,7 @@ mod stops;
 
 use crate::books::{HISTORY_LIMIT, closed_gate, replies, replies_over, reply};
 use crate::crashes::fill;
+use crate::files::Image;
 use crate::rows::{
     GROUPED, Segment, cut_bar, cut_word, fill_at_random, lines_of, number, put_bytes, segments,
     tell_row,
@@ -25,8 +26,8 @@ use std::sync::Wait;
 const QUESTIONS: &str =
     "show rules - | show rules web | show tables - | show tables web | show states | sum";
 
-/// The calls of an opening and of a save, and one more.
-const CALLS: u64 = 14;
+/// The calls of an opening and of two saves, or of one save that begins the other bank, and one more.
+const CALLS: u64 = 18;
 
 /// How many fills each crash is tried with.
 const FILLS: u32 = 7;
@@ -36,6 +37,7 @@ const FILLS: u32 = 7;
 struct Bench<H: Wait + Drop + Copy> {
     waits: H,
     alloc: Global,
+    images: Vec<Image>,
     bytes: Vec<u8>,
     questions: Vec<String>,
     /// What was kept in that opening: at its start, and after each save.
@@ -52,16 +54,18 @@ struct Opened {
     disk: MemDisk,
 }
 
-/// Plays the rows of a text, and writes each with what it comes to.
+/// Plays the rows of a text, and writes each with what it comes to. They may begin with these images.
 pub fn play<H: Wait + Drop + Copy>(
     waits: H,
     alloc: Global,
+    images: Vec<Image>,
     told: &mut String,
     text: &str,
 ) -> Result<(), AllocError> {
     let mut bench = Bench {
         waits,
         alloc,
+        images,
         bytes: Vec::new(alloc),
         questions: lines_of(alloc, QUESTIONS)?,
         kept: Vec::new(alloc),
@@ -134,6 +138,7 @@ impl<H: Wait + Drop + Copy> Bench<H> {
         let (word, rest) = cut_word(row);
         match word {
             "zeros" => self.make(told, number(rest)),
+            "file" => self.load(told, rest),
             "format" => self.format(told),
             "put" => self.put(told, rest),
             "bytes" => self.tell_bytes(told, rest),
@@ -184,6 +189,17 @@ impl<H: Wait + Drop + Copy> Bench<H> {
         self.bytes = vec![in self.alloc; 0u8; size]?;
         told.push_str("closed")?;
         Ok(())
+    }
+
+    /// Makes a device with the bytes of an image.
+    fn load(&mut self, told: &mut String, name: &str) -> Result<(), AllocError> {
+        match self.images.iter().find(|it| it.name.as_str() == name) {
+            Some(image) => {
+                self.bytes = image.bytes.to_vec(self.alloc)?;
+                told.push_str("closed")
+            }
+            None => told.push_str("no such file"),
+        }
     }
 
     fn format(&mut self, told: &mut String) -> Result<(), AllocError> {
