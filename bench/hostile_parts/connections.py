@@ -294,7 +294,7 @@ def empty_ones(place, count):
 
 
 def never_read(place, megabytes):
-    """Three clients that ask for so much and read nothing, until what they are due stands in the way of what they ask; then they go."""
+    """Three clients that each ask for so much and read nothing; then they go. All that they ask has to be taken, so that all of it is due."""
     question, due = b"show rules many\n", len(place.server.told(b"show rules many\n"))
     streams = [place.server.connect(1) for _ in range(3)]
     asked = megabytes * MEGABYTE // due + 1
@@ -310,6 +310,7 @@ def never_read(place, megabytes):
     time.sleep(1 if place.options.is_quick else 5)
     for stream in streams:
         stream.close()
+    place.compare("how many questions of three clients that read nothing were taken", [asked] * 3, sent)
     return f"{sum(sent) * due // MEGABYTE:,} MB of replies due to three clients that asked for {3 * megabytes:,} MB, "
 
 

@@ -6,7 +6,7 @@ that is told `err memory` has changed nothing: each client tests that. Then the 
 numbers 1, 2, 3 and so on, each once, `publish` shows them, and the file holds what was answered. Starts under a limit either serve, or end
 with `pfd: memory`.
 
-Which growth is refused is left to chance here; `bench/refuse-allocations` refuses each in turn. The limit comes once all workers have their threads,
+Which growth is refused is left to chance here, but that some are is looked at; `bench/refuse-allocations` refuses each in turn. The limit comes once all workers have their threads,
 as a server that gets fewer has fewer for good.
 """
 import os
@@ -126,7 +126,7 @@ def wait_for(holds, seconds):
 
 
 def play_limit(options, kilobytes, seconds):
-    """One server whose growth is limited to so much, and lifted again."""
+    """One server whose growth is limited to so much, and lifted again: what it came to, and how often memory was refused."""
     result, name = Result(), f"{kilobytes} kB more"
     counts = {"hostile": 0, "told": 0, "ended": 0}
     with new_folder() as folder:
@@ -143,7 +143,7 @@ def play_limit(options, kilobytes, seconds):
     stored = sum(loader.stored for loader in loaders)
     hostile = f"{counts['hostile']} other connections of which {counts['ended']} were cut"
     result.tell(f"{name}: err memory {refused} times, stored {stored} times, {hostile}")
-    return result
+    return result, refused
 
 
 def play_loaders(options, server, loaders, kilobytes, seconds, counts):
@@ -205,7 +205,10 @@ def start(program, most, *words, given=b""):
 
 
 def play(options):
-    result = play_starts(options)
+    result, all_refused = play_starts(options), 0
     for kilobytes in options.few((1_000, 6_000), (0, 300, 1_000, 2_000, 4_000, 8_000, 16_000, 32_000)):
-        result.add(play_limit(options, kilobytes, options.few(10, 30)))
+        of_one, refused = play_limit(options, kilobytes, options.few(10, 30))
+        result.add(of_one)
+        all_refused += refused
+    result.check("no change was told `err memory`", all_refused > 0)
     return result

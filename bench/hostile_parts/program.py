@@ -22,6 +22,8 @@ class Options(NamedTuple):
     seed: int
     is_quick: bool
     processes: int
+    saves: str | None = None
+    seers: str | None = None
 
     def few(self, quick, whole):
         return quick if self.is_quick else whole

@@ -1,6 +1,8 @@
 """The scripts that stand in `bench` for themselves: each allocation refused in turn, and kills by process id under load.
 
-They are called as a user calls them, with the program that was named, and their status says how it went.
+They are called as a user calls them, with the program that was named, and their status says how it went. `bench/saves --refuse` and
+`bench/seers --refuse` play programs of their own, which are proved and built by `--keep` of these scripts: where none is named, that is told, and
+nothing is counted.
 """
 import os
 import subprocess
@@ -8,7 +10,7 @@ import subprocess
 from .program import Result, spread
 
 BENCH = os.path.dirname(os.path.dirname(os.path.abspath(__file__)))
-QUICK = [("refuse-allocations", "The first session"), ("kill-server", "3"), ("kill-peer", "3", "4000"), ("kill", "4")]
+QUICK = [("refuse-allocations", "The first session", "The most specific entry of a table"), ("kill-server", "3"), ("kill-peer", "3"), ("kill", "4")]
 WHOLE = [("refuse-allocations",), ("kill-server", "90"), ("kill-peer", "60"), ("kill", "50")]
 
 
@@ -19,9 +21,22 @@ def play_script(job):
     done = subprocess.run([os.path.join(BENCH, name), *words], env=env, capture_output=True, text=True, check=False)
     lines = (done.stdout + done.stderr).splitlines()
     result.check(f"bench/{name} {' '.join(words)}: status {done.returncode}: {lines[-12:]}", done.returncode == 0)
-    result.tell(lines[-1] if lines else f"bench/{name} said nothing")
+    for line in (lines if name == "refuse-allocations" else lines[-1:]) or [f"bench/{name} said nothing"]:
+        result.tell(line)
     return result
 
 
+def refusals(options):
+    """The scripts whose programs were named, and what is told of the others."""
+    named, result = [], Result()
+    for name, program in (("saves", options.saves), ("seers", options.seers)):
+        if program:
+            named.append((name, "--refuse", "--program", program))
+        else:
+            result.tell(f"bench/{name} --refuse: NOT RUN, as no built program was named by --{name}")
+    return named, result
+
+
 def play(options):
-    return spread(play_script, [(options, script) for script in options.few(QUICK, WHOLE)], options.processes)
+    named, result = refusals(options)
+    return result.add(spread(play_script, [(options, script) for script in options.few(QUICK, WHOLE) + named], options.processes))

@@ -235,6 +235,7 @@ def soak(options, minutes, say=lambda text: None):
             rounds.append(one := play_round(options, result, file, len(rounds), end))
             say(f"server {len(rounds)}: {one.peak:,} kB, {one.changes:,} changes, {one.seconds:.0f} s, the longest wait {one.longest:.2f} s")
     look_at_memory(result, [one.peak for one in rounds if one.changes >= CHANGES])
+    result.check("the file was never switched", rounds[-1].generation > 1)
     longest = max(one.longest for one in rounds)
     waited = f"a client waited {longest:.2f} s, and this process stood still for {pulse.longest:.2f} s at most"
     result.check(waited, longest <= MOST_WAIT + pulse.longest)
