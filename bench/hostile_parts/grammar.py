@@ -11,7 +11,7 @@ from .reading import (ANCHOR, ANY, BLOCK, MOST_INTERFACE, MOST_LABEL, MOST_NAME,
                       NETWORK, PASS, TABLE, TCP, UDP, Host, Rule)
 from .streams import PeerFault, one_message
 
-MOST_LINE, MOST_LISTED = 4096, 64
+MOST_LINE = 4096
 ALLOWED = frozenset(range(0x20, 0x7F)) | {0x09, 0x0D}
 PROTOCOLS = {"tcp": 6, "udp": 17, "icmp": 1, "icmp6": 58, "ipv6-icmp": 58}
 DIRECTIONS = {"in": 1, "out": 2}
@@ -376,8 +376,6 @@ def listed(words, with_tickets):
     while not some or not words.is_at_end():
         kind = words.known({"filter": "filter", "table": "table"})
         some.append((kind, path(words), *([ticket(words)] if with_tickets else [])))
-    if len(some) > MOST_LISTED:
-        raise LineFault("err count")
     return some
 
 

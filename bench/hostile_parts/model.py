@@ -12,8 +12,8 @@ from typing import NamedTuple
 
 from . import writing
 from .grammar import LineFault, Packet, read_line
-from .reading import (ANCHOR, ANY, BLOCK, HEADER, MOST_CHANGES, MOST_ENTRIES, MOST_RULES, MOST_RULESETS, MOST_STATES, MOST_TABLES, NETWORK, PASS,
-                      TABLE, Bound, Held, Host, State, entry_bytes, is_path, number_bytes, put, rule_of, state_bytes, take_step)
+from .reading import (ANCHOR, ANY, BLOCK, HEADER, MOST_CHANGES, MOST_ENTRIES, MOST_ITEMS, MOST_RULES, MOST_RULESETS, MOST_STATES, MOST_TABLES,
+                      NETWORK, PASS, TABLE, Bound, Held, Host, State, entry_bytes, is_path, number_bytes, put, rule_of, state_bytes, take_step)
 from .streams import DELETE, INSERT, NONE, message_bytes
 
 NAMES = {6: "tcp", 17: "udp", 1: "icmp", 58: "icmp6"}
@@ -248,6 +248,10 @@ class Session:
 
     # Transactions
 
+    def check_count(self, listed):
+        """It's no matter of the line: a process that has halted doesn't come to it."""
+        demand(len(listed) <= MOST_ITEMS, "err count")
+
     def check_twice(self, listed):
         names = [entry[:2] for entry in listed]
         for place, name in enumerate(names):
@@ -257,6 +261,7 @@ class Session:
         return (kind, path) in self.offers and self.offers[kind, path][0] == ticket
 
     def begin(self, listed):
+        self.check_count(listed)
         demand(len(set(self.offers) | set(listed)) <= MOST_RULESETS, "err rulesets")
         demand(self.next_ticket + len(listed) - 1 <= LAST_TICKET, "err tickets")
         given = []
@@ -282,6 +287,7 @@ class Session:
         return "ok"
 
     def rollback(self, listed):
+        self.check_count(listed)
         self.check_twice(listed)
         for entry in listed:
             if self.is_valid(*entry):
@@ -289,6 +295,7 @@ class Session:
         return "ok"
 
     def commit(self, listed):
+        self.check_count(listed)
         self.check_twice(listed)
         for place, entry in enumerate(listed):
             demand(self.is_valid(*entry), f"busy {place}")

@@ -1,4 +1,5 @@
 """What the parts share: the program and its words, servers and clients of them, and work that is spread over processes."""
+import collections
 import multiprocessing
 import os
 import random
@@ -24,16 +25,17 @@ class Options(NamedTuple):
     processes: int
     saves: str | None = None
     seers: str | None = None
+    store_tests: str = ""
 
     def few(self, quick, whole):
         return quick if self.is_quick else whole
 
 
 class Result:
-    """How much was as it has to be, what wasn't, and what is worth telling."""
+    """How much was as it has to be, what wasn't, what is worth telling, and numbers of which the sum is."""
 
     def __init__(self):
-        self.passed, self.wrong, self.told = 0, [], []
+        self.passed, self.wrong, self.told, self.counts = 0, [], [], collections.Counter()
 
     def check(self, what, holds):
         if holds:
@@ -52,6 +54,7 @@ class Result:
         self.passed += other.passed
         self.wrong += other.wrong
         self.told += other.told
+        self.counts.update(other.counts)
         return self
 
 
