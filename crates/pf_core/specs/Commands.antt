@@ -1,7 +1,8 @@
 -- What a command means: the step that it is due, what it mentions, and whether it takes memory (pf(4), DIOCXBEGIN to DIOCXROLLBACK,
 -- DIOCRADDADDRS to DIOCRTSTADDRS; pf.conf(5); pfctl(8), -k). One line each, by family. The limits, the order of refusals and what peers say
 -- are this project's own.
-use Rattle.std.specs.Prelude.{ℕ, ◌==◌, ◌||◌, Bool, true, false, not, if◌then◌else◌, is_some, List, [], ◌∷◌, length, map, filter, Option, Some, None, Result, Ok, Err, nat_lt, position}
+use Rattle.std.specs.Prelude.{ℕ, ◌==◌, ◌||◌, Bool, true, false, not, if◌then◌else◌, is_some, List, [], ◌∷◌, length, map, filter, Option, Some, None, Result, Ok, Err, nat_lt, nat_le, position, unwrap_or}
+use Rattle.std.specs.Option.{option_map_or}
 use Rattle.pf_addr.specs.Refusing.{and_then, unless, refused_at}
 use Rattle.pf_table.specs.{declared.{answer.Addition.Addition, answer.Deletion.Deletion}, Edits.{additions, deletions}, Entries.PlainEntry, Tables.deciding}
 use Rattle.pf_table.specs.declared.answer.Addition.TheVariants as addition
@@ -9,12 +10,12 @@ use Rattle.pf_table.specs.declared.answer.Deletion.TheVariants as deletion
 use Rattle.pf_anchor.specs.{Rulesets.{ruled, rules_at}, Tables.tables_at, declared.{verdict.RuleVerdict.RuleVerdict, verdict.RuleVerdict.TheVariants.Rule as Deciding, verdict.RuleVerdict.TheVariants.Default as NoRule}}
 use Rattle.pf_rule.specs.declared.rule.Action.TheVariants.{Pass, Block}
 use Rattle.pf_rule.specs.Packets.{PlainPacket}
-use Rattle.pf_state.specs.{declared.{state.Bound.Bound, state.StateName.StateName, step.Step.Step as StateStep, peer.message.Message.Message}, Flows.flow_of, States.{PlainState, held_at}, Steps.counts, Peer.Written.message_bytes, Failover.Incoming.steps_of, Failover.Outgoing.exported_messages}
+use Rattle.pf_state.specs.{declared.{state.Bound.Bound, state.StateName.StateName, step.Step.Step as StateStep, peer.message.Message.Message}, Flows.flow_of, States.{PlainState, held_at}, Steps.{counts, due_count}, Peer.Written.message_bytes, Failover.Incoming.steps_of, Failover.Outgoing.exported_messages}
 use Rattle.pf_state.specs.declared.state.Bound.TheVariants as bound
 use Rattle.pf_state.specs.declared.step.Step.TheVariants as step
 use Rattle.pf_ticket.specs.{declared.{entry.RulesetTicket.RulesetTicket, name.RulesetName.RulesetName, offered.Offered.Offered, refusal.TicketRefusal.TicketRefusal}, Names.{filter_at, table_ruleset_at, names_of}, Mentions.{Mention, added, defined, gives, switches, drops}, Tickets.{PlainTickets, content}, Replies.{begin_reply, add_reply, define_reply, list_check, commit_check}}
 use Rattle.pf_ticket.specs.declared.offered.Offered.TheVariants as offered
-use Rattle.pf_core.specs.{declared.{durable.change.Item.Item, command.Command.Command, command.Command.TheVariants.Transact, command.Command.TheVariants.Edit, command.Command.TheVariants.States as OfStates, command.Command.TheVariants.Ask, command.Command.TheVariants.History, command.HistoryCommand.TheVariants.Log, command.HistoryCommand.TheVariants.Publish, command.Question.Question, command.Question.TheVariants.Judge, command.Question.TheVariants.Test, command.Question.TheVariants.ShowRules, command.Question.TheVariants.ShowTables, command.Question.TheVariants.ShowStates, command.Question.TheVariants.Sum, command.Question.TheVariants.Export, command.StateCommand.StateCommand, command.StateCommand.TheVariants.Track, command.StateCommand.TheVariants.Peer, command.StateCommand.TheVariants.Kill as KillState, command.TableEdit.TableEdit, command.TableEdit.TheVariants.Add as AddTo, command.TableEdit.TheVariants.Delete, command.TableEdit.TheVariants.Set, command.TableEdit.TheVariants.Kill, command.Transaction.Transaction, command.Transaction.TheVariants.Begin, command.Transaction.TheVariants.Add, command.Transaction.TheVariants.Define, command.Transaction.TheVariants.Commit, command.Transaction.TheVariants.Rollback, reply.Answer.Answer, reply.Outcome.Outcome, reply.Refusal.Refusal, reply.Refusal.TheVariants.Absent, reply.Refusal.TheVariants.BadCount, reply.Refusal.TheVariants.NotGrouped, group.TheConstants.GROUP_LIMIT, reply.Reply.Reply, reply.Reply.TheVariants.Answer as Answered, reply.Reply.TheVariants.Applied, reply.Reply.TheVariants.Stored, reply.Reply.TheVariants.Refused, step.Step.Step, step.Step.TheVariants.Done, step.Step.TheVariants.Wants, step.Step.TheVariants.OfHistory, durable.refusal.ChangeRefusal.ChangeRefusal, durable.verdict.Verdict.Verdict, durable.verdict.Verdict.TheVariants.State as Stateful, durable.verdict.Verdict.TheVariants.Rules as ByRules}, Durable.Changes.{PlainDurable, PlainChange, commits, adds, deletes, sets, acts, removes, entries_at, main_sum, no_conflict, fits, verdict}, Refusals.{refusal_of, change_refusal_of}}
+use Rattle.pf_core.specs.{declared.{durable.change.Item.Item, command.Command.Command, command.Command.TheVariants.Transact, command.Command.TheVariants.Edit, command.Command.TheVariants.States as OfStates, command.Command.TheVariants.Ask, command.Command.TheVariants.History, command.HistoryCommand.TheVariants.Log, command.HistoryCommand.TheVariants.Publish, command.Question.Question, command.Question.TheVariants.Judge, command.Question.TheVariants.Test, command.Question.TheVariants.ShowRules, command.Question.TheVariants.ShowTables, command.Question.TheVariants.ShowStates, command.Question.TheVariants.Sum, command.Question.TheVariants.Export, command.StateCommand.StateCommand, command.StateCommand.TheVariants.Track, command.StateCommand.TheVariants.Peer, command.StateCommand.TheVariants.Kill as KillState, command.StateCommand.TheVariants.Expire as ExpireStates, command.TableEdit.TableEdit, command.TableEdit.TheVariants.Add as AddTo, command.TableEdit.TheVariants.Delete, command.TableEdit.TheVariants.Set, command.TableEdit.TheVariants.Kill, command.Transaction.Transaction, command.Transaction.TheVariants.Begin, command.Transaction.TheVariants.Add, command.Transaction.TheVariants.Define, command.Transaction.TheVariants.Commit, command.Transaction.TheVariants.Rollback, reply.Answer.Answer, reply.Outcome.Outcome, reply.Refusal.Refusal, reply.Refusal.TheVariants.Absent, reply.Refusal.TheVariants.BadCount, reply.Refusal.TheVariants.BadTick, reply.Refusal.TheVariants.NotGrouped, group.TheConstants.GROUP_LIMIT, reply.Reply.Reply, reply.Reply.TheVariants.Answer as Answered, reply.Reply.TheVariants.Applied, reply.Reply.TheVariants.Stored, reply.Reply.TheVariants.Refused, step.Step.Step, step.Step.TheVariants.Done, step.Step.TheVariants.Wants, step.Step.TheVariants.OfHistory, durable.refusal.ChangeRefusal.ChangeRefusal, durable.verdict.Verdict.Verdict, durable.verdict.Verdict.TheVariants.State as Stateful, durable.verdict.Verdict.TheVariants.Rules as ByRules}, Durable.Changes.{PlainDurable, PlainChange, commits, adds, deletes, sets, acts, removes, expires, entries_at, main_sum, no_conflict, fits, verdict}, Refusals.{refusal_of, change_refusal_of}}
 use Rattle.pf_core.specs.declared.durable.change.Item.TheVariants as item
 use Rattle.pf_core.specs.declared.reply.Answer.TheVariants as answer
 use Rattle.pf_core.specs.declared.reply.Outcome.TheVariants as outcome
@@ -117,23 +118,36 @@ abbrev pub make_step : PlainDurable → RuleVerdict → PlainState → Result St
 make_step d by s = if is_some (held_at s.0 d.states) then Ok (Done (answer.Stale by))
     else wanting d (acts (step.Insert s ∷ [])) (outcome.Tracked by)
 
-abbrev pub tracked : PlainDurable → StateName → PlainPacket → RuleVerdict → Option Bound → Result Step Refusal
-tracked d name packet by None = Ok (Done (answer.Judged (ByRules by)))
-tracked d name packet by (Some b) = make_step d by (name, record { generation = 0; flow = flow_of packet; bound = b })
+abbrev pub tracked : PlainDurable → StateName → PlainPacket → ℕ → RuleVerdict → Option Bound → Result Step Refusal
+tracked d name packet expiry by None = Ok (Done (answer.Judged (ByRules by)))
+tracked d name packet expiry by (Some b) = make_step d by (name, record { generation = 0; flow = flow_of packet; bound = b; expiry = expiry })
 
-abbrev pub track_step : PlainDurable → StateName → PlainPacket → Verdict → Result Step Refusal
-track_step d name packet (Stateful s) = Ok (Done (answer.Judged (Stateful s)))
-track_step d name packet (ByRules by) = tracked d name packet by (makes_state d by)
+abbrev pub judge_step : PlainDurable → StateName → PlainPacket → ℕ → Verdict → Result Step Refusal
+judge_step d name packet expiry (Stateful s) = Ok (Done (answer.Judged (Stateful s)))
+judge_step d name packet expiry (ByRules by) = tracked d name packet expiry by (makes_state d by)
+
+-- whether the tick until which a packet is tracked has come
+abbrev pub is_past : PlainDurable → Option ℕ → Bool
+is_past d until = option_map_or (λ expiry. nat_le expiry d.tick) until false
+
+-- for ever, if no tick is named
+abbrev pub expiry_of : Option ℕ → ℕ
+expiry_of until = unwrap_or until 0
+
+-- A tick that has come is refused whatever happens to the packet; so is 0.
+abbrev pub track_step : PlainDurable → StateName → PlainPacket → Option ℕ → Result Step Refusal
+track_step d name packet until = if is_past d until then Err BadTick else judge_step d name packet (expiry_of until) (verdict d packet)
 
 -- what a peer's message does to the states here
 abbrev pub steps_here : PlainDurable → Message → List StateStep
 steps_here d m = steps_of m (main_sum d) (length (rules_at [] d.config.rulesets))
 
--- A message that is accepted is a change, even if it leaves all as it is.
+-- A message that is accepted is a change, even if it leaves all as it is, and so is a tick, also the one that it is already.
 abbrev pub states_step : PlainDurable → StateCommand → Result Step Refusal
-states_step d (Track name packet) = track_step d name packet (verdict d packet)
+states_step d (Track name packet until) = track_step d name packet until
 states_step d (Peer m) = wanting d (acts (steps_here d m)) (outcome.Peered (counts d.states (steps_here d m)))
 states_step d (KillState name) = if_there (is_some (held_at name d.states)) (Ok (Wants (removes name) outcome.Killed))
+states_step d (ExpireStates tick) = wanting d (expires tick) (outcome.Expired (due_count d.states tick))
 
 -- ---- questions
 
@@ -256,11 +270,12 @@ is_done (Ok (Wants e o)) = false
 is_done (Ok (OfHistory c)) = false
 is_done (Err e) = false
 
--- a packet that is tracked takes none if it is answered without a change
+-- a packet that is tracked takes none if it is answered without a change, or if its tick has come
 abbrev pub changes_states_in_memory : PlainDurable → StateCommand → Bool
-changes_states_in_memory d (Track name packet) = not (is_done (track_step d name packet (verdict d packet)))
+changes_states_in_memory d (Track name packet until) = not (is_past d until || is_done (track_step d name packet until))
 changes_states_in_memory d (Peer m) = true
 changes_states_in_memory d (KillState name) = is_some (held_at name d.states)
+changes_states_in_memory d (ExpireStates tick) = not (nat_lt tick d.tick)
 
 -- whether a command may be refused for want of memory, by what is kept
 abbrev pub takes_memory : PlainDurable → Command → Bool

@@ -25,6 +25,7 @@ change_refusal_of by_change.TableFull = told.TableFull
 change_refusal_of by_change.TooManyRulesets = told.TooManyRulesets
 change_refusal_of by_change.TooManyTables = told.TooManyTables
 change_refusal_of by_change.StatesFull = told.StatesFull
+change_refusal_of by_change.BadTick = told.BadTick
 change_refusal_of by_change.Memory = told.Memory
 
 -- the result is the one that is due; or out of memory, if memory is taken

@@ -8,7 +8,7 @@ use Rattle.pf_addr.specs.declared.addr.Addr.TheVariants as addr
 use Rattle.pf_rule.specs.declared.fault.Mistake.{Mistake}
 use Rattle.pf_rule.specs.{Rules.PlainRule, RuleGrammar.{rule, rule_decided}, Packets.PlainPacket, PacketGrammar.{packet, packet_decided}, Value.Values.an_address}
 use Rattle.pf_table.specs.Entries.{PlainEntry}
-use Rattle.pf_core.specs.declared.{command.Command.Command, command.Command.TheVariants.{Transact, Edit, States, Ask, History}, command.HistoryCommand.HistoryCommand, command.HistoryCommand.TheVariants.{Log, Publish}, command.StateCommand.TheVariants.{Track, Kill as KillState}, command.Transaction.TheVariants.{Begin, Add, Define, Commit, Rollback}, command.Question.TheVariants.{Judge, Test, ShowRules, ShowTables, ShowStates, Sum, Export}}
+use Rattle.pf_core.specs.declared.{command.Command.Command, command.Command.TheVariants.{Transact, Edit, States, Ask, History}, command.HistoryCommand.HistoryCommand, command.HistoryCommand.TheVariants.{Log, Publish}, command.StateCommand.TheVariants.{Track, Kill as KillState, Expire as ExpireStates}, command.Transaction.TheVariants.{Begin, Add, Define, Commit, Rollback}, command.Question.TheVariants.{Judge, Test, ShowRules, ShowTables, ShowStates, Sum, Export}}
 use Rattle.pf_core.specs.declared.command.TableEdit.TheVariants as edits
 use Rattle.pf_ticket.specs.declared.{entry.RulesetTicket.RulesetTicket, name.RulesetKind.RulesetKind, name.RulesetKind.TheVariants.{Filter, Table}, name.RulesetName.RulesetName, ticket.Ticket.Ticket}
 use Rattle.pf_ticket.specs.Names.{ticket}
@@ -51,6 +51,10 @@ row = word (record { of = entry_of; sample = codes "0.0.0.0"; value = (network_o
 -- ID, of a state
 abbrev pub id : Form ℕ
 id = word (record { of = λ w. or_bad (id_of w); sample = codes "1"; value = 1; takes = refl })
+
+-- N, a tick
+abbrev pub tick : Form ℕ
+tick = id
 
 -- CREATOR, of a state
 abbrev pub creator : Form ℕ
@@ -148,16 +152,24 @@ killed = making (λ x. Ok (Edit (edits.Kill x.0 x.1))) table
 
 -- ---- changes of states
 
-abbrev pub track_of : StateName × Result PlainPacket Mistake → Result Command Mistake
-track_of x = as_command (λ p. States (Track x.0 p)) x.1
+-- "until" TICK, or nothing
+unfoldable pub until : Form (Option ℕ)
+until = or (codes "until") (making Some tick) (nothing None)
 
--- ID CREATOR PACKET
+abbrev pub track_of : StateName × (Result PlainPacket Mistake × Option ℕ) → Result Command Mistake
+track_of x = as_command (λ p. States (Track x.0 p x.1.1)) x.1.0
+
+-- ID CREATOR PACKET [until TICK]
 unfoldable pub tracked : Form (Result Command Mistake)
-tracked = making track_of (pair state packet)
+tracked = making track_of (pair state (pair packet until))
 
 -- ID CREATOR
 unfoldable pub state_killed : Form (Result Command Mistake)
 state_killed = making (λ n. Ok (States (KillState n))) state
+
+-- TICK
+unfoldable pub expired : Form (Result Command Mistake)
+expired = making (λ n. Ok (States (ExpireStates n))) tick
 
 -- ---- questions
 
@@ -194,9 +206,9 @@ alone c = nothing (Ok (History c))
 unfoldable pub history_or_question : Form (Result Command Mistake)
 history_or_question = or (codes "log") (alone Log) (or (codes "publish") (alone Publish) question)
 
--- "track" ID CREATOR PACKET | "kill" ID CREATOR | a command of the history, or a question
+-- "track" ID CREATOR PACKET [until TICK] | "kill" ID CREATOR | "expire" TICK | a command of the history, or a question
 unfoldable pub state_or_question : Form (Result Command Mistake)
-state_or_question = or (codes "track") tracked (or (codes "kill") state_killed history_or_question)
+state_or_question = or (codes "track") tracked (or (codes "kill") state_killed (or (codes "expire") expired history_or_question))
 
 -- "tadd" PATH NAME ENTRY .. | "tdel" PATH NAME ENTRY .. | "tset" PATH NAME [ENTRY ..] | "tkill" PATH NAME | a command of states or of the
 -- history, or a question
@@ -223,6 +235,6 @@ line = or (codes "peer") (making Tells hex) (making Says command)
 
 -- One word of look-ahead decides what is read.
 pub decided : is_decided line ≡ true
-unfolding begun added defined committed rolled_back entries_added entries_deleted entries_set killed tracked state_killed judged tested
-    shown overview question history_or_question state_or_question edit_or_question command
+unfolding begun added defined committed rolled_back entries_added entries_deleted entries_set killed until tracked state_killed expired judged tested
+    shown overview question history_or_question state_or_question edit_or_question command packet
 decided = rw (rule_decided, packet_decided) refl

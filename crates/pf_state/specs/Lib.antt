@@ -3,6 +3,7 @@ pub mod Failover
 pub mod Flows
 pub mod FlowKeys
 pub mod States
+pub mod Dues
 pub mod Orders
 pub mod Steps
 pub mod Bindings

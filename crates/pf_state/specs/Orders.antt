@@ -1,11 +1,11 @@
--- The orders of names and of flows' keys are total, in each only equal items tie, and hints rise with them.
+-- The orders of names, of expiries and of flows' keys are total, in each only equal items tie, and hints rise with them.
 use Rattle.std.specs.{Prelude.{◌≡◌, ℕ, zero, suc, T}, Cmp.{IsTotalOrder, then_total, on_total, nat_cmp_total}, FinMap.{IsAntisymmetric, nat_cmp-IsAntisymmetric}, Ordering.{ordering_then, is_eq, nat_cmp}}
 use Rattle.std.specs.declared.{cmp.Ordering.Ordering, cmp.Ordering.TheVariants.Less, cmp.Ordering.TheVariants.Equal, cmp.Ordering.TheVariants.Greater}
 use Rattle.std.proofs.Common.{refl, sym, ap, ◌∙◌, subst}
 use Rattle.pf_addr.specs.declared.{addr.Addr.Addr, addr.Addr.TheVariants.V4, addr.Addr.TheVariants.V6}
 use Rattle.pf_rule.specs.declared.{value.direction.Direction.Direction, value.direction.Direction.TheVariants.In, value.direction.Direction.TheVariants.Out}
 use Rattle.pf_map.specs.{Hints.{RisesWith, pairs_rise, numbers_rise}, Pairs.{pair_order, pairs_alike}}
-use Rattle.pf_state.specs.{declared.{flow_key.FlowEnds.FlowEnds, state.StateName.StateName}, FlowKeys.{flow_by, key_of, family_rank, number_of, addr_order, ends_order, mixed, key_order}, States.name_order}
+use Rattle.pf_state.specs.{declared.{dues.Due.Due, flow_key.FlowEnds.FlowEnds, state.StateName.StateName}, Dues.due_order, FlowKeys.{flow_by, key_of, family_rank, number_of, addr_order, ends_order, mixed, key_order}, States.name_order}
 
 -- ---- names
 
@@ -16,6 +16,16 @@ pub name_alike : IsAntisymmetric name_order
 name_alike a b tied =
     let pair : (a.id, a.creator) ≡ (b.id, b.creator) = pairs_alike nat_cmp-IsAntisymmetric nat_cmp-IsAntisymmetric (a.id, a.creator) (b.id, b.creator) tied in
     λ i. record { id = (pair i).0; creator = (pair i).1 }
+
+-- ---- expiries
+
+pub due_total : IsTotalOrder due_order
+due_total = then_total (on_total (λ (d : Due). d.expiry) nat_cmp_total) (on_total (λ (d : Due). d.name) name_total)
+
+pub due_alike : IsAntisymmetric due_order
+due_alike a b tied =
+    let pair : (a.expiry, a.name) ≡ (b.expiry, b.name) = pairs_alike {R = nat_cmp} {S = name_order} nat_cmp-IsAntisymmetric name_alike (a.expiry, a.name) (b.expiry, b.name) tied in
+    λ i. record { expiry = (pair i).0; name = (pair i).1 }
 
 -- ---- keys
 
@@ -84,3 +94,6 @@ names_rise a b less = pairs_rise nat_cmp nat_cmp (λ n. n) numbers_rise (a.id, a
 
 pub keys_rise : RisesWith key_order mixed
 keys_rise a b less = pairs_rise nat_cmp ends_order (λ n. n) numbers_rise (mixed a, a) (mixed b, b) less
+
+pub dues_rise : RisesWith due_order (λ d. d.expiry)
+dues_rise a b less = pairs_rise nat_cmp name_order (λ n. n) numbers_rise (a.expiry, a.name) (b.expiry, b.name) less

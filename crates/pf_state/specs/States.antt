@@ -1,5 +1,5 @@
 -- States, and the table of them (pf.conf(5)). How states are named and ordered is our own choice.
-use Rattle.std.specs.{Prelude.{◌≡◌, ◌≤◌, ◌==◌, Bool, T, true, List, length, Option, Some}, FinMap.{find, is_sorted}, List.{list_all, find as first_where}, Ordering.{ordering_then, nat_cmp}}
+use Rattle.std.specs.{Prelude.{◌≡◌, ℕ, ◌≤◌, ◌==◌, ◌||◌, nat_lt, Bool, T, true, List, length, Option, Some}, FinMap.{find, is_sorted}, List.{list_all, find as first_where}, Ordering.{ordering_then, nat_cmp}}
 use Rattle.std.specs.declared.cmp.Ordering.{Ordering}
 use Rattle.pf_state.specs.{declared.{limits.TheConstants.STATE_LIMIT, state.Bound.Bound, state.Bound.TheVariants.Rule, state.Bound.TheVariants.Default, state.Held.Held, state.StateName.StateName}, Flows.{PlainFlow, same_flow}}
 
@@ -37,3 +37,15 @@ is_whole (Rule n sum) = length sum == 16
 -- each of them is bound by a whole checksum, if by any
 abbrev pub are_whole : List PlainState → Bool
 are_whole es = list_all (λ s. is_whole s.1.bound) es
+
+-- whether what is held stands at a tick: its expiry is 0, for never, or greater than the tick; else it is due
+abbrev pub stands : ℕ → Held → Bool
+stands tick held = (held.expiry == 0) || nat_lt tick held.expiry
+
+-- none of them is due
+abbrev pub all_stand : ℕ → List PlainState → Bool
+all_stand tick es = list_all (λ s. stands tick s.1) es
+
+-- none of them expires
+abbrev pub none_expires : List PlainState → Bool
+none_expires es = list_all (λ s. s.1.expiry == 0) es

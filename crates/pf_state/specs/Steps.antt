@@ -1,7 +1,7 @@
 -- Steps that change states: how an insert is judged, what a delete and a clear take out, and what is counted. All our own.
-use Rattle.std.specs.{Prelude.{◌≡◌, ℕ, ◌+◌, ◌<◌, ◌^◌, ◌==◌, ◌&&◌, ◌||◌, nat_lt, nat_le, Bool, true, false, not, cond, List, [], ◌∷◌, length, fold, is_some, Some, None, Result, Ok, Err}, FinMap.Entries.where_key, List.{list_any, count_by}, Option.option_map_or, Ordering.eq_by_cmp}
+use Rattle.std.specs.{Prelude.{◌≡◌, ℕ, ◌+◌, ◌<◌, ◌^◌, ◌==◌, ◌&&◌, ◌||◌, nat_lt, nat_le, Bool, true, false, not, cond, List, [], ◌∷◌, length, filter, fold, is_some, Some, None, Result, Ok, Err}, FinMap.Entries.where_key, List.{list_any, count_by}, Option.option_map_or, Ordering.eq_by_cmp}
 use Rattle.pf_map.specs.Maps.{with_value}
-use Rattle.pf_state.specs.{declared.{counts.Counts.Counts, limits.TheConstants.STATE_LIMIT, refusal.StatesRefusal.StatesRefusal, refusal.StatesRefusal.TheVariants.StatesFull, refusal.StatesRefusal.TheVariants.Memory, state.StateName.StateName, step.Insertion.Insertion, step.Insertion.TheVariants.Stale, step.Insertion.TheVariants.Clash, step.Insertion.TheVariants.Replaced, step.Insertion.TheVariants.New, step.Step.Step, step.Step.TheVariants.Insert, step.Step.TheVariants.Delete, step.Step.TheVariants.Clear}, Flows.same_flow, States.{PlainState, name_order, held_at}}
+use Rattle.pf_state.specs.{declared.{counts.Counts.Counts, limits.TheConstants.STATE_LIMIT, refusal.StatesRefusal.StatesRefusal, refusal.StatesRefusal.TheVariants.StatesFull, refusal.StatesRefusal.TheVariants.Memory, state.StateName.StateName, step.Insertion.Insertion, step.Insertion.TheVariants.Stale, step.Insertion.TheVariants.Clash, step.Insertion.TheVariants.Replaced, step.Insertion.TheVariants.New, step.Step.Step, step.Step.TheVariants.Insert, step.Step.TheVariants.Delete, step.Step.TheVariants.Clear}, Flows.same_flow, States.{PlainState, name_order, held_at, stands}}
 
 -- ---- inserting
 
@@ -41,6 +41,25 @@ stepped es (Clear creator) = without_creator es creator
 -- after steps in turn
 abbrev pub after : List PlainState → List Step → List PlainState
 after es steps = fold stepped es steps
+
+-- ---- ticks
+
+-- the states that stand at a tick
+abbrev pub without_due : List PlainState → ℕ → List PlainState
+without_due es tick = filter (λ s. stands tick s.1) es
+
+-- how many are due at a tick
+abbrev pub due_count : List PlainState → ℕ → ℕ
+due_count es tick = count_by (λ s. not (stands tick s.1)) es
+
+-- whether a step inserts a state that is due at a tick, even if it would be stale or clash
+abbrev pub inserts_due : ℕ → Step → Bool
+inserts_due tick (Insert s) = not (stands tick s.1)
+inserts_due tick (Delete n) = false
+inserts_due tick (Clear creator) = false
+
+abbrev pub any_inserts_due : ℕ → List Step → Bool
+any_inserts_due tick steps = list_any (inserts_due tick) steps
 
 -- ---- what is counted
 

@@ -8,19 +8,20 @@
 --   5 steps that act on the states: their number in four bytes, each step
 --   6 the removal of a state: its name
 --   7 an opening: its epoch in four bytes
+--   8 a tick, in eight bytes: in versions that have expiries alone
 --
 -- Entries come after their number in four bytes. Those of a table that was defined are in its order, no network twice, and the tables in
 -- that of their names.
-use Rattle.std.specs.{Prelude.{◌≡◌, ℕ, ◌==◌, ◌^◌, ◌&&◌, not, nat_le, nat_lt, Bool, true, List, [], ◌∷◌, length, map}, List.list_all, Ordering.is_lt}
+use Rattle.std.specs.{Prelude.{◌≡◌, ℕ, ◌==◌, ◌^◌, ◌&&◌, not, nat_le, nat_lt, Bool, true, false, if◌then◌else◌, List, [], ◌∷◌, length, map}, List.list_all, Ordering.is_lt}
 use Rattle.std.proofs.Common.{inl, inr}
 use Rattle.pf_addr.specs.Path.{Names.name_order, PathForms.{TextShape, path_form, table_name_form}}
-use Rattle.pf_form.specs.Bytes.{Forms.{Shape, nat, both, either, list, Value, Form, Spells, number, front, or, pair, counted, that}, Lists.ordered}
+use Rattle.pf_form.specs.Bytes.{Forms.{Shape, nat, both, either, list, Value, Form, Spells, nothing, number, front, or, pair, counted, that}, Lists.ordered}
 use Rattle.pf_anchor.specs.Forms.{at_most, RulesShape, rules_form, plain_ruled, ruled_in, NamedShape, named_form, plain_entries, plain_named, entries_in, named_in, allows_ruleset}
 use Rattle.pf_journal.specs.{Journal.IsOf, declared.journal.Record.Record}
-use Rattle.pf_core.specs.{declared.durable.change.Item.Item, Durable.Changes.{PlainChange, commits, adds, deletes, sets, acts, removes}}
+use Rattle.pf_core.specs.{declared.durable.change.Item.Item, Durable.Changes.{PlainChange, commits, adds, deletes, sets, acts, removes, expires}}
 use Rattle.pf_core.specs.declared.durable.change.Item.TheVariants as item
 use Rattle.pf_store.specs.declared.groups.change.Recorded.{Recorded, TheVariants.Made as made, TheVariants.Opens as opens}
-use Rattle.pf_state.specs.Layouts.{States.{NameShape, name_form, plain_name, name_in}, Steps.{StepShape, step_form, plain_step, step_in}}
+use Rattle.pf_state.specs.Layouts.{States.{NameShape, name_form, plain_name, name_in, has_expiry}, Steps.{StepShape, step_form, plain_step, step_in, allows_steps}}
 use Rattle.pf_table.specs.EntryForms.{EntryShape, entry}
 use Rattle.pf_ticket.specs.declared.limits.TheConstants.{ENTRY_LIMIT, OFFERED_TABLE_LIMIT}
 use Rattle.pf_core.specs.declared.group.TheConstants.{GROUP_LIMIT}
@@ -60,14 +61,18 @@ EditShape = both TextShape (both TextShape (list EntryShape))
 unfoldable pub edit_form : Form EditShape
 edit_form = pair path_form (pair table_name_form (counted 4 entry))
 
+-- of the versions that have expiries
+unfoldable pub expire_form : Bool → Form nat
+expire_form has = if has then front (8 ∷ []) (number 8) else that (λ tick. false) (nothing 0)
+
 abbrev pub ChangeShape : Shape
 ChangeShape =
-    either (list ItemShape) (either EditShape (either EditShape (either EditShape (either (list StepShape) (either NameShape nat)))))
+    either (list ItemShape) (either EditShape (either EditShape (either EditShape (either (list StepShape) (either NameShape (either nat nat))))))
 
 unfoldable pub change_form : ℕ → Form ChangeShape
 change_form version =
     or 1 (items_form version) (or 2 edit_form (or 3 edit_form (or 4 edit_form
-    (or 5 (counted 4 (step_form version)) (or 6 name_form (front (7 ∷ []) (number 4)))))))
+    (or 5 (counted 4 (step_form version)) (or 6 name_form (or 7 (number 4) (expire_form (has_expiry version))))))))
 
 -- as many as one record keeps
 abbrev pub is_group : {A : Type 0} → List A → Bool
@@ -89,7 +94,8 @@ plain_record (made (deletes p name xs)) = inr (inr (inl (p, (name, plain_entries
 plain_record (made (sets p name xs)) = inr (inr (inr (inl (p, (name, plain_entries xs)))))
 plain_record (made (acts steps)) = inr (inr (inr (inr (inl (map plain_step steps)))))
 plain_record (made (removes name)) = inr (inr (inr (inr (inr (inl (plain_name name))))))
-plain_record (opens epoch) = inr (inr (inr (inr (inr (inr epoch)))))
+plain_record (made (expires tick)) = inr (inr (inr (inr (inr (inr (inr tick))))))
+plain_record (opens epoch) = inr (inr (inr (inr (inr (inr (inl epoch))))))
 
 -- ---- what is read from bytes
 
@@ -104,7 +110,8 @@ record_in (inr (inr (inl v))) = made (deletes v.0 v.1.0 (entries_in v.1.1))
 record_in (inr (inr (inr (inl v)))) = made (sets v.0 v.1.0 (entries_in v.1.1))
 record_in (inr (inr (inr (inr (inl steps))))) = made (acts (map step_in steps))
 record_in (inr (inr (inr (inr (inr (inl name)))))) = made (removes (name_in name))
-record_in (inr (inr (inr (inr (inr (inr epoch)))))) = opens epoch
+record_in (inr (inr (inr (inr (inr (inr (inl epoch))))))) = opens epoch
+record_in (inr (inr (inr (inr (inr (inr (inr tick))))))) = made (expires tick)
 
 -- ---- which changes have bytes
 
@@ -123,6 +130,7 @@ has_form (made (deletes p name xs)) = is_short xs
 has_form (made (sets p name xs)) = is_short xs
 has_form (made (acts steps)) = is_short steps
 has_form (made (removes name)) = true
+has_form (made (expires tick)) = true
 has_form (opens epoch) = nat_lt epoch (2 ^ 32)
 
 -- What a command can want: it has bytes unless it is longer than any bank, since then its lists are short too.
@@ -133,6 +141,7 @@ can_be_wanted (deletes p name xs) = true
 can_be_wanted (sets p name xs) = true
 can_be_wanted (acts steps) = true
 can_be_wanted (removes name) = true
+can_be_wanted (expires tick) = true
 
 -- ---- which versions allow what is recorded
 
@@ -140,14 +149,15 @@ abbrev pub allows_item : ℕ → Item → Bool
 allows_item version (item.Rules r) = allows_ruleset version r
 allows_item version (item.Tables p named) = true
 
--- of what is recorded only commits have rules
+-- of what is recorded only commits have rules, and only steps states
 abbrev pub allows_record : ℕ → Recorded → Bool
 allows_record version (made (commits items)) = list_all (allows_item version) items
 allows_record version (made (adds p name xs)) = true
 allows_record version (made (deletes p name xs)) = true
 allows_record version (made (sets p name xs)) = true
-allows_record version (made (acts steps)) = true
+allows_record version (made (acts steps)) = allows_steps version steps
 allows_record version (made (removes name)) = true
+allows_record version (made (expires tick)) = has_expiry version
 allows_record version (opens epoch) = true
 
 abbrev pub allows_group : ℕ → List Recorded → Bool
@@ -163,7 +173,7 @@ made_all es = map made es
 abbrev pub have_form : List Recorded → Bool
 have_form rs = is_group rs && list_all has_form rs
 
--- whether they have bytes in a version: it allows their rules too
+-- whether they have bytes in a version: it allows them too
 abbrev pub have_form_in : ℕ → List Recorded → Bool
 have_form_in version rs = have_form rs && allows_group version rs
 

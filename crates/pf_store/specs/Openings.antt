@@ -6,7 +6,7 @@ use Rattle.pf_snap.specs.{Banks.{AreBanks, Content, Counts, HasSnapshot, bank_si
 use Rattle.pf_snap.specs.Banks as snap
 use Rattle.pf_snap.specs.declared.fault.LookFault.TheVariants as looking
 use Rattle.pf_core.specs.{Durable.Changes.{PlainDurable}, Worlds.{last_epoch, raised}}
-use Rattle.pf_store.specs.{Durables.IsDurable, Groups.IsRecorded, Lengths.snapshot_length, Stores.{FollowInTurn, Holds, HoldsEither, IsRoomyIn, Leads, Makes}}
+use Rattle.pf_store.specs.{Durables.IsDurable, Groups.IsRecorded, Lengths.snapshot_length, Stores.{FollowInTurn, Holds, HoldsEither, IsRoomy, Leads, Makes}}
 use Rattle.pf_store.specs.declared.{groups.change.Recorded.Recorded, store.fault.OpenFault.OpenFault, store.fault.OpenFault.TheVariants.{BadSize, NoBank, Corrupt, Memory, Fault, EpochsExhausted, Full, Places}}
 use Rattle.pf_store.specs.declared.limits.TheConstants.{OPENING_RECORD}
 
@@ -74,9 +74,9 @@ IsNoLaterThan g seen = (d : PlainDurable) (held : Holds seen d) → generation_o
 abbrev pub IsAsLongAs : List ℕ → List ℕ → Type 0
 IsAsLongAs seen image = length image ≡ length seen
 
--- A bank has 64 bytes left after a snapshot of what the image holds, in its own version.
+-- A bank has 56 bytes left after a snapshot of what the image holds.
 abbrev pub LeavesRoom : List ℕ → Type 0
-LeavesRoom image = (d : PlainDurable) (held : Holds image d) → IsRoomyIn held.content.version (bank_size (length image)) d
+LeavesRoom image = (d : PlainDurable) → Holds image d → IsRoomy (bank_size (length image)) d
 
 -- The record of an opening has room after the others in the bank that counts.
 abbrev pub HasRoomHere : (seen : List ℕ) (d : PlainDurable) → Holds seen d → Type 0

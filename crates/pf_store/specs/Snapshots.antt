@@ -1,13 +1,19 @@
 -- Snapshots as they are written.
-use Rattle.std.specs.Prelude.{◌≡◌, ℕ, List, ◌++◌, replicate}
+use Rattle.std.specs.Prelude.{◌≡◌, ℕ, List, ◌++◌, replicate, if◌then◌else◌}
 use Rattle.pf_form.specs.Bytes.Forms.{nat, Form, number, back}
 use Rattle.pf_snap.specs.{Ready.IsNext, declared.{header.TheConstants.NEWEST, next_bank.NextBank.NextBank}}
+use Rattle.pf_state.specs.Layouts.States.{has_expiry}
 use Rattle.pf_core.specs.Durable.Changes.{PlainDurable}
 use Rattle.pf_store.specs.Durables.{IsDurable}
 
--- The snapshot of nothing: the epoch in four bytes, and the numbers of rulesets, tables and states, zero in four bytes each.
+-- how many zeros stand behind the epoch in the snapshot of nothing: the numbers of rulesets, tables and states, in four bytes each; and the
+-- tick, in eight, in a version that has one
+abbrev pub zeros_of : ℕ → ℕ
+zeros_of version = if has_expiry version then 20 else 12
+
+-- The snapshot of nothing: the epoch in four bytes, and these zeros.
 unfoldable pub empty_form : ℕ → Form nat
-empty_form version = back (number 4) (replicate 12 0)
+empty_form version = back (number 4) (replicate (zeros_of version) 0)
 
 -- These bytes are those that were there, then a snapshot of what is kept, in a version.
 pub record EndsInSnapshot (version : ℕ) (d : PlainDurable) (before bytes : List ℕ) : Type 0 where

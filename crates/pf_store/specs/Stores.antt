@@ -1,11 +1,11 @@
 -- What a device's image holds: what was kept first, and what changes have made of it since.
 use Rattle.std.specs.Prelude.{◌≡◌, ◌⊎◌, ◌≤◌, ℕ, ◌+◌, true, List, [], ◌∷◌, fold, Ok}
-use Rattle.pf_snap.specs.{Banks.Content, declared.header.TheConstants.{BANK_HEADER, NEWEST}}
+use Rattle.pf_snap.specs.{Banks.Content, declared.header.TheConstants.{BANK_HEADER}}
 use Rattle.pf_snap.specs.Banks as snap
-use Rattle.pf_core.specs.Durable.{Changes.{PlainDurable, PlainChange, in_epoch, applied, fits}, Forms.durable_length}
+use Rattle.pf_core.specs.Durable.{Changes.{PlainDurable, PlainChange, in_epoch, applied, fits}}
 use Rattle.pf_store.specs.{Durables.IsDurable, Groups.{IsRecorded, have_form, made_all}, Lengths.{snapshot_length, payload_length}, declared.groups.change.Recorded.Recorded}
 use Rattle.pf_store.specs.declared.groups.change.Recorded.TheVariants as recorded
-use Rattle.pf_store.specs.declared.limits.TheConstants.{AROUND, ROOM_TO_OPEN}
+use Rattle.pf_store.specs.declared.limits.TheConstants.{AROUND, ROOM_KEPT, ROOM_TO_OPEN}
 
 -- ---- what is held
 
@@ -51,18 +51,19 @@ HoldsEither before next image = Holds image before ⊎ Holds image next
 
 -- ---- room
 
--- A bank of `size` bytes has 64 left after a snapshot of what is kept, in a version: enough for an opening's record.
-abbrev pub IsRoomyIn : (version size : ℕ) → PlainDurable → Type 0
-IsRoomyIn version size d = BANK_HEADER + durable_length version d + ROOM_TO_OPEN ≤ size
-
--- in the version that is written
+-- A bank of `size` bytes has 56 left after a snapshot of what is kept, in the version that is written: enough for openings' records. A
+-- version without expiries has snapshots of eight bytes less: where a save of its time left 64 after one, these 56 are left.
 abbrev pub IsRoomy : (size : ℕ) → PlainDurable → Type 0
-IsRoomy size d = IsRoomyIn NEWEST size d
+IsRoomy size d = BANK_HEADER + snapshot_length d + ROOM_KEPT ≤ size
+
+-- It has 64 left, as each save leaves it.
+abbrev pub HasSpare : (size : ℕ) → PlainDurable → Type 0
+HasSpare size d = BANK_HEADER + snapshot_length d + ROOM_TO_OPEN ≤ size
 
 -- A payload of n bytes finds room in banks of `size` bytes: one has 64 bytes left after a snapshot of what is kept then, and room for the
 -- payload's record after one of what is kept before.
 pub record HasRoom (size : ℕ) (before next : PlainDurable) (n : ℕ) : Type 0 where
-  pub then : IsRoomy size next
+  pub then : HasSpare size next
   pub behind : BANK_HEADER + snapshot_length before + (n + AROUND) ≤ size
 
 -- changes have a payload, and it finds room

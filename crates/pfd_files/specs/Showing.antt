@@ -17,14 +17,15 @@ number_line word n = word ++ (decimal n ++ 10 ∷ [])
 abbrev pub sum_line : List ℕ → List ℕ
 sum_line sum = codes "sum " ++ reply_text (Answer (Sum sum))
 
--- the epoch, the checksum of the main rules, and how many rulesets, tables and states there are
+-- the epoch, the checksum of the main rules, how many rulesets, tables and states there are, and the tick
 abbrev pub shown_text : PlainDurable → List ℕ
 shown_text d =
     number_line (codes "epoch ") d.epoch
     ++ (sum_line (main_sum d)
     ++ (number_line (codes "rulesets ") (length d.config.rulesets)
     ++ (number_line (codes "tables ") (length d.config.tables)
-    ++ number_line (codes "states ") (length d.states))))
+    ++ (number_line (codes "states ") (length d.states)
+    ++ number_line (codes "tick ") d.tick))))
 
 -- why a disk that is read but not opened can't be shown
 pub record IsUnread (why : OpenFault) (seen : List ℕ) : Type 0 where

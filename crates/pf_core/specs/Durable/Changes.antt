@@ -1,29 +1,30 @@
 -- What is kept, what a change does to it (pf(4), DIOCXCOMMIT and DIOCRADDADDRS to DIOCRSETADDRS), and what it says of a packet (pf.conf(5),
 -- PACKET FILTERING, ANCHORS and TABLES). That an empty table doesn't exist, how a peer's states act, and the limits are this project's own.
-use Rattle.std.specs.{Prelude.{ℕ, ◌==◌, ◌&&◌, Bool, true, not, List, [], ◌∷◌, ◌++◌, fold, length, map, nat_lt, Option, Result, Ok}, FinMap.is_sorted, List.{list_any, position}, Option.{option_map_or, option_or}}
+use Rattle.std.specs.{Prelude.{ℕ, ◌==◌, ◌&&◌, Bool, true, not, List, [], ◌∷◌, ◌++◌, fold, if◌then◌else◌, length, map, nat_lt, Option, Result, Ok}, FinMap.is_sorted, List.{list_any, position}, Option.{option_map_or, option_or}}
 use Rattle.pf_addr.specs.{Refusing.{and_then, unless, refused_at}, Path.Names.name_order, Path.Paths.same_path}
 use Rattle.pf_rule.specs.{Packets.PlainPacket, Sum.Forms.ruleset_sum}
 use Rattle.pf_table.specs.declared.limits.TheConstants.{TABLE_LIMIT}
 use Rattle.pf_table.specs.{Entries.PlainEntry, Edits.{added, deleted, replaced, conflict_in}}
 use Rattle.pf_anchor.specs.declared.limits.TheConstants.{RULESET_LIMIT, TABLE_COUNT_LIMIT}
 use Rattle.pf_anchor.specs.{Configurations.{PlainConfig, nothing, with_rulesets, with_tables}, Evaluation.judged, Rulesets.{PlainPlaced, rules_at}, Tables.{PlainPlacedTable, placed_table, table_at}}
-use Rattle.pf_state.specs.{declared.{state.StateName.StateName, step.Step.Step}, Flows.flow_of, States.{PlainState, state_of}, Steps.{after as stepped_on, passes_limit, without_state}}
+use Rattle.pf_state.specs.{declared.{state.StateName.StateName, step.Step.Step}, Flows.flow_of, States.{PlainState, state_of, stands}, Steps.{after as stepped_on, passes_limit, without_state, without_due, any_inserts_due}}
 use Rattle.pf_ticket.specs.declared.name.RulesetName.{RulesetName}
 use Rattle.pf_ticket.specs.{Names.{filter_at, table_ruleset_at}, NamedTables.PlainDefinedTable, Replies.twice_behind}
-use Rattle.pf_core.specs.declared.{durable.change.Item.Item, durable.refusal.ChangeRefusal.ChangeRefusal, durable.refusal.ChangeRefusal.TheVariants.Twice, durable.refusal.ChangeRefusal.TheVariants.Conflict, durable.refusal.ChangeRefusal.TheVariants.TableFull, durable.refusal.ChangeRefusal.TheVariants.TooManyRulesets, durable.refusal.ChangeRefusal.TheVariants.TooManyTables, durable.refusal.ChangeRefusal.TheVariants.StatesFull, durable.verdict.Verdict.Verdict, durable.verdict.Verdict.TheVariants.State as Stateful, durable.verdict.Verdict.TheVariants.Rules}
+use Rattle.pf_core.specs.declared.{durable.change.Item.Item, durable.refusal.ChangeRefusal.ChangeRefusal, durable.refusal.ChangeRefusal.TheVariants.Twice, durable.refusal.ChangeRefusal.TheVariants.Conflict, durable.refusal.ChangeRefusal.TheVariants.TableFull, durable.refusal.ChangeRefusal.TheVariants.TooManyRulesets, durable.refusal.ChangeRefusal.TheVariants.TooManyTables, durable.refusal.ChangeRefusal.TheVariants.StatesFull, durable.refusal.ChangeRefusal.TheVariants.BadTick, durable.verdict.Verdict.Verdict, durable.verdict.Verdict.TheVariants.State as Stateful, durable.verdict.Verdict.TheVariants.Rules}
 use Rattle.pf_core.specs.declared.durable.change.Item.TheVariants as item
 
 pub record PlainDurable : Type 0 where
   pub epoch : ℕ
+  pub tick : ℕ
   pub config : PlainConfig
   pub states : List PlainState
 
-abbrev pub durable_with : ℕ → PlainConfig → List PlainState → PlainDurable
-durable_with e c ss = record { epoch = e; config = c; states = ss }
+abbrev pub durable_with : ℕ → ℕ → PlainConfig → List PlainState → PlainDurable
+durable_with e t c ss = record { epoch = e; tick = t; config = c; states = ss }
 
--- no rulesets, no tables and no states, in the opening with this epoch
+-- no rulesets, no tables and no states, at tick 0, in the opening with this epoch
 abbrev pub kept_nothing : ℕ → PlainDurable
-kept_nothing e = durable_with e nothing []
+kept_nothing e = durable_with e 0 nothing []
 
 -- the checksum of the main rules
 abbrev pub sum_of : PlainConfig → List ℕ
@@ -40,7 +41,7 @@ entries_at d p name = table_at p name d.config.tables
 
 -- A change: what a commit replaces, in the command's order; or entries, as handed in, that are added to the table at a path and name,
 -- deleted from it, or replace its own; or steps that act on the states, in order, also those that change nothing; or the name of a state
--- that is taken out.
+-- that is taken out; or a tick, which takes out the states that are due.
 pub data PlainChange : Type 0 where
   commits : List Item → PlainChange
   adds : List ℕ → List ℕ → List PlainEntry → PlainChange
@@ -48,6 +49,7 @@ pub data PlainChange : Type 0 where
   sets : List ℕ → List ℕ → List PlainEntry → PlainChange
   acts : List Step → PlainChange
   removes : StateName → PlainChange
+  expires : ℕ → PlainChange
 
 -- the rulesets among what a commit replaces
 abbrev pub rulesets_in : List Item → List PlainPlaced
@@ -73,24 +75,29 @@ tables_in (item.Tables p named ∷ items) = placed p named ++ tables_in items
 
 -- with these entries in one table, or without the table if there are none
 abbrev pub with_entries : PlainDurable → List ℕ → List ℕ → List PlainEntry → PlainDurable
-with_entries d p name es = durable_with d.epoch (with_tables d.config (placed_table p name es ∷ [])) d.states
+with_entries d p name es = durable_with d.epoch d.tick (with_tables d.config (placed_table p name es ∷ [])) d.states
 
 -- with these states in place of its own
 abbrev pub with_states : PlainDurable → List PlainState → PlainDurable
-with_states d ss = durable_with d.epoch d.config ss
+with_states d ss = durable_with d.epoch d.tick d.config ss
+
+-- at another tick, with the states that stand at it
+abbrev pub at_tick : PlainDurable → ℕ → PlainDurable
+at_tick d tick = durable_with d.epoch tick d.config (without_due d.states tick)
 
 -- the same in another opening
 abbrev pub in_epoch : ℕ → PlainDurable → PlainDurable
-in_epoch epoch d = durable_with epoch d.config d.states
+in_epoch epoch d = durable_with epoch d.tick d.config d.states
 
 -- what is kept after a change: exactly the named rulesets and tables are replaced, all else stays
 abbrev pub applied : PlainDurable → PlainChange → PlainDurable
-applied d (commits items) = durable_with d.epoch (with_tables (with_rulesets d.config (rulesets_in items)) (tables_in items)) d.states
+applied d (commits items) = durable_with d.epoch d.tick (with_tables (with_rulesets d.config (rulesets_in items)) (tables_in items)) d.states
 applied d (adds p name xs) = with_entries d p name (added (entries_at d p name) xs)
 applied d (deletes p name xs) = with_entries d p name (deleted (entries_at d p name) xs)
 applied d (sets p name xs) = with_entries d p name (replaced xs)
 applied d (acts steps) = with_states d (stepped_on d.states steps)
 applied d (removes name) = with_states d (without_state d.states name)
+applied d (expires tick) = at_tick d tick
 
 -- what is kept after all changes, in order
 abbrev pub after : PlainDurable → List PlainChange → PlainDurable
@@ -108,6 +115,7 @@ voided_by (deletes p name xs) = []
 voided_by (sets p name xs) = []
 voided_by (acts steps) = []
 voided_by (removes name) = []
+voided_by (expires tick) = []
 
 -- ---- which changes fit
 
@@ -147,14 +155,15 @@ few c = and_then (unless (nat_lt RULESET_LIMIT (length c.rulesets)) TooManyRules
     (unless (nat_lt TABLE_COUNT_LIMIT (length c.tables)) TooManyTables)
 
 -- Why a change isn't made, if there is a reason. A commit names nothing twice, and its limits are counted after all of it, those of states
--- after each step. Deleting entries or a state is bound by no limit.
+-- after each step. Deleting entries or a state is bound by no limit. No state is inserted that is due already, and the tick doesn't go back.
 abbrev pub fits : PlainDurable → PlainChange → Result (Unit {0}) ChangeRefusal
 fits d (commits items) = and_then (refused_at (λ i. Twice i) (named_again items)) (few (applied d (commits items)).config)
 fits d (adds p name xs) = and_then (no_conflict xs) (replaceable d p name (added (entries_at d p name) xs))
 fits d (deletes p name xs) = no_conflict xs
 fits d (sets p name xs) = and_then (no_conflict xs) (replaceable d p name (replaced xs))
-fits d (acts steps) = unless (passes_limit d.states steps) StatesFull
+fits d (acts steps) = and_then (unless (any_inserts_due d.tick steps) BadTick) (unless (passes_limit d.states steps) StatesFull)
 fits d (removes name) = Ok tt
+fits d (expires tick) = unless (nat_lt tick d.tick) BadTick
 
 -- what a change leaves, if it fits
 abbrev pub changed : PlainDurable → PlainChange → Result PlainDurable ChangeRefusal
@@ -162,7 +171,11 @@ changed d e = and_then (fits d e) (Ok (applied d e))
 
 -- ---- packets
 
--- a packet passes by the state of its flow; without one it is judged by the main ruleset, and where its anchor rules match by what they
--- lead to
+-- what happens to a packet of the flow of this state: it passes, if the state stands at the tick; else the main ruleset judges it, and where
+-- its anchor rules match what they lead to
+abbrev pub verdict_by : PlainDurable → PlainPacket → PlainState → Verdict
+verdict_by d packet s = if stands d.tick s.1 then Stateful s.0 else Rules (judged d.config packet)
+
+-- a packet passes by the state of its flow, if that stands; without one the rules decide
 abbrev pub verdict : PlainDurable → PlainPacket → Verdict
-verdict d packet = option_map_or (λ s. Stateful s.0) (state_of (flow_of packet) d.states) (Rules (judged d.config packet))
+verdict d packet = option_map_or (verdict_by d packet) (state_of (flow_of packet) d.states) (Rules (judged d.config packet))

@@ -1,13 +1,13 @@
 -- What is wanted, and what it mentions: lemmas, also for the crates above.
-use Rattle.std.specs.Prelude.{◌≡◌, ℕ, ◌==◌, ◌&&◌, Bool, true, false, if◌then◌else◌, not, is_some, List, [], ◌∷◌, length, map, nat_lt, Option, Some, None, Result, Ok, Err}
+use Rattle.std.specs.Prelude.{◌≡◌, ℕ, ◌==◌, ◌&&◌, ◌||◌, Bool, true, false, if◌then◌else◌, not, is_some, List, [], ◌∷◌, length, map, nat_lt, Option, Some, None, Result, Ok, Err}
 use Rattle.std.proofs.Common.{refl, sym, ap, subst, ◌∙◌}
 use Rattle.pf_addr.specs.Refusing.{unless}
 use Rattle.pf_table.specs.Edits.{added, additions, deletions, conflict_behind}
 use Rattle.pf_anchor.specs.declared.{limits.TheConstants.TABLE_COUNT_LIMIT, verdict.RuleVerdict.RuleVerdict}
 use Rattle.pf_ticket.specs.{declared.{entry.RulesetTicket.RulesetTicket, name.RulesetKind.RulesetKind, name.RulesetKind.TheVariants.Filter, name.RulesetKind.TheVariants.Table, name.RulesetName.RulesetName, refusal.TicketRefusal.TicketRefusal}, Names.{filter_at, table_ruleset_at, names_of}, Laws.Names.{filter_is, table_is}, Mentions.switches, Replies.{begin_reply, add_reply, define_reply, list_check, commit_check}, Tickets.{PlainTickets, Loaded, offered_as, loaded, content}}
-use Rattle.pf_core.specs.{declared.{command.Command.Command, command.Command.TheVariants.Transact, command.Command.TheVariants.Edit, command.Command.TheVariants.States as OfStates, command.Command.TheVariants.Ask, command.Command.TheVariants.History, command.HistoryCommand.HistoryCommand, durable.refusal.ChangeRefusal.ChangeRefusal, durable.verdict.Verdict.Verdict, durable.verdict.Verdict.TheVariants.State as Stateful, durable.verdict.Verdict.TheVariants.Rules as ByRules, command.StateCommand.StateCommand, command.StateCommand.TheVariants.Track, command.StateCommand.TheVariants.Peer, command.StateCommand.TheVariants.Kill as KillState, command.TableEdit.TableEdit, command.TableEdit.TheVariants.Add as AddTo, command.TableEdit.TheVariants.Delete, command.TableEdit.TheVariants.Set, command.TableEdit.TheVariants.Kill, command.Transaction.TheVariants.Begin, command.Transaction.TheVariants.Add, command.Transaction.TheVariants.Define, command.Transaction.TheVariants.Commit, command.Transaction.TheVariants.Rollback, reply.Answer.Answer, reply.Outcome.Outcome, reply.Outcome.TheVariants.Committed, reply.Refusal.Refusal, durable.refusal.ChangeRefusal.TheVariants.TooManyTables, step.Step.Step, step.Step.TheVariants.Done, step.Step.TheVariants.Wants, step.Step.TheVariants.OfHistory}, Commands.{unless_refused, unless_unfit, if_there, is_table, item_of, items, wanting, commit_step, added_of, deleted_of, edit_step, makes_state, tracked, track_step, steps_here, states_step, step_by, mentioned, edits_in_memory, is_done, changes_states_in_memory, takes_memory}, Durable.Changes.{PlainDurable, PlainChange, commits, adds, deletes, sets, acts, removes, entries_at, with_entries, name_of, voided_by, no_conflict, fits, verdict}}
+use Rattle.pf_core.specs.{declared.{command.Command.Command, command.Command.TheVariants.Transact, command.Command.TheVariants.Edit, command.Command.TheVariants.States as OfStates, command.Command.TheVariants.Ask, command.Command.TheVariants.History, command.HistoryCommand.HistoryCommand, durable.refusal.ChangeRefusal.ChangeRefusal, durable.verdict.Verdict.Verdict, durable.verdict.Verdict.TheVariants.State as Stateful, durable.verdict.Verdict.TheVariants.Rules as ByRules, command.StateCommand.StateCommand, command.StateCommand.TheVariants.Track, command.StateCommand.TheVariants.Peer, command.StateCommand.TheVariants.Kill as KillState, command.StateCommand.TheVariants.Expire as ExpireStates, command.TableEdit.TableEdit, command.TableEdit.TheVariants.Add as AddTo, command.TableEdit.TheVariants.Delete, command.TableEdit.TheVariants.Set, command.TableEdit.TheVariants.Kill, command.Transaction.TheVariants.Begin, command.Transaction.TheVariants.Add, command.Transaction.TheVariants.Define, command.Transaction.TheVariants.Commit, command.Transaction.TheVariants.Rollback, reply.Answer.Answer, reply.Outcome.Outcome, reply.Outcome.TheVariants.Committed, reply.Refusal.Refusal, durable.refusal.ChangeRefusal.TheVariants.TooManyTables, durable.refusal.ChangeRefusal.TheVariants.BadTick, reply.Refusal.TheVariants.BadTick as NoTick, step.Step.Step, step.Step.TheVariants.Done, step.Step.TheVariants.Wants, step.Step.TheVariants.OfHistory}, Commands.{unless_refused, unless_unfit, if_there, is_table, item_of, items, wanting, commit_step, added_of, deleted_of, edit_step, makes_state, tracked, judge_step, is_past, expiry_of, track_step, steps_here, states_step, step_by, mentioned, edits_in_memory, is_done, changes_states_in_memory, takes_memory}, Durable.Changes.{PlainDurable, PlainChange, commits, adds, deletes, sets, acts, removes, expires, entries_at, with_entries, name_of, voided_by, no_conflict, fits, verdict}}
 use Rattle.pf_rule.specs.Packets.{PlainPacket}
-use Rattle.pf_state.specs.{declared.{state.Bound.Bound, state.StateName.StateName, step.Step.Step as StateStep}, Flows.flow_of, States.{PlainState, held_at}, Steps.counts}
+use Rattle.pf_state.specs.{declared.{state.Bound.Bound, state.StateName.StateName, step.Step.Step as StateStep}, Flows.flow_of, States.{PlainState, held_at}, Steps.{counts, due_count}}
 use Rattle.pf_state.specs.declared.step.Step.TheVariants as step
 use Rattle.pf_core.specs.declared.reply.Answer.TheVariants as answer
 use Rattle.pf_core.specs.declared.reply.Outcome.TheVariants as outcome
@@ -118,10 +118,12 @@ wants_edit d (Kill p name) e o h =
 pub data IsOfStates : PlainChange → Type 0 where
   of_steps : (steps : List StateStep) → IsOfStates (acts steps)
   of_removal : (name : StateName) → IsOfStates (removes name)
+  of_tick : (tick : ℕ) → IsOfStates (expires tick)
 
 pub voids_none_of_states : (e : PlainChange) → IsOfStates e → [] ≡ switches (voided_by e)
 voids_none_of_states _ (of_steps steps) = refl
 voids_none_of_states _ (of_removal name) = refl
+voids_none_of_states _ (of_tick tick) = refl
 
 pub record IsStateChange (d : PlainDurable) (e : PlainChange) : Type 0 where
   pub fits : fits d e ≡ Ok tt
@@ -136,25 +138,41 @@ make-wanted : (d : PlainDurable) (v : RuleVerdict) (s : PlainState) (stale : Boo
 make-wanted d v s true e o h = absurd (cc (h))
 make-wanted d v s false e o h = steps-wanted d (step.Insert s ∷ []) e (outcome.Tracked v) o h
 
-tracked-wanted : (d : PlainDurable) (name : StateName) (packet : PlainPacket) (v : RuleVerdict) (made : Option Bound) (e : PlainChange) (o : Outcome) → tracked d name packet v made ≡ Ok (Wants e o) → IsStateChange d e
-tracked-wanted d name packet v None e o h = absurd (cc (h))
-tracked-wanted d name packet v (Some b) e o h =
-    let s : PlainState = (name, record { generation = 0; flow = flow_of packet; bound = b }) in
+tracked-wanted : (d : PlainDurable) (name : StateName) (packet : PlainPacket) (expiry : ℕ) (v : RuleVerdict) (made : Option Bound) (e : PlainChange) (o : Outcome) → tracked d name packet expiry v made ≡ Ok (Wants e o) → IsStateChange d e
+tracked-wanted d name packet expiry v None e o h = absurd (cc (h))
+tracked-wanted d name packet expiry v (Some b) e o h =
+    let s : PlainState = (name, record { generation = 0; flow = flow_of packet; bound = b; expiry = expiry }) in
     make-wanted d v s (is_some (held_at s.0 d.states)) e o h
 
-verdict-wanted : (d : PlainDurable) (name : StateName) (packet : PlainPacket) (v : Verdict) (e : PlainChange) (o : Outcome) → track_step d name packet v ≡ Ok (Wants e o) → IsStateChange d e
-verdict-wanted d name packet (Stateful s) e o h = absurd (cc (h))
-verdict-wanted d name packet (ByRules by) e o h = tracked-wanted d name packet by (makes_state d by) e o h
+verdict-wanted : (d : PlainDurable) (name : StateName) (packet : PlainPacket) (expiry : ℕ) (v : Verdict) (e : PlainChange) (o : Outcome) → judge_step d name packet expiry v ≡ Ok (Wants e o) → IsStateChange d e
+verdict-wanted d name packet expiry (Stateful s) e o h = absurd (cc (h))
+verdict-wanted d name packet expiry (ByRules by) e o h = tracked-wanted d name packet expiry by (makes_state d by) e o h
+
+-- a packet that is tracked until a tick that has come is refused
+pub record IsAhead {A : Type 0} (past : Bool) (next : Result A Refusal) (x : A) : Type 0 where
+  pub ahead : past ≡ false
+  pub step : next ≡ Ok x
+
+pub ahead : {A : Type 0} (past : Bool) (next : Result A Refusal) (x : A) → (if past then Err NoTick else next) ≡ Ok x → IsAhead past next x
+ahead true next x h = absurd (cc (h))
+ahead false next x h = record { ahead = refl; step = h }
+
+pub tracks : {x : Step} (d : PlainDurable) (name : StateName) (packet : PlainPacket) (until : Option ℕ) → track_step d name packet until ≡ Ok x
+    → IsAhead (is_past d until) (judge_step d name packet (expiry_of until) (verdict d packet)) x
+tracks {x = x} d name packet until h = ahead (is_past d until) (judge_step d name packet (expiry_of until) (verdict d packet)) x h
 
 -- a change of states that is wanted fits
 pub wants_states : (d : PlainDurable) (c : StateCommand) (e : PlainChange) (o : Outcome) → states_step d c ≡ Ok (Wants e o) → IsStateChange d e
-wants_states d (Track name packet) e o h = verdict-wanted d name packet (verdict d packet) e o h
+wants_states d (Track name packet until) e o h = verdict-wanted d name packet (expiry_of until) (verdict d packet) e o (tracks d name packet until h).step
 wants_states d (Peer m) e o h = steps-wanted d (steps_here d m) e (outcome.Peered (counts d.states (steps_here d m))) o h
 wants_states d (KillState name) e o h =
     let told : Result Step Refusal = Ok (Wants (removes name) outcome.Killed) in
     let same : told ≡ Ok (Wants e o) = found (is_some (held_at name d.states)) told (Wants e o) h in
     let is : removes name ≡ e = cc (same) in
     subst (λ (y : PlainChange). IsStateChange d y) is (record { fits = refl; is = of_removal name })
+wants_states d (ExpireStates tick) e o h =
+    let this : IsThis d (expires tick) e = wanted d (expires tick) e (outcome.Expired (due_count d.states tick)) o h in
+    subst (λ (y : PlainChange). IsStateChange d y) this.is (record { fits = this.fits; is = of_tick tick })
 
 voids-none : (edit : TableEdit) → [] ≡ switches (voided_by (change_by edit))
 voids-none (AddTo p name xs) = refl
@@ -171,9 +189,16 @@ edit-memory d (Set p name xs) e o h = refl
 edit-memory d (Kill p name) e o h = is-there (is_table (entries_at d p name)) (Ok (Wants (sets p name []) outcome.Killed)) (Wants e o) h
 
 states-memory : (d : PlainDurable) (c : StateCommand) (e : PlainChange) (o : Outcome) → states_step d c ≡ Ok (Wants e o) → changes_states_in_memory d c ≡ true
-states-memory d (Track name packet) e o h = ap (λ (step : Result Step Refusal). not (is_done step)) h
+states-memory d (Track name packet until) e o h =
+    let is = tracks d name packet until h in
+    let next : Result Step Refusal = judge_step d name packet (expiry_of until) (verdict d packet) in
+    ap (λ (past : Bool). not (past || is_done (if past then Err NoTick else next))) is.ahead ∙ ap (λ (step : Result Step Refusal). not (is_done step)) is.step
 states-memory d (Peer m) e o h = refl
 states-memory d (KillState name) e o h = is-there (is_some (held_at name d.states)) (Ok (Wants (removes name) outcome.Killed)) (Wants e o) h
+states-memory d (ExpireStates tick) e o h = ticks-on (nat_lt tick d.tick) h where
+  ticks-on : (b : Bool) → unless_unfit (unless b BadTick) (Ok (Wants (expires tick) (outcome.Expired (due_count d.states tick)))) ≡ Ok (Wants e o) → not b ≡ true
+  ticks-on true h = absurd (cc (h))
+  ticks-on false h = refl
 
 -- ---- any command
 
@@ -239,20 +264,21 @@ never-made : (d : PlainDurable) (v : RuleVerdict) (s : PlainState) (stale : Bool
 never-made d v s true x h = cc (h)
 never-made d v s false x h = never-wanted (fits d (acts (step.Insert s ∷ []))) (acts (step.Insert s ∷ [])) (outcome.Tracked v) (OfHistory x) (history-is-none x) h
 
-never-tracked : (d : PlainDurable) (name : StateName) (packet : PlainPacket) (v : RuleVerdict) (made : Option Bound) (x : HistoryCommand) → tracked d name packet v made ≡ Ok (OfHistory x) → ⊥
-never-tracked d name packet v None x h = cc (h)
-never-tracked d name packet v (Some b) x h =
-    let s : PlainState = (name, record { generation = 0; flow = flow_of packet; bound = b }) in
+never-tracked : (d : PlainDurable) (name : StateName) (packet : PlainPacket) (expiry : ℕ) (v : RuleVerdict) (made : Option Bound) (x : HistoryCommand) → tracked d name packet expiry v made ≡ Ok (OfHistory x) → ⊥
+never-tracked d name packet expiry v None x h = cc (h)
+never-tracked d name packet expiry v (Some b) x h =
+    let s : PlainState = (name, record { generation = 0; flow = flow_of packet; bound = b; expiry = expiry }) in
     never-made d v s (is_some (held_at s.0 d.states)) x h
 
-never-judged : (d : PlainDurable) (name : StateName) (packet : PlainPacket) (v : Verdict) (x : HistoryCommand) → track_step d name packet v ≡ Ok (OfHistory x) → ⊥
-never-judged d name packet (Stateful s) x h = cc (h)
-never-judged d name packet (ByRules by) x h = never-tracked d name packet by (makes_state d by) x h
+never-judged : (d : PlainDurable) (name : StateName) (packet : PlainPacket) (expiry : ℕ) (v : Verdict) (x : HistoryCommand) → judge_step d name packet expiry v ≡ Ok (OfHistory x) → ⊥
+never-judged d name packet expiry (Stateful s) x h = cc (h)
+never-judged d name packet expiry (ByRules by) x h = never-tracked d name packet expiry by (makes_state d by) x h
 
 never-stated : (d : PlainDurable) (c : StateCommand) (x : HistoryCommand) → states_step d c ≡ Ok (OfHistory x) → ⊥
-never-stated d (Track name packet) x h = never-judged d name packet (verdict d packet) x h
+never-stated d (Track name packet until) x h = never-judged d name packet (expiry_of until) (verdict d packet) x (tracks d name packet until h).step
 never-stated d (Peer m) x h = never-wanted (fits d (acts (steps_here d m))) (acts (steps_here d m)) (outcome.Peered (counts d.states (steps_here d m))) (OfHistory x) (history-is-none x) h
 never-stated d (KillState name) x h = never-there (is_some (held_at name d.states)) (removes name) outcome.Killed (OfHistory x) (history-is-none x) h
+never-stated d (ExpireStates tick) x h = never-wanted (fits d (expires tick)) (expires tick) (outcome.Expired (due_count d.states tick)) (OfHistory x) (history-is-none x) h
 
 -- it is what the history is asked
 pub left_is : (t : PlainTickets) (d : PlainDurable) (c : Command) (x : HistoryCommand) → step_by t d c ≡ Ok (OfHistory x) → c ≡ History x

@@ -5,9 +5,9 @@ use Rattle.pf_addr.specs.{Path.Paths.main, Path.References.PlainReference}
 use Rattle.pf_rule.specs.Packets.{PlainPacket}
 use Rattle.pf_table.specs.{Laws.Tables.DecidesAbout, Tables.deciding}
 use Rattle.pf_anchor.specs.{Evaluation.judged, Laws.Evaluation.{decides, IsToldOfMain, LeadsThere}, Rulesets.rules_at}
-use Rattle.pf_state.specs.{Flows.flow_of, Laws.States.IsStateOf, States.PlainState}
+use Rattle.pf_state.specs.{Flows.flow_of, Laws.States.IsStateOf, States.{PlainState, stands}}
 use Rattle.pf_ticket.specs.{declared.{entry.RulesetTicket.RulesetTicket, ticket.Ticket.Ticket}, Replies.commit_check, Tickets.content, Laws.Tickets.{AreOnce, IsWithin as AreTicketsWithin}, Mentions.{Mention, opened as left_by}, Names.tickets_from}
-use Rattle.pf_core.specs.{declared.{command.Command.TheVariants.Ask, command.Question.TheVariants.Judge, command.Question.TheVariants.Test, durable.verdict.Verdict.TheVariants.State as Stateful, durable.verdict.Verdict.TheVariants.Rules as ByRules, reply.Reply.Reply, reply.Reply.TheVariants.Answer as Answered, reply.Reply.TheVariants.Applied, reply.Reply.TheVariants.Stored}, Calls.{mentions_of, replies_in, mentions_of_group}, Commands.items, Durable.Changes.{PlainDurable, named_again, entries_at, verdict}, History.tickets_in, Laws.Durable.IsWithin, Worlds.{CurrentOpening, up, down, Event, called, called_group, opened, flat, log_of, durable_of, LegalReply, state_after, IsWorld}}
+use Rattle.pf_core.specs.{declared.{command.Command.TheVariants.Ask, command.Question.TheVariants.Judge, command.Question.TheVariants.Test, durable.verdict.Verdict.TheVariants.State as Stateful, durable.verdict.Verdict.TheVariants.Rules as ByRules, reply.Reply.Reply, reply.Reply.TheVariants.Answer as Answered, reply.Reply.TheVariants.Applied, reply.Reply.TheVariants.Stored}, Calls.{mentions_of, replies_in, mentions_of_group}, Commands.items, Durable.Changes.{PlainDurable, named_again, entries_at, verdict}, History.tickets_in, Laws.Durable.IsWithin, Worlds.{CurrentOpening, State, up, down, Event, called, called_group, opened, flat, log_of, durable_of, LegalReply, state_after, IsWorld}}
 use Rattle.pf_core.specs.declared.reply.Answer.TheVariants as answer
 
 -- ---- tickets
@@ -46,6 +46,18 @@ pub record AreGivenOnce (epoch : ℕ) (ts : List Ticket) : Type 0 where
 abbrev pub GivesEachOnce : Type 0
 GivesEachOnce = (first : PlainDurable) (world : List Event) (h : CurrentOpening) → IsWorld first world → state_after (down first) world ≡ up h →
     AreGivenOnce h.base.epoch (tickets_since world)
+
+-- ---- the tick
+
+-- the tick of what is kept, or of what is held between two openings
+abbrev pub tick_in : State → ℕ
+tick_in (up h) = (durable_of h).tick
+tick_in (down d) = d.tick
+
+-- whatever comes after a world, the tick doesn't go back
+abbrev pub TickNeverGoesBack : Type 0
+TickNeverGoesBack = (first : PlainDurable) (world later : List Event) → IsWorld first (world ++ later) →
+    tick_in (state_after (down first) world) ≤ tick_in (state_after (down first) (world ++ later))
 
 -- ---- limits
 
@@ -115,9 +127,10 @@ TestsTellTheEntry = (first : PlainDurable) (world : List Event) (h : CurrentOpen
     state_after (down first) world ≡ up h →
     (p name : List ℕ) (a : Addr) → TellsTheEntry h p name a
 
--- the one state of its flow decides about a packet, and without one the rules do
+-- the one state of its flow, which isn't due, decides about a packet, and without one the rules do
 pub record IsDecided (d : PlainDurable) (packet : PlainPacket) : Type 0 where
   pub by_state : (s : PlainState) → IsStateOf d.states (flow_of packet) s → verdict d packet ≡ Stateful s.0
+  pub standing : (s : PlainState) → IsStateOf d.states (flow_of packet) s → stands d.tick s.1 ≡ true
   pub one : (s t : PlainState) → IsStateOf d.states (flow_of packet) s → IsStateOf d.states (flow_of packet) t → s ≡ t
   pub by_rules : ((s : PlainState) → IsStateOf d.states (flow_of packet) s → ⊥) → verdict d packet ≡ ByRules (judged d.config packet)
   -- of rules that all decide the last one that matches, or the first quick one

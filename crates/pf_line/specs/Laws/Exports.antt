@@ -41,6 +41,6 @@ ExportsAreRead = (current : List ℕ) (es : List PlainState) → length current 
 abbrev pub main_count : PlainDurable → ℕ
 main_count d = length (rules_at [] d.config.rulesets)
 
--- these states of ours, as they are where this is kept: each is bound to its rule only if the checksums agree
+-- these states of ours, as they are where this is kept: none has an expiry, and each is bound to its rule only if the checksums agree
 abbrev pub states_there : PlainDurable → List ℕ → List PlainState → List PlainState
 states_there d ours es = map (state_there ours (main_sum d) (main_count d)) es

@@ -62,8 +62,8 @@ answer_text (answers.Logged len acked shown) =
     codes "log " ++ decimal len ++ (codes " acked " ++ decimal acked ++ (codes " shown " ++ decimal shown))
 answer_text (answers.Shown n) = codes "shown " ++ decimal n
 
--- what comes after a change's number: for an edit what became of the entries, for a message what became of its records, and for a tracked
--- packet the rules' verdict
+-- what comes after a change's number: for an edit what became of the entries, for a message what became of its records, for a tracked packet
+-- the rules' verdict, and for a tick how many states were due
 abbrev pub outcome_text : Outcome → List ℕ
 outcome_text outcomes.Committed = []
 outcome_text (outcomes.Added added same conflict) =
@@ -73,6 +73,7 @@ outcome_text outcomes.Set = []
 outcome_text outcomes.Killed = []
 outcome_text (outcomes.Tracked v) = 32 ∷ rule_verdict_text v
 outcome_text (outcomes.Peered c) = counts_text c
+outcome_text (outcomes.Expired n) = codes " expired " ++ decimal n
 
 abbrev pub refusal_text : Refusal → List ℕ
 refusal_text refusals.BadLine = codes "err line"
@@ -88,6 +89,7 @@ refusal_text (refusals.Twice at) = codes "err twice " ++ decimal at
 refusal_text (refusals.Conflict at) = codes "err conflict " ++ decimal at
 refusal_text (refusals.Busy at) = codes "busy " ++ decimal at
 refusal_text refusals.Absent = codes "err absent"
+refusal_text refusals.BadTick = codes "err tick"
 refusal_text refusals.RulesetFull = codes "err ruleset"
 refusal_text refusals.TableFull = codes "err table"
 refusal_text refusals.TooManyRulesets = codes "err rulesets"

@@ -1,5 +1,5 @@
 -- The texts of states, of checksums and of messages for a peer. A protocol, an address and a direction are written as in a rule's text.
-use Rattle.std.specs.Prelude.{ℕ, List, ◌∷◌, ◌++◌, codes, decimal, map}
+use Rattle.std.specs.Prelude.{ℕ, ◌==◌, List, [], ◌∷◌, ◌++◌, codes, decimal, if◌then◌else◌, map}
 use Rattle.hex.specs.Hex.{encode_lower}
 use Rattle.pf_addr.specs.declared.addr.Addr.{Addr}
 use Rattle.pf_addr.specs.Spelling.{addr_text}
@@ -30,9 +30,13 @@ abbrev pub bound_text : Bound → List ℕ
 bound_text (Rule number sum) = codes " rule " ++ decimal number ++ 32 ∷ encode_lower sum
 bound_text Default = codes " default"
 
--- its name, its generation, its flow and what it is bound to
+-- the tick at which a state expires, if it does
+abbrev pub expiry_text : ℕ → List ℕ
+expiry_text n = if n == 0 then [] else codes " until " ++ decimal n
+
+-- its name, its generation, its flow, what it is bound to, and when it expires
 abbrev pub state_line : PlainState → List ℕ
-state_line s = name_text s.0 ++ (32 ∷ decimal s.1.generation ++ (flow_text s.1.flow ++ bound_text s.1.bound))
+state_line s = name_text s.0 ++ (32 ∷ decimal s.1.generation ++ (flow_text s.1.flow ++ (bound_text s.1.bound ++ expiry_text s.1.expiry)))
 
 abbrev pub state_lines : List PlainState → List (List ℕ)
 state_lines ss = map state_line ss

@@ -33,8 +33,8 @@ pub record WasRefused (text : List ℕ) : Type 0 where
   pub text_is : text ≡ front ++ (reply_text (Refused why) ++ behind)
 
 -- A Book that is ready for the lines of an export holds the states that were exported once it was given these lines, one by one, unless a
--- line was refused for want of memory or room, or for a fault. Each state has its name, its generation and its flow, and is bound to its
--- rule only where the checksums of the main rules agree.
+-- line was refused for want of memory or room, or for a fault. Each state has its name, its generation and its flow, never expires, and
+-- is bound to its rule only where the checksums of the main rules agree.
 abbrev pub TakesOver : {D : Type 0} → (D → ℕ) → Type 0
 TakesOver {D = D} faults = (ours : List ℕ) (es : List PlainState) (first : PlainDurable) (world : List Event) (old new : PlainBook D) (text : List ℕ)
     → CanBeExported ours es → StandsFor first (world_book old) world → IsReadyFor (length (exported_lines ours es)) (world_book old)

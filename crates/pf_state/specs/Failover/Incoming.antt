@@ -3,11 +3,12 @@ use Rattle.std.specs.{Prelude.{ℕ, List, map}, List.flat_map}
 use Rattle.pf_state.specs.{declared.{peer.message.Group.Group, peer.message.Group.TheVariants.Inserts, peer.message.Group.TheVariants.Deletes, peer.message.Group.TheVariants.Clears, peer.message.Message.Message, step.Step.Step, step.Step.TheVariants.Insert, step.Step.TheVariants.Delete, step.Step.TheVariants.Clear}, Peer.Records.{PlainInsert, told_flow}, Bindings.bound, States.PlainState}
 use Rattle.pf_state.specs.declared.{peer.record.Clear.Clear as ClearRecord, peer.record.Delete.Delete as DeleteRecord}
 
--- The state of an insert in a message with this checksum, bound by the checksum of the main rules here and by how many there are.
+-- The state of an insert in a message with this checksum, bound by the checksum of the main rules here and by how many there are. It has no
+-- expiry.
 abbrev pub told_state : List ℕ → List ℕ → ℕ → PlainInsert → PlainState
 told_state sum current count i = (
   record { id = i.id; creator = i.creator },
-  record { generation = i.generation; flow = told_flow i; bound = bound sum i.rule i.anchor current count },
+  record { generation = i.generation; flow = told_flow i; bound = bound sum i.rule i.anchor current count; expiry = 0 },
 )
 
 abbrev pub insert_step : List ℕ → List ℕ → ℕ → PlainInsert → Step

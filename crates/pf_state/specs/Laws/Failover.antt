@@ -1,6 +1,6 @@
 -- Laws of what a message asks for and of an export, as law functions promise them.
 use Rattle.std.specs.{Prelude.{◌≡◌, ℕ, ◌<◌, ◌≤◌, ◌^◌, ◌&&◌, false, nat_lt, cond, List, [], ◌∷◌, length, map}, List.{concat, flat_map, sum_by}, Str.bytes_eq}
-use Rattle.pf_state.specs.{declared.{peer.message.Group.Group, peer.message.Group.TheVariants.Inserts, peer.message.Group.TheVariants.Deletes, peer.message.Group.TheVariants.Clears, peer.message.Message.Message, peer.message.TheConstants.MESSAGE_LIMIT, binding.TheConstants.ALL_ONES, state.Bound.Bound, state.Bound.TheVariants.Rule, state.Bound.TheVariants.Default, step.Step.Step, step.Step.TheVariants.Insert, failover.outgoing.TheConstants.EXPORT_RECORDS}, Peer.Records.PlainInsert, Peer.Streams.{Reads, Unfinished}, Peer.Written.{Each, message_length, message_bytes}, Flows.IsFlow, States.{PlainState, IsStates}, Steps.{after, passes_limit}, Failover.Incoming.steps_of, Failover.Outgoing.{parts, exported_messages}}
+use Rattle.pf_state.specs.{declared.{peer.message.Group.Group, peer.message.Group.TheVariants.Inserts, peer.message.Group.TheVariants.Deletes, peer.message.Group.TheVariants.Clears, peer.message.Message.Message, peer.message.TheConstants.MESSAGE_LIMIT, binding.TheConstants.ALL_ONES, state.Bound.Bound, state.Bound.TheVariants.Rule, state.Bound.TheVariants.Default, step.Step.Step, step.Step.TheVariants.Insert, failover.outgoing.TheConstants.EXPORT_RECORDS}, Peer.Records.PlainInsert, Peer.Streams.{Reads, Unfinished}, Peer.Written.{Each, message_length, message_bytes}, Flows.IsFlow, States.{PlainState, IsStates}, Steps.{after, passes_limit, any_inserts_due}, Failover.Incoming.steps_of, Failover.Outgoing.{parts, exported_messages}}
 
 -- ---- a step for each record
 
@@ -12,6 +12,10 @@ record_count (Clears xs) = length xs
 -- a message asks for as many steps as its groups have records
 abbrev pub OneStepForEach : Type 0
 OneStepForEach = (m : Message) (current : List ℕ) (count : ℕ) → length (steps_of m current count) ≡ sum_by record_count m.groups
+
+-- what it inserts never expires, so none of it is due at any tick
+abbrev pub InsertsNothingDue : Type 0
+InsertsNothingDue = (tick : ℕ) (m : Message) (current : List ℕ) (count : ℕ) → any_inserts_due tick (steps_of m current count) ≡ false
 
 -- ---- what an export has
 
@@ -50,11 +54,11 @@ bound_there ours theirs count (Rule number sum) =
     cond (bytes_eq sum ours && (bytes_eq ours theirs && nat_lt number count)) (Rule number sum) Default
 bound_there ours theirs count Default = Default
 
--- the state at a peer: all of it but the rule that it is bound to
+-- the state at a peer: all of it but the rule that it is bound to, and without an expiry
 abbrev pub state_there : List ℕ → List ℕ → ℕ → PlainState → PlainState
 state_there ours theirs count s = (
   s.0,
-  record { generation = s.1.generation; flow = s.1.flow; bound = bound_there ours theirs count s.1.bound },
+  record { generation = s.1.generation; flow = s.1.flow; bound = bound_there ours theirs count s.1.bound; expiry = 0 },
 )
 
 -- an export asks a peer for an insert of each state, in order, and for nothing else

@@ -1,7 +1,7 @@
 -- Laws of flows, states, steps and bindings, as law functions promise them.
 use Rattle.std.specs.{Prelude.{◌≡◌, ◌≢◌, ℕ, ◌+◌, ◌<◌, ◌≤◌, ◌==◌, ◌&&◌, ◌↔◌, Bool, true, false, cond, List, [], ◌∷◌, length, take, Option, Some, None}, List.count_by, Ordering.eq_by_cmp}
 use Rattle.pf_rule.specs.Packets.{PlainPacket}
-use Rattle.pf_state.specs.{declared.{binding.TheConstants.ALL_ONES, limits.TheConstants.STATE_LIMIT, state.Bound.TheVariants.Rule, state.Bound.TheVariants.Default, state.Held.Held, state.StateName.StateName, step.Insertion.TheVariants.Stale, step.Step.Step, step.Step.TheVariants.Insert, step.Step.TheVariants.Delete, step.Step.TheVariants.Clear}, Flows.{PlainFlow, is_equal, turned, same_flow, flow_of}, States.{PlainState, name_order, held_at, state_of, NamesFlows, IsStates}, Steps.{insertion, has_effect, stepped, after, counts, passes_limit}, Bindings.{bound, exported}}
+use Rattle.pf_state.specs.{declared.{binding.TheConstants.ALL_ONES, limits.TheConstants.STATE_LIMIT, state.Bound.TheVariants.Rule, state.Bound.TheVariants.Default, state.Held.Held, state.StateName.StateName, step.Insertion.TheVariants.Stale, step.Step.Step, step.Step.TheVariants.Insert, step.Step.TheVariants.Delete, step.Step.TheVariants.Clear}, Flows.{PlainFlow, is_equal, turned, same_flow, flow_of}, States.{PlainState, name_order, held_at, state_of, NamesFlows, IsStates, stands, all_stand}, Steps.{insertion, has_effect, stepped, after, without_due, due_count, any_inserts_due, without_state, counts, passes_limit}, Bindings.{bound, exported}}
 
 -- ---- flows
 
@@ -90,6 +90,31 @@ StaysStates = (es : List PlainState) (steps : List Step) → LeavesStates es ste
 abbrev pub RefusedByAnyStep : Type 0
 RefusedByAnyStep = (es : List PlainState) (steps : List Step) → IsStates es
     → (passes_limit es steps ≡ false) ↔ ((k : ℕ) → length (after es (take k steps)) ≤ STATE_LIMIT)
+
+-- ---- ticks
+
+-- what is left under a name that held this
+abbrev pub still_held : ℕ → Option Held → Option Held
+still_held tick None = None
+still_held tick (Some held) = cond (stands tick held) (Some held) None
+
+-- a tick takes out the states that are due and leaves all others as they are
+pub record TakesOutTheDue (es : List PlainState) (tick : ℕ) : Type 0 where
+  pub reads : (q : StateName) → held_at q (without_due es tick) ≡ still_held tick (held_at q es)
+  pub stand : all_stand tick (without_due es tick) ≡ true
+  pub count : length (without_due es tick) + due_count es tick ≡ length es
+  pub table : IsStates es → IsStates (without_due es tick)
+
+abbrev pub TicksTakeOutTheDue : Type 0
+TicksTakeOutTheDue = (es : List PlainState) (tick : ℕ) → NamesFlows es → TakesOutTheDue es tick
+
+-- where no state is due, none is after steps that insert none that is, or with a state taken out
+pub record LeavesNoneDue (es : List PlainState) (tick : ℕ) : Type 0 where
+  pub steps : (steps : List Step) → any_inserts_due tick steps ≡ false → all_stand tick (after es steps) ≡ true
+  pub without : (n : StateName) → all_stand tick (without_state es n) ≡ true
+
+abbrev pub StepsLeaveNoneDue : Type 0
+StepsLeaveNoneDue = (es : List PlainState) (tick : ℕ) → all_stand tick es ≡ true → LeavesNoneDue es tick
 
 -- ---- what is counted
 

@@ -1,4 +1,4 @@
--- A stored state in 96 bytes, in each version; and such states in the order of their names.
+-- A stored state in 96 bytes, in each version; and such states in the order of their names. Versions before `EXPIRY_FROM` have no expiry.
 --
 --   place width field
 --       0     8 id
@@ -9,11 +9,11 @@
 --      64     1 what it is bound to: 0 the default rule, 1 a main rule
 --      65     3 zeros
 --      68     4 the rule's number, and 16 the checksum of its rules: zeros for the default rule
---      88     8 zeros
-use Rattle.std.specs.{Prelude.{ℕ, ◌&&◌, nat_le, Bool, true, not, List, [], ◌∷◌, length, map, replicate}, List.list_any, Ordering.is_lt}
+--      88     8 its expiry; zeros in a version without expiries
+use Rattle.std.specs.{Prelude.{ℕ, ◌==◌, ◌&&◌, ◌||◌, nat_le, Bool, true, not, List, [], ◌∷◌, length, map, replicate, if◌then◌else◌}, List.{list_all, list_any}, Ordering.is_lt}
 use Rattle.std.proofs.Common.{inl, inr}
-use Rattle.pf_form.specs.Bytes.{Forms.{Shape, unit, nat, both, either, list, Value, Form, nothing, number, front, back, or, times, counted, that, pair}, Lists.in_order}
-use Rattle.pf_state.specs.{declared.{limits.TheConstants.STATE_LIMIT, state.Bound.Bound, state.Bound.TheVariants.Rule, state.Bound.TheVariants.Default, state.Held.Held, state.StateName.StateName}, Flows.same_flow, Layouts.Flows.{FlowShape, flow_form, plain_flow, flow_in}, States.{PlainState, name_order}}
+use Rattle.pf_form.specs.Bytes.{Forms.{Shape, unit, nat, both, either, list, Value, Form, nothing, number, front, or, times, counted, that, pair}, Lists.in_order}
+use Rattle.pf_state.specs.{declared.{layouts.state.TheConstants.EXPIRY_FROM, limits.TheConstants.STATE_LIMIT, state.Bound.Bound, state.Bound.TheVariants.Rule, state.Bound.TheVariants.Default, state.Held.Held, state.StateName.StateName}, Flows.same_flow, Layouts.Flows.{FlowShape, flow_form, plain_flow, flow_in}, States.{PlainState, name_order}}
 
 -- ---- names
 
@@ -45,20 +45,30 @@ abbrev pub bound_in : Value BoundShape → Bound
 bound_in (inl u) = Default
 bound_in (inr v) = Rule v.0 v.1
 
+-- ---- expiries
+
+-- whether forms of a version have expiries
+abbrev pub has_expiry : ℕ → Bool
+has_expiry version = nat_le EXPIRY_FROM version
+
+-- where there are none, zeros for 0
+unfoldable pub expiry_form : Bool → Form nat
+expiry_form has = if has then number 8 else front (replicate 8 0) (nothing 0)
+
 -- ---- states
 
--- what is held under a name: the generation, the flow and what it is bound to
+-- what is held under a name: the generation, the flow, what it is bound to, and the expiry
 abbrev pub HeldShape : Shape
-HeldShape = both nat (both FlowShape BoundShape)
+HeldShape = both nat (both FlowShape (both BoundShape nat))
 
 unfoldable pub held_form : ℕ → Form HeldShape
-held_form version = pair (number 4) (pair flow_form (front (replicate 8 255) (back bound_form (replicate 8 0))))
+held_form version = pair (number 4) (pair flow_form (front (replicate 8 255) (pair bound_form (expiry_form (has_expiry version)))))
 
 abbrev pub plain_held : Held → Value HeldShape
-plain_held h = (h.generation, (plain_flow h.flow, plain_bound h.bound))
+plain_held h = (h.generation, (plain_flow h.flow, (plain_bound h.bound, h.expiry)))
 
 abbrev pub held_in : Value HeldShape → Held
-held_in v = record { generation = v.0; flow = flow_in v.1.0; bound = bound_in v.1.1 }
+held_in v = record { generation = v.0; flow = flow_in v.1.0; bound = bound_in v.1.1.0; expiry = v.1.1.1 }
 
 abbrev pub StateShape : Shape
 StateShape = both NameShape HeldShape
@@ -73,7 +83,14 @@ plain_state s = (plain_name s.0, plain_held s.1)
 abbrev pub state_in : Value StateShape → PlainState
 state_in v = (name_in v.0, held_in v.1)
 
+-- whether a version has a form for a state: one without expiries has none for a state with one
+abbrev pub allows : ℕ → PlainState → Bool
+allows version s = has_expiry version || (s.1.expiry == 0)
+
 -- ---- many
+
+abbrev pub all_allowed : ℕ → List PlainState → Bool
+all_allowed version es = list_all (allows version) es
 
 -- its name comes before the other's
 abbrev pub state_before : Value StateShape → Value StateShape → Bool

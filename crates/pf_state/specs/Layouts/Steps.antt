@@ -3,10 +3,10 @@
 --   1 and a state of 96 bytes                   insert
 --   2 and an id of 8 bytes, a creator of 4      delete
 --   3 and a creator of 4 bytes                  clear
-use Rattle.std.specs.Prelude.{ℕ, List, [], ◌∷◌, map}
+use Rattle.std.specs.{Prelude.{ℕ, Bool, true, List, [], ◌∷◌, map}, List.list_all}
 use Rattle.std.proofs.Common.{inl, inr}
 use Rattle.pf_form.specs.Bytes.Forms.{Shape, nat, either, list, Value, Form, number, front, or, counted}
-use Rattle.pf_state.specs.{declared.{step.Step.Step, step.Step.TheVariants.Insert, step.Step.TheVariants.Delete, step.Step.TheVariants.Clear}, Layouts.States.{NameShape, name_form, plain_name, name_in, StateShape, state_form, plain_state, state_in}}
+use Rattle.pf_state.specs.{declared.{step.Step.Step, step.Step.TheVariants.Insert, step.Step.TheVariants.Delete, step.Step.TheVariants.Clear}, Layouts.States.{NameShape, name_form, plain_name, name_in, StateShape, state_form, plain_state, state_in, allows}}
 
 abbrev pub StepShape : Shape
 StepShape = either StateShape (either NameShape nat)
@@ -30,3 +30,12 @@ steps_form version = counted 4 (step_form version)
 
 abbrev pub plain_steps : List Step → List (Value StepShape)
 plain_steps xs = map plain_step xs
+
+-- whether a version has forms for steps
+abbrev pub allows_step : ℕ → Step → Bool
+allows_step version (Insert s) = allows version s
+allows_step version (Delete n) = true
+allows_step version (Clear creator) = true
+
+abbrev pub allows_steps : ℕ → List Step → Bool
+allows_steps version xs = list_all (allows_step version) xs
