@@ -31,7 +31,7 @@ bound_again ours theirs count few (Rule number sum) = by (bytes_eq sum ours) ref
 
 step_again : (ours theirs : List ℕ) (count : ℕ) → count ≤ ALL_ONES → (s : PlainState) → insert_step ours theirs count (exported_insert ours s) ≡ Insert (state_there ours theirs count s)
 step_again ours theirs count few s =
-    ap (λ (b : Bound). Insert (s.0, record { generation = s.1.generation; flow = s.1.flow; bound = b })) (bound_again ours theirs count few s.1.bound)
+    ap (λ (b : Bound). Insert (s.0, record { generation = s.1.generation; flow = s.1.flow; bound = b; expiry = 0 })) (bound_again ours theirs count few s.1.bound)
 
 steps_again : (ours theirs : List ℕ) (count : ℕ) → count ≤ ALL_ONES → (es : List PlainState)
     → map (insert_step ours theirs count) (map (exported_insert ours) es) ≡ map (λ s. Insert (state_there ours theirs count s)) es

@@ -27,7 +27,7 @@ bound_back (Rule n sum) = refl
 bound_back Default = refl
 
 held_back : (h : Held) → held_in (plain_held h) ≡ h
-held_back h = λ i. record { generation = h.generation; flow = flow_back h.flow i; bound = bound_back h.bound i }
+held_back h = λ i. record { generation = h.generation; flow = flow_back h.flow i; bound = bound_back h.bound i; expiry = h.expiry }
 
 pub state_back : (s : PlainState) → state_in (plain_state s) ≡ s
 state_back s = λ i. (s.0, held_back s.1 i)

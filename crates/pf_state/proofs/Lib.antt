@@ -28,3 +28,6 @@ pub mod Indexed
 pub mod Computed
 pub mod Widths
 pub mod Whole
+pub mod ByExpiry
+pub mod Ticks
+pub mod Expiries

@@ -1,8 +1,8 @@
 -- Items that are appended to bytes one by one.
-use Rattle.std.proofs.{Common.{◌≡◌, ℕ, true, List, ◌∷◌, length, map, refl, arith}, lemmas.List.length-map, lemmas.Bool.Decides.nat_tests}
+use Rattle.std.proofs.{Common.{◌≡◌, ℕ, true, List, ◌∷◌, length, map, refl, arith}, lemmas.List.length-map, lemmas.Bool.{and_parts, Decides.nat_tests}}
 use Rattle.std.specs.{Prelude.nat_le, List.AllByRecursion}
 use Rattle.pf_form.specs.Bytes.{BasicForms.onto_each, Forms.{Shape, Value, Form, Fits, onto}}
-use Rattle.pf_state.specs.{declared.limits.TheConstants.STATE_LIMIT, States.{PlainState, IsStates}, Layouts.States.{state_form, states_form, plain_state, state_in, plain_states, no_flow_twice}}
+use Rattle.pf_state.specs.{declared.limits.TheConstants.STATE_LIMIT, States.{PlainState, IsStates}, declared.step.Step.Step, Layouts.{States.{state_form, states_form, plain_state, state_in, plain_states, no_flow_twice, allows, all_allowed}, Steps.{allows_step, allows_steps}}}
 use Rattle.pf_state.proofs.{LayoutsBack.states_back, Rows.{in_turn, once_each}}
 
 -- Of all the items these are left: once they are appended all are, and all fit if these do.
@@ -25,3 +25,10 @@ states_fit version es is each =
     let short : nat_le (length (plain_states es)) STATE_LIMIT ≡ true = grind (arith, nat_tests, few, length-map es plain_state) in
     let once : no_flow_twice (map state_in (plain_states es)) ≡ true = rw (states_back es) (once_each es is.names) in
     ((omega (arith, few, length-map es plain_state), each), rw (short, in_turn es is.names.sorted, once) refl)
+
+-- the first is allowed, and so are those after it
+pub allowed_first : (version : ℕ) (s : PlainState) (es : List PlainState) → all_allowed version (s ∷ es) ≡ true → (allows version s ≡ true) × (all_allowed version es ≡ true)
+allowed_first version s es all = and_parts (allows version s) (all_allowed version es) all
+
+pub allowed_step : (version : ℕ) (x : Step) (xs : List Step) → allows_steps version (x ∷ xs) ≡ true → (allows_step version x ≡ true) × (allows_steps version xs ≡ true)
+allowed_step version x xs all = and_parts (allows_step version x) (allows_steps version xs) all

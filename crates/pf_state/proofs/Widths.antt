@@ -5,7 +5,8 @@ use Rattle.pf_addr.specs.{Address.family_of, declared.addr.Addr.{Addr, TheVarian
 use Rattle.pf_form.specs.Bytes.Forms.{Value, length_of}
 use Rattle.pf_rule.specs.Bytes.{family_byte}
 use Rattle.pf_state.specs.{declared.{state.Bound.Bound, state.Bound.TheVariants.Rule, state.Bound.TheVariants.Default}, Flows.PlainFlow, States.{PlainState, is_whole, are_whole}}
-use Rattle.pf_state.specs.Layouts.{Flows.{direction_form, family_form, protocol_form, AddrShape, addr_form, ports_form, flow_form, plain_flow}, States.{name_form, bound_form, plain_bound, held_form, state_form, plain_state, states_form, plain_states}}
+use Rattle.pf_state.specs.Layouts.{Flows.{direction_form, family_form, protocol_form, AddrShape, addr_form, ports_form, flow_form, plain_flow}, States.{name_form, bound_form, plain_bound, has_expiry, held_form, state_form, plain_state, states_form, plain_states}}
+use Rattle.pf_state.proofs.Expiries.{expiry_long}
 
 ones : (bytes : List ℕ) → sum_by (λ b. 1) bytes ≡ length bytes
 ones [] = refl
@@ -27,7 +28,7 @@ bound_long (Rule n sum) whole = let sixteen : length sum ≡ 16 = grind (arith, 
 
 pub state_long : (version : ℕ) (s : PlainState) → is_whole s.1.bound ≡ true → length_of (state_form version) (plain_state s) ≡ 96
 unfolding state_form name_form held_form
-state_long version s whole = omega (arith, flow_long s.1.flow, bound_long s.1.bound whole)
+state_long version s whole = omega (arith, flow_long s.1.flow, bound_long s.1.bound whole, expiry_long (has_expiry version) s.1.expiry)
 
 each_long : (version : ℕ) (es : List PlainState) → are_whole es ≡ true → sum_by (length_of (state_form version)) (plain_states es) ≡ 96 * length es
 each_long version [] whole = refl

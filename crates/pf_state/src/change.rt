@@ -1,10 +1,10 @@
 //! Changes of states.
 ghost use Rattle.std.specs.{Prelude.{◌≡◌, ◌-◌, ◌≤◌, length, nat_le, true, false, T, IfOk}, FinMap.is_sorted, Option.option_map_or};
-ghost use Rattle.pf_state.specs.{States.{NamesFlows, are_whole, held_at, name_order}, Steps.{insertion, stepped, counted, only_deleted, without_creator, is_over}};
+ghost use Rattle.pf_state.specs.{States.{NamesFlows, are_whole, held_at, name_order}, Steps.{insertion, stepped, counted, only_deleted, without_creator, without_due, is_over}};
 ghost use Rattle.pf_state.specs.declared.step.Step.TheVariants as step_kind;
 
 use crate::counts::Counts;
-use crate::keys::States;
+use crate::index::States;
 use crate::limits::STATE_LIMIT;
 use crate::state::{Held, State, StateName, tell_whole};
 use crate::step::{Insertion, Step};
@@ -77,6 +77,20 @@ pub(crate) fn clear(alloc: Global, states: States, creator: u32) -> Result<State
         if state.key().creator == creator {
             left = left.without(alloc, state.key())?;
         }
+    }
+    Ok(left)
+}
+
+/// The states that stand at a tick. It costs what is taken out, and not what there is. `AllocError`: these states are dropped; other owners
+/// keep theirs.
+#[tactic(auto, using(crate::proofs::Ticks::standing_begun, crate::proofs::Ticks::standing_on, crate::proofs::Ticks::standing_all, crate::proofs::Ticks::one_less))]
+pub(crate) fn standing(alloc: Global, states: States, tick: u64) -> Result<States, AllocError>
+    requires { T (is_sorted name_order states) }
+    ensures { IfOk result (λ s. s ≡ without_due states tick) }
+{
+    let mut left = states;
+    while let Some(name) = left.first_due(tick) {
+        left = left.without(alloc, &name)?;
     }
     Ok(left)
 }

@@ -1,13 +1,10 @@
-//! The index of states, by their names and by their flows.
+//! How names and flows are the keys of maps.
 ghost use Rattle.pf_state.specs.{FlowKeys.{key_of, key_order, mixed}, Orders.{name_total, name_alike, names_rise, key_total, key_alike, keys_rise}, States.name_order};
 
 use crate::flow_key::FlowKey;
 use crate::state::{Held, StateName};
-use pf_map::{Flowed, Index, Key};
+use pf_map::{Flowed, Key};
 use std::cmp::Ordering;
-
-/// States by name and by flow.
-pub(crate) type States = Index<StateName, FlowKey, Held>;
 
 impl Key for StateName {
     ghost order = { name_order };

@@ -1,17 +1,20 @@
 //! Laws of flows, states and steps. Each function does nothing; its contract is the law.
 ghost use Rattle.std.specs.Prelude.{◌≡◌};
-ghost use Rattle.pf_state.specs.Laws.States.{OneFlowOrAnother, InterfaceIsNoPart, OneStateAFlow, KeepsWhatIsThere, StaleByGeneration, ReadsWhatStepsLeave, NamesAlike, LastStepStands, StaysStates, RefusedByAnyStep, CountsAddUp, BindsExactly, TellsTheNumber};
+ghost use Rattle.pf_state.specs.Laws.States.{OneFlowOrAnother, InterfaceIsNoPart, OneStateAFlow, KeepsWhatIsThere, StaleByGeneration, ReadsWhatStepsLeave, NamesAlike, LastStepStands, StaysStates, RefusedByAnyStep, CountsAddUp, BindsExactly, TellsTheNumber, TicksTakeOutTheDue, StepsLeaveNoneDue};
 
 use crate::binding::ALL_ONES;
 use crate::failover::EXPORT_RECORDS;
+use crate::layouts::EXPIRY_FROM;
 use crate::limits::STATE_LIMIT;
 
-/// The numbers that definitions and code cite by name: how many states there may be, what means no rule, and how many states a
-/// message of an export has. Those of messages are in [`crate::peer::numbers_of_messages_are_these`].
+/// The numbers that definitions and code cite by name: how many states there may be, what means no rule, how many states a message of an
+/// export has, and the first version whose stored states have expiries. Those of messages are in
+/// [`crate::peer::numbers_of_messages_are_these`].
 pub fn numbers_are_these()
     ensures states { STATE_LIMIT ≡ 65_536 }
     ensures no_rule { ALL_ONES ≡ 4_294_967_295 }
     ensures exported { EXPORT_RECORDS ≡ 31 }
+    ensures expiry { EXPIRY_FROM ≡ 3 }
 {}
 
 /// Two flows are one if they are equal, or one is the other turned: this is reflexive, symmetric and transitive. The interface of a packet
@@ -43,6 +46,13 @@ pub fn batches_leave_states()
     ensures last { LastStepStands }
     ensures stays { StaysStates }
     ensures refused { RefusedByAnyStep }
+{}
+
+/// A tick takes out exactly the states that are due, and leaves all others as they are. Where no state is due, none is after steps that
+/// insert none that is.
+pub fn ticks_take_out_the_due()
+    ensures due { TicksTakeOutTheDue }
+    ensures steps { StepsLeaveNoneDue }
 {}
 
 /// Each insert is counted once, and the number of states changes by what is counted.

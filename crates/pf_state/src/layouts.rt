@@ -8,6 +8,8 @@ mod step;
 
 pub(crate) use flow::push_flow;
 pub use laws::{layouts_tell_states_and_steps, states_take_so_many_bytes};
-pub use lists::{push_states, push_steps, read_states, read_steps, states_length};
-pub use state::{StoredState, push_name, push_state, read_name, read_state};
+pub use lists::{
+    push_states, push_steps, read_states, read_steps, states_length, steps_are_allowed_in,
+};
+pub use state::{EXPIRY_FROM, StoredState, push_name, push_state, read_name, read_state};
 pub use step::{push_step, step_length};

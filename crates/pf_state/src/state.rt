@@ -1,6 +1,6 @@
 //! States.
 ghost use Rattle.std.specs.{Prelude.{◌≡◌, ◌==◌, true, length}, Ordering.eq_by_cmp};
-ghost use Rattle.pf_state.specs.States.{name_order, is_whole};
+ghost use Rattle.pf_state.specs.States.{name_order, is_whole, stands};
 
 use crate::flow::Flow;
 use pf_map::KeyValue;
@@ -27,12 +27,24 @@ pub enum Bound {
 /// What is held under a state's name.
 #[derive(Clone, Copy)]
 pub struct Held {
+    // whoever finds a state reads its name and this, so it is first; where it lies is the compiler's choice
+    /// The tick at which the state goes: it stands as long as the tick is below this. 0 for never.
+    pub expiry: u64,
     /// The flow whose packets it lets pass.
     pub flow: Flow,
     /// The rule that it is bound to.
     pub bound: Bound,
-    /// Which of two versions of this state is the later one: the greater generation. 0 for a state that was made here.
+    /// Which of two inserts of this state is the later one: the greater generation. 0 for a state that was made here.
     pub generation: u32,
+}
+
+impl Held {
+    /// Whether it stands at a tick: its expiry is 0, or greater than the tick. Else it is due.
+    pub fn stands(&self, tick: u64) -> bool
+        ensures { result ≡ stands tick self.now }
+    {
+        self.expiry == 0 || tick < self.expiry
+    }
 }
 
 /// A state: its name, and what is held under it. It is shared by all tables and steps that have it. Contracts see the pair.

@@ -1,5 +1,6 @@
 //! Steps that change states.
 ghost use Rattle.std.specs.Prelude.{◌≡◌};
+ghost use Rattle.pf_state.specs.Steps.{inserts_due, any_inserts_due};
 
 use crate::state::{State, StateName};
 use std::marker::Model;
@@ -57,4 +58,23 @@ impl StepList {
     {
         &self.steps
     }
+}
+
+impl Step {
+    // Whether it inserts a state that is due at a tick, even if it would be stale or clash.
+    fn inserts_due(&self, tick: u64) -> bool
+        ensures { result ≡ inserts_due tick self.now }
+    {
+        match self {
+            Step::Insert(state) => !state.value().stands(tick),
+            Step::Delete(_) | Step::Clear { .. } => false,
+        }
+    }
+}
+
+/// Whether one of these steps inserts a state that is due at a tick, even if it would be stale or clash. It takes no memory.
+pub fn any_inserts_due(steps: &[Step], tick: u64) -> bool
+    ensures { result ≡ any_inserts_due tick steps.now }
+{
+    steps.iter().any(|step| step.inserts_due(tick))
 }

@@ -1,11 +1,11 @@
 //! The table of states.
 ghost use Rattle.std.specs.{Prelude.{◌≡◌, ◌≤◌, ◌+◌, [], cond, is_ok, is_some, length, IfOk, IfSome, Contains, Some, None, true, false}, Option.option_map};
-ghost use Rattle.pf_state.specs.{declared.limits.TheConstants.STATE_LIMIT, Flows.flow_of, States.{PlainState, IsStates, are_whole, held_at, state_of}, Steps.{Refuses, passes_limit, after, counts, without_state, without_creator, creator_count}};
+ghost use Rattle.pf_state.specs.{declared.limits.TheConstants.STATE_LIMIT, Flows.flow_of, States.{PlainState, IsStates, are_whole, held_at, state_of, all_stand, none_expires}, Steps.{Refuses, passes_limit, after, counts, without_state, without_creator, creator_count, without_due, due_count}};
 
-use crate::change::{act, clear, held_at, is_over};
+use crate::change::{act, clear, held_at, is_over, standing};
 use crate::counts::Counts;
 use crate::flow::Flow;
-use crate::keys::States;
+use crate::index::States;
 use crate::refusal::StatesRefusal;
 use crate::state::{Held, State, StateName};
 use crate::step::Step;
@@ -16,7 +16,8 @@ use std::marker::Model;
 
 /// At most 65,536 states, no name and no flow twice. Contracts see the list of them in the order of their names.
 ///
-/// A changed table shares with the old one all states that stay, and nearly all of the index.
+/// A changed table shares with the old one all states that stay, and nearly all of the index. The table knows of expiries, and not which
+/// tick it is.
 pub struct StateTable {
     index: States,
 }
@@ -111,6 +112,24 @@ impl StateTable {
         self.index.of_flow(flow.key())
     }
 
+    /// Whether no state is due at a tick. It looks at one state at most, and takes no memory.
+    #[tactic(auto, using(crate::proofs::Ticks::none_stand))]
+    pub fn all_stand(&self, tick: u64) -> bool
+        ensures { result ≡ all_stand tick self.now }
+    {
+        match self.index.first_due(tick) {
+            Some(_due) => false,
+            None => true,
+        }
+    }
+
+    /// Whether no state has an expiry. It looks at none of them, and takes no memory.
+    pub fn none_expires(&self) -> bool
+        ensures { result ≡ none_expires self.now }
+    {
+        self.index.none_expires()
+    }
+
     /// What is held under a name, if it is known. It takes no memory.
     pub fn held_at(&self, name: StateName) -> Option<Held>
         ensures { result ≡ held_at name self.now }
@@ -176,6 +195,20 @@ impl StateTable {
     {
         let before = self.index.len();
         let left = clear(alloc, self.index.shared()?, creator)?;
+        let count = before - left.len();
+        *self = StateTable { index: left };
+        Ok(count)
+    }
+
+    /// Takes out the states that are due at a tick: those that have an expiry, and one that isn't greater. Returns how many there were. It
+    /// costs what is taken out, and not what there is. `AllocError`: the table is as before.
+    #[tactic(auto, using(crate::proofs::Ticks::due_shrinks))]
+    pub fn expire(&mut self, alloc: Global, tick: u64) -> Result<usize, AllocError>
+        ensures count { IfOk result (λ count. count ≡ due_count self.old tick) }
+        ensures after { self.new ≡ cond (is_ok result) (without_due self.old tick) self.old }
+    {
+        let before = self.index.len();
+        let left = standing(alloc, self.index.shared()?, tick)?;
         let count = before - left.len();
         *self = StateTable { index: left };
         Ok(count)

@@ -8,7 +8,8 @@ use std::alloc::{AllocError, Global};
 
 /// The steps that a message asks for: one for each record, in the order of the groups and of the records in each. An insert binds its state
 /// to the main rule that it names if the message's checksum, 16 bytes, is that of the main rules here and they have such a rule, else to
-/// the default rule. `current` is the checksum of the main rules here, `rule_count` their number. `AllocError`: no list is made.
+/// the default rule, and it never expires. `current` is the checksum of the main rules here, `rule_count` their number. `AllocError`: no
+/// list is made.
 pub fn steps_of(
     alloc: Global,
     message: &Message,
@@ -90,7 +91,7 @@ fn push_clears(steps: &mut Vec<Step>, clears: &[Clear]) -> Result<(), AllocError
     Ok(())
 }
 
-// The state that an insert describes, bound by the rules here.
+// The state that an insert describes, bound by the rules here. It has no expiry.
 fn told_state(
     alloc: Global,
     insert: &Insert,
@@ -106,6 +107,7 @@ fn told_state(
         creator: fields.creator,
     };
     let held = Held {
+        expiry: 0,
         generation: fields.generation,
         flow: insert.flow(),
         bound: bind(sum, fields.rule, fields.anchor, current, rule_count),

@@ -1,10 +1,10 @@
 //! States and steps in bytes, many at a time, after their number in four bytes.
 ghost use Rattle.std.specs.Prelude.{◌≡◌, ◌<◌, ◌^◌, ◌++◌, ℕ, true, length, map, IfOk, OnOk};
 ghost use Rattle.pf_form.specs.{Bytes.Forms.{Form, Fits, onto, length_of}, Bytes.Readers.Reads};
-ghost use Rattle.pf_state.specs.{Layouts.{Rows.IsTableOf, States.{states_form, plain_states}, Steps.{steps_form, plain_steps}}, States.are_whole};
+ghost use Rattle.pf_state.specs.{Layouts.{Rows.IsTableOf, States.{states_form, plain_states, all_allowed}, Steps.{steps_form, plain_steps, allows_steps}}, States.are_whole};
 
-use crate::keys::States;
-use crate::layouts::state::{STATE_BYTES, StoredState, push_state};
+use crate::index::States;
+use crate::layouts::state::{EXPIRY_FROM, STATE_BYTES, StoredState, push_state};
 use crate::layouts::step::push_step;
 use crate::limits::STATE_LIMIT;
 use crate::state::{State, tell_whole};
@@ -13,9 +13,10 @@ use crate::table::StateTable;
 use pf_form::bytes::{Fault, Rest, Stop, are_in_order, push_u32, read_list};
 use std::alloc::{AllocError, Global};
 
-/// Appends a table's states to the bytes, as this version has them, in the order of their names; they fit their form. Fails only when out
-/// of memory, and then what was appended is unspecified.
+/// Appends a table's states to the bytes, as this version has them, which has to allow them, in the order of their names; they fit their
+/// form. Fails only when out of memory, and then what was appended is unspecified.
 pub fn push_states(out: &mut Vec<u8>, version: u8, table: &StateTable) -> Result<(), AllocError>
+    requires { all_allowed version table.now ≡ true }
     ensures written { OnOk result (out.new.items ≡ onto (states_form version) (plain_states table.now) out.old.items) }
     ensures fits { OnOk result (Fits (states_form version) (plain_states table.now)) }
 {
@@ -81,10 +82,11 @@ pub fn read_steps<'a>(alloc: Global, version: u8, from: &mut Rest<'a>) -> Result
     Ok(StepList::new(steps))
 }
 
-/// Appends steps, at most 4,294,967,295 of them, to the bytes, as this version has them; they fit their form. Fails only when out of
-/// memory, and then what was appended is unspecified.
+/// Appends steps, at most 4,294,967,295 of them, to the bytes, as this version has them, which has to allow them; they fit their form. Fails
+/// only when out of memory, and then what was appended is unspecified.
 pub fn push_steps(out: &mut Vec<u8>, version: u8, steps: &StepList) -> Result<(), AllocError>
-    requires { length steps.now < 2 ^ 32 }
+    requires few { length steps.now < 2 ^ 32 }
+    requires allowed { allows_steps version steps.now ≡ true }
     ensures written { OnOk result (out.new.items ≡ onto (steps_form version) (plain_steps steps.now) out.old.items) }
     ensures fits { OnOk result (Fits (steps_form version) (plain_steps steps.now)) }
 {
@@ -96,6 +98,13 @@ pub fn push_steps(out: &mut Vec<u8>, version: u8, steps: &StepList) -> Result<()
     Ok(())
 }
 
+/// Whether a version allows all of these steps. It takes no memory.
+pub fn steps_are_allowed_in(steps: &[Step], version: u8) -> bool
+    ensures { result ≡ allows_steps version steps.now }
+{
+    steps.iter().all(|step| step.is_allowed_in(version))
+}
+
 /// How many bytes stored states take after their number, in each version. It looks at none of them.
 #[tactic(auto, using(crate::proofs::Widths::states_long))]
 pub fn states_length(states: &StateTable) -> usize
@@ -103,4 +112,15 @@ pub fn states_length(states: &StateTable) -> usize
 {
     states.tell_whole();
     4 + STATE_BYTES * states.len()
+}
+
+impl StateTable {
+    /// Whether a version allows all states: one before [`EXPIRY_FROM`] allows none with an expiry. It looks at none of them, and takes no
+    /// memory.
+    #[tactic(auto, using(crate::proofs::Expiries::all_allowed_is))]
+    pub fn is_allowed_in(&self, version: u8) -> bool
+        ensures { result ≡ all_allowed version self.now }
+    {
+        version >= EXPIRY_FROM || self.none_expires()
+    }
 }

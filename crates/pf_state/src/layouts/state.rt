@@ -1,7 +1,7 @@
 //! States in bytes, as a store has them.
-ghost use Rattle.std.specs.Prelude.{◌≡◌, ◌++◌, ◌∷◌, [], replicate, OnOk};
-ghost use Rattle.pf_form.specs.{Bytes.Forms.{Form, Fits, back, front, times, onto}, Bytes.Readers.Reads};
-ghost use Rattle.pf_state.specs.Layouts.{Flows.{flow_form, plain_flow}, States.{name_form, plain_name, bound_form, plain_bound, held_form, plain_held, state_form, plain_state}};
+ghost use Rattle.std.specs.Prelude.{◌≡◌, ◌++◌, ◌∷◌, [], true, replicate, OnOk};
+ghost use Rattle.pf_form.specs.{Bytes.Forms.{Form, Fits, back, front, pair, times, onto}, Bytes.Readers.Reads};
+ghost use Rattle.pf_state.specs.Layouts.{Flows.{flow_form, plain_flow}, States.{name_form, plain_name, bound_form, plain_bound, has_expiry, expiry_form, held_form, plain_held, state_form, plain_state, allows}};
 
 use crate::flow::Flow;
 use crate::layouts::flow::{direction_byte, push_flow};
@@ -15,6 +15,9 @@ use std::alloc::{AllocError, Global};
 
 /// How many bytes a stored state takes.
 pub(crate) const STATE_BYTES: usize = 96;
+
+/// The first version whose states have expiries. Definitions cite it.
+pub const EXPIRY_FROM: u8 = 3;
 
 /// A state as a row of a store.
 #[derive(Drop)]
@@ -39,6 +42,7 @@ impl Layout for StoredState {
         Ok(StoredState { state })
     }
 
+    #[tactic(auto, using(crate::proofs::Expiries::state_is_allowed))]
     fn write(&self, version: u8, out: &mut Vec<u8>) -> Result<(), AllocError> {
         push_state(out, version, &self.state)
     }
@@ -82,16 +86,17 @@ pub fn read_state<'a>(alloc: Global, version: u8, from: &mut Rest<'a>) -> Result
     Ok(State::new(alloc, name, held)?)
 }
 
-/// Appends a state to the bytes, as this version has it; each fits its form. Fails only when out of memory, and then what was appended is
-/// unspecified.
-#[tactic(auto, unfolding(crate::specs::Layouts::States::state_form, crate::specs::Layouts::States::held_form))]
+/// Appends a state to the bytes, as this version has it, which has to allow it; it fits its form. Fails only when out of memory, and then
+/// what was appended is unspecified.
+#[tactic(auto, using(crate::proofs::Expiries::state_written, crate::proofs::Expiries::state_fits))]
 pub fn push_state(out: &mut Vec<u8>, version: u8, state: &State) -> Result<(), AllocError>
+    requires { allows version state.now ≡ true }
     ensures written { OnOk result (out.new.items ≡ onto (state_form version) (plain_state state.now) out.old.items) }
     ensures fits { OnOk result (Fits (state_form version) (plain_state state.now)) }
 {
     let held = state.value();
     push_named_flow(out, *state.key(), held.generation, &held.flow)?;
-    push_rest(out, &held.bound)
+    push_rest(out, &held.bound, held.expiry)
 }
 
 #[tactic(auto, unfolding(crate::specs::Layouts::States::held_form))]
@@ -102,12 +107,25 @@ fn read_held<'a>(alloc: Global, version: u8, from: &mut Rest<'a>) -> Result<Held
     let flow = Flow::read(alloc, version, from)?;
     expect(from, &[255; 8])?;
     let bound = read_bound(from)?;
-    expect(from, &[0; 8])?;
+    let expiry = read_expiry(version, from)?;
     Ok(Held {
+        expiry,
         flow,
         bound,
         generation,
     })
+}
+
+// An expiry; zeros for none in a version without expiries.
+#[tactic(auto, unfolding(crate::specs::Layouts::States::expiry_form))]
+fn read_expiry<'a>(version: u8, from: &mut Rest<'a>) -> Result<u64, Stop>
+    ensures { Reads (λ n. n) (expiry_form (has_expiry version)) result from.old.now from.new.now }
+{
+    if version < EXPIRY_FROM {
+        expect(from, &[0; 8])?;
+        return Ok(0);
+    }
+    read_u64(from)
 }
 
 #[tactic(auto, unfolding(crate::specs::Layouts::States::bound_form))]
@@ -189,33 +207,34 @@ fn push_named_v4(
     )
 }
 
-// Appends what comes after the flow: ones, the binding, and zeros; in few pieces, since a snapshot has tens of thousands of states.
+// Appends what comes after the flow: ones, the binding, and the expiry; in few pieces, since a snapshot has tens of thousands of states.
 #[tactic(auto, unfolding(crate::specs::Layouts::States::bound_form))]
-fn push_rest(out: &mut Vec<u8>, bound: &Bound) -> Result<(), AllocError>
+fn push_rest(out: &mut Vec<u8>, bound: &Bound, expiry: u64) -> Result<(), AllocError>
     ensures written { OnOk result
-        (out.new.items ≡ onto (front (replicate 8 255) (back bound_form (replicate 8 0))) (plain_bound bound.now) out.old.items) }
+        (out.new.items ≡ onto (front (replicate 8 255) (pair bound_form (Form.number 8))) (plain_bound bound.now, expiry) out.old.items) }
     ensures fits { OnOk result (Fits bound_form (plain_bound bound.now)) }
 {
     match bound {
-        Bound::Default => push_default(out),
+        Bound::Default => push_default(out, expiry),
         Bound::Rule { number, sum } => {
             push_rule(out, *number)?;
             push_sum(out, sum)?;
-            push_bytes(out, &[0; 8])
+            push_u64(out, expiry)
         }
     }
 }
 
-#[tactic(auto, using(crate::proofs::Pieced::four_pieces))]
-fn push_default(out: &mut Vec<u8>) -> Result<(), AllocError>
+#[tactic(auto, unfolding(pf_form::specs::Bytes::BasicForms::number_bytes), using(crate::proofs::Pieced::four_pieces))]
+fn push_default(out: &mut Vec<u8>, expiry: u64) -> Result<(), AllocError>
     ensures { OnOk result
-        (out.new.items ≡ (((out.old.items ++ replicate 8 255) ++ 0 ∷ []) ++ replicate 23 0) ++ replicate 8 0) }
+        (out.new.items ≡ onto (Form.number 8) expiry (((out.old.items ++ replicate 8 255) ++ 0 ∷ []) ++ replicate 23 0)) }
 {
+    let e = expiry.to_be_bytes();
     push_bytes(
         out,
         &[
             255, 255, 255, 255, 255, 255, 255, 255, 0, 0, 0, 0, 0, 0, 0, 0, 0, 0, 0, 0, 0, 0, 0, 0,
-            0, 0, 0, 0, 0, 0, 0, 0, 0, 0, 0, 0, 0, 0, 0, 0,
+            0, 0, 0, 0, 0, 0, 0, 0, e[0], e[1], e[2], e[3], e[4], e[5], e[6], e[7],
         ],
     )
 }

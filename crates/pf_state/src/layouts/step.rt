@@ -1,9 +1,11 @@
 //! Steps in bytes, as a store has them.
-ghost use Rattle.std.specs.Prelude.{◌≡◌, ◌++◌, ℕ, OnOk};
+ghost use Rattle.std.specs.Prelude.{◌≡◌, ◌++◌, ℕ, true, OnOk};
 ghost use Rattle.pf_form.specs.{Bytes.Forms.{Form, Fits, onto, length_of}, Bytes.Readers.Reads};
-ghost use Rattle.pf_state.specs.Layouts.Steps.{step_form, plain_step};
+ghost use Rattle.pf_state.specs.Layouts.Steps.{step_form, plain_step, allows_step};
 
-use crate::layouts::state::{STATE_BYTES, push_name, push_state, read_name, read_state};
+use crate::layouts::state::{
+    EXPIRY_FROM, STATE_BYTES, push_name, push_state, read_name, read_state,
+};
 use crate::state::tell_whole;
 use crate::step::Step;
 use pf_form::bytes::{Layout, Rest, Stop, expect, push_bytes, push_key, push_u32, read_u32, takes};
@@ -42,15 +44,17 @@ impl Layout for Step {
         Ok(Step::Clear { creator })
     }
 
+    #[tactic(auto, using(crate::proofs::Expiries::step_is_allowed))]
     fn write(&self, version: u8, out: &mut Vec<u8>) -> Result<(), AllocError> {
         push_step(out, version, self)
     }
 }
 
-/// Appends a step to the bytes, as this version has it; each fits its form. Fails only when out of memory, and then what was appended is
-/// unspecified.
+/// Appends a step to the bytes, as this version has it, which has to allow it; it fits its form. Fails only when out of memory, and then
+/// what was appended is unspecified.
 #[tactic(auto, unfolding(crate::specs::Layouts::Steps::step_form))]
 pub fn push_step(out: &mut Vec<u8>, version: u8, step: &Step) -> Result<(), AllocError>
+    requires { allows_step version step.now ≡ true }
     ensures written { OnOk result (out.new.items ≡ onto (step_form version) (plain_step step.now) out.old.items) }
     ensures fits { OnOk result (Fits (step_form version) (plain_step step.now)) }
 {
@@ -82,5 +86,17 @@ pub fn step_length(step: &Step) -> usize
         }
         Step::Delete(_) => 13,
         Step::Clear { .. } => 5,
+    }
+}
+
+impl Step {
+    /// Whether a version allows the step: one before [`EXPIRY_FROM`] allows no insert of a state with an expiry.
+    pub fn is_allowed_in(&self, version: u8) -> bool
+        ensures { result ≡ allows_step version self.now }
+    {
+        match self {
+            Step::Insert(state) => version >= EXPIRY_FROM || state.value().expiry == 0,
+            Step::Delete(_) | Step::Clear { .. } => true,
+        }
     }
 }

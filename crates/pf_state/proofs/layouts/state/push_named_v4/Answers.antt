@@ -1,4 +1,4 @@
-use Rattle.std.proofs.Common.{◌≡◌, ◌++◌, ◌∷◌, [], ℕ, List, get_or, replicate, ap, ◌∙◌}
+use Rattle.std.proofs.Common.{◌++◌, ◌∷◌, [], ℕ, List, get_or, replicate, ap, ◌∙◌}
 use Rattle.std.specs.{Prelude.{Result, Ok, Err, OnOk}, Int.{w16, w32, w64, to_be_bytes}}
 use Rattle.pf_form.specs.Bytes.BasicForms.{number_bytes}
 use Rattle.pf_state.specs.Layouts.States.{name_form}
