@@ -12,6 +12,7 @@ use Rattle.pf_core.proofs.TableCounts.{deleted-none}
 pub replaces_exactly : ReplacesExactly
 replaces_exactly d items is = record {
   epoch = refl;
+  tick = refl;
   states = refl;
   maps = record { rulesets = map_all (rulesets_in items) d.config.rulesets is.rulesets; tables = table_maps_stay (tables_in items) d.config.tables is.tables };
   rules = replaced_in_turn (rulesets_in items) d.config.rulesets;
@@ -48,6 +49,7 @@ keys-differ p q name other differ = same-keys p q name other ∙ by (same_path p
 edited : (d : PlainDurable) (p name : List ℕ) (es : List PlainEntry) → IsEdited d p name es (with_entries d p name es)
 edited d p name es = record {
   epoch = refl;
+  tick = refl;
   rulesets = refl;
   states = refl;
   here = tables_replaced (placed_table p name es ∷ []) d.config.tables p name ∙ ap (λ (b : Bool). cond b es (entries_at d p name)) ((eq_by_cmp_equiv table_order_total).refl (p, name));
@@ -73,6 +75,7 @@ deletes_nothing d p name xs none = (edited d p name (deleted (entries_at d p nam
 
 pub steps_exactly : StepsExactly
 steps_exactly = record {
-  by_steps = λ d steps. record { epoch = refl; config = refl; states = refl };
-  by_removal = λ d name. record { epoch = refl; config = refl; states = refl };
+  by_steps = λ d steps. record { epoch = refl; tick = refl; config = refl; states = refl };
+  by_removal = λ d name. record { epoch = refl; tick = refl; config = refl; states = refl };
+  by_tick = λ d tick. record { epoch = refl; tick = refl; config = refl; states = refl };
 }

@@ -1,6 +1,6 @@
 -- What an opening gives is the fold of all that was kept before it.
 use Rattle.std.proofs.{Common.{◌≡◌, ℕ, true, false, List, [], ◌∷◌, refl, sym, ap, ◌∙◌}, lemmas.List.Sums.fold-append}
-use Rattle.pf_core.specs.{Durable.Changes.{in_epoch, PlainDurable, PlainChange, commits, adds, deletes, sets, acts, removes, applied, after}, History.{base_of, kept_by, earlier}, Laws.Openings.{IsButForEpoch, GivesTheFold}, Worlds.{State, up, down, Event, called, called_group, entered, learned, crashed, opened, refused_opening, flat, next, state_after}}
+use Rattle.pf_core.specs.{Durable.Changes.{in_epoch, PlainDurable, PlainChange, commits, adds, deletes, sets, acts, removes, expires, applied, after}, History.{base_of, kept_by, earlier}, Laws.Openings.{IsButForEpoch, GivesTheFold}, Worlds.{State, up, down, Event, called, called_group, entered, learned, crashed, opened, refused_opening, flat, next, state_after}}
 use Rattle.pf_core.proofs.Prefixes.{flat-append}
 
 applied-in_epoch : (e : ℕ) (d : PlainDurable) (x : PlainChange) → applied (in_epoch e d) x ≡ in_epoch e (applied d x)
@@ -10,6 +10,7 @@ applied-in_epoch e d (deletes p name xs) = refl
 applied-in_epoch e d (sets p name xs) = refl
 applied-in_epoch e d (acts steps) = refl
 applied-in_epoch e d (removes name) = refl
+applied-in_epoch e d (expires tick) = refl
 
 after-in_epoch : (e : ℕ) (d : PlainDurable) (xs : List PlainChange) → after (in_epoch e d) xs ≡ in_epoch e (after d xs)
 after-in_epoch e d [] = refl

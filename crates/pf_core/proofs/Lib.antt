@@ -18,3 +18,5 @@ pub mod Epochs
 pub mod Given
 pub mod Tracking
 pub mod Answered
+pub mod Ticked
+pub mod LaterTicks

@@ -297,7 +297,7 @@ HoldsOf first (up h) ts failed = Holds first h ts failed
 HoldsOf first (down d) ts failed = IsWithin first → IsWithin d
 
 within-raised : (d : PlainDurable) → IsWithin d → IsWithin (raised d)
-within-raised d w = record { maps = w.maps; rulesets = w.rulesets; rules = w.rules; tables = w.tables; entries = w.entries; states = w.states }
+within-raised d w = record { maps = w.maps; rulesets = w.rulesets; rules = w.rules; tables = w.tables; entries = w.entries; states = w.states; standing = w.standing }
 
 holds-next : (first : PlainDurable) (st : State) (ts : List Ticket) (failed : Bool) (e : Event) → IsLegal st e → HoldsOf first st ts failed → HoldsOf first (next st e) (given_by ts e) (failed_by failed e)
 holds-next first (up h) ts failed (called c t) legal all = holds-on first h ts failed c t legal all

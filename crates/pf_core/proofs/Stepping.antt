@@ -2,13 +2,13 @@
 use Rattle.std.proofs.Common.{◌≡◌, ℕ, ◌+◌, Bool, true, false, cond, List, [], ◌∷◌, length, refl, sym, ap, ◌∙◌, subst, Option, Some, None, Result, Ok, Err, arith, zero, suc, ◌++◌}
 use Rattle.std.specs.{Prelude.{is_some, if◌then◌else◌}, List.AllByRecursion}
 use Rattle.pf_ticket.specs.{Replies.{begin_reply, add_reply, define_reply, list_check, commit_check}, declared.{name.RulesetName.RulesetName, refusal.TicketRefusal.TicketRefusal, ticket.Ticket.Ticket, ticket.TicketRange.TicketRange, name.RulesetKind.RulesetKind, name.RulesetKind.TheVariants.Filter, name.RulesetKind.TheVariants.Table, entry.RulesetTicket.RulesetTicket}, Laws.Tickets.{AreGiven, IsFew, IsWithin as AreTicketsWithin}, Mentions.{Mention, gives, switches, after as moved_by}, Names.{filter_at, table_ruleset_at, tickets_from}, NamedTables.PlainDefinedTable, Tickets.{Loaded, PlainTickets, offered_as, loaded, content}}
-use Rattle.pf_core.specs.{Durable.Changes.{PlainDurable, PlainChange, commits, acts, removes, verdict, placed, tables_in, applied, voided_by, fits}, History.tickets_in, Laws.Wanted.{unit_is, IsPassed, passed, none-wanted, IsThis, IsNoChange, never-wanted, never-committed, never-there, never-edited, wants_commit, change_by, wants_edit, IsOfStates, of_steps, of_removal, IsStateChange, wants_states, IsWanted, left_is}, declared.{command.Command.Command, durable.change.Item.Item, command.Command.TheVariants.Transact, command.Command.TheVariants.Edit, command.Command.TheVariants.States as OfStates, command.Command.TheVariants.Ask, command.Command.TheVariants.History, command.HistoryCommand.HistoryCommand, command.HistoryCommand.TheVariants.Log, command.HistoryCommand.TheVariants.Publish, durable.verdict.Verdict.Verdict, durable.verdict.Verdict.TheVariants.State as Stateful, durable.verdict.Verdict.TheVariants.Rules as ByRules, command.StateCommand.StateCommand, command.StateCommand.TheVariants.Track, command.StateCommand.TheVariants.Peer, command.StateCommand.TheVariants.Kill as KillState, command.TableEdit.TableEdit, command.TableEdit.TheVariants.Add as AddTo, command.TableEdit.TheVariants.Delete, command.TableEdit.TheVariants.Set, command.TableEdit.TheVariants.Kill, command.Question.Question, command.Transaction.TheVariants.Begin, command.Transaction.TheVariants.Add, command.Transaction.TheVariants.Define, command.Transaction.TheVariants.Commit, command.Transaction.TheVariants.Rollback, reply.Answer.Answer, reply.Outcome.Outcome, reply.Refusal.Refusal, reply.Refusal.TheVariants.Halted, reply.Reply.TheVariants.Answer as Answered, step.Step.Step, step.Step.TheVariants.Done, step.Step.TheVariants.Wants, step.Step.TheVariants.OfHistory}, Commands.{item_of, unless_refused, items, wanting, makes_state, tracked, track_step, steps_here, states_step, answer_of, step_by, mentioned}, Laws.Durable.{IsWithin, AreFew}, Worlds.{CurrentOpening, told_of_history}}
+use Rattle.pf_core.specs.{Durable.Changes.{PlainDurable, PlainChange, commits, acts, removes, expires, verdict, placed, tables_in, applied, voided_by, fits}, History.tickets_in, Laws.Wanted.{unit_is, IsPassed, passed, none-wanted, IsThis, IsNoChange, never-wanted, never-committed, never-there, never-edited, wants_commit, change_by, wants_edit, IsOfStates, of_steps, of_removal, of_tick, IsStateChange, tracks, wants_states, IsWanted, left_is}, declared.{command.Command.Command, durable.change.Item.Item, command.Command.TheVariants.Transact, command.Command.TheVariants.Edit, command.Command.TheVariants.States as OfStates, command.Command.TheVariants.Ask, command.Command.TheVariants.History, command.HistoryCommand.HistoryCommand, command.HistoryCommand.TheVariants.Log, command.HistoryCommand.TheVariants.Publish, durable.verdict.Verdict.Verdict, durable.verdict.Verdict.TheVariants.State as Stateful, durable.verdict.Verdict.TheVariants.Rules as ByRules, command.StateCommand.StateCommand, command.StateCommand.TheVariants.Track, command.StateCommand.TheVariants.Peer, command.StateCommand.TheVariants.Kill as KillState, command.StateCommand.TheVariants.Expire as ExpireStates, command.TableEdit.TableEdit, command.TableEdit.TheVariants.Add as AddTo, command.TableEdit.TheVariants.Delete, command.TableEdit.TheVariants.Set, command.TableEdit.TheVariants.Kill, command.Question.Question, command.Transaction.TheVariants.Begin, command.Transaction.TheVariants.Add, command.Transaction.TheVariants.Define, command.Transaction.TheVariants.Commit, command.Transaction.TheVariants.Rollback, reply.Answer.Answer, reply.Outcome.Outcome, reply.Refusal.Refusal, reply.Refusal.TheVariants.Halted, reply.Reply.TheVariants.Answer as Answered, step.Step.Step, step.Step.TheVariants.Done, step.Step.TheVariants.Wants, step.Step.TheVariants.OfHistory}, Commands.{item_of, unless_refused, items, wanting, makes_state, tracked, judge_step, expiry_of, steps_here, states_step, answer_of, step_by, mentioned}, Laws.Durable.{IsWithin, AreFew}, Worlds.{CurrentOpening, told_of_history}}
 use Rattle.pf_core.proofs.Within.{keeps_within}
 use Rattle.pf_table.specs.Tables.{AreEntries}
 use Rattle.pf_ticket.proofs.TicketLimits.{begins_give, keeps_the_limits as tickets_keep}
 use Rattle.pf_rule.specs.Packets.{PlainPacket}
 use Rattle.pf_anchor.specs.declared.verdict.RuleVerdict.{RuleVerdict}
-use Rattle.pf_state.specs.{declared.{state.Bound.Bound, state.StateName.StateName}, Flows.flow_of, States.{PlainState, held_at}, Steps.counts}
+use Rattle.pf_state.specs.{declared.{state.Bound.Bound, state.StateName.StateName}, Flows.flow_of, States.{PlainState, held_at}, Steps.{counts, due_count}}
 use Rattle.pf_state.specs.declared.step.Step.TheVariants as step
 use Rattle.pf_core.specs.declared.reply.Answer.TheVariants as answer
 use Rattle.pf_core.specs.declared.reply.Outcome.TheVariants as outcome
@@ -66,21 +66,22 @@ make-told : (P : Answer → Type 0) → IsOfPackets P → (d : PlainDurable) (v 
 make-told P all d v s true a h = told-is P (answer.Stale v) a (all.stale v) h
 make-told P all d v s false a h = absurd (never-wanted (fits d (acts (step.Insert s ∷ []))) (acts (step.Insert s ∷ [])) (outcome.Tracked v) (Done a) (done-is-none a) h)
 
-tracked-told : (P : Answer → Type 0) → IsOfPackets P → (d : PlainDurable) (name : StateName) (packet : PlainPacket) (v : RuleVerdict) (made : Option Bound) (a : Answer) → tracked d name packet v made ≡ Ok (Done a) → P a
-tracked-told P all d name packet v None a h = told-is P (answer.Judged (ByRules v)) a (all.judged (ByRules v)) h
-tracked-told P all d name packet v (Some b) a h =
-    let s : PlainState = (name, record { generation = 0; flow = flow_of packet; bound = b }) in
+tracked-told : (P : Answer → Type 0) → IsOfPackets P → (d : PlainDurable) (name : StateName) (packet : PlainPacket) (expiry : ℕ) (v : RuleVerdict) (made : Option Bound) (a : Answer) → tracked d name packet expiry v made ≡ Ok (Done a) → P a
+tracked-told P all d name packet expiry v None a h = told-is P (answer.Judged (ByRules v)) a (all.judged (ByRules v)) h
+tracked-told P all d name packet expiry v (Some b) a h =
+    let s : PlainState = (name, record { generation = 0; flow = flow_of packet; bound = b; expiry = expiry }) in
     make-told P all d v s (is_some (held_at s.0 d.states)) a h
 
-verdict-told : (P : Answer → Type 0) → IsOfPackets P → (d : PlainDurable) (name : StateName) (packet : PlainPacket) (v : Verdict) (a : Answer) → track_step d name packet v ≡ Ok (Done a) → P a
-verdict-told P all d name packet (Stateful s) a h = told-is P (answer.Judged (Stateful s)) a (all.judged (Stateful s)) h
-verdict-told P all d name packet (ByRules by) a h = tracked-told P all d name packet by (makes_state d by) a h
+verdict-told : (P : Answer → Type 0) → IsOfPackets P → (d : PlainDurable) (name : StateName) (packet : PlainPacket) (expiry : ℕ) (v : Verdict) (a : Answer) → judge_step d name packet expiry v ≡ Ok (Done a) → P a
+verdict-told P all d name packet expiry (Stateful s) a h = told-is P (answer.Judged (Stateful s)) a (all.judged (Stateful s)) h
+verdict-told P all d name packet expiry (ByRules by) a h = tracked-told P all d name packet expiry by (makes_state d by) a h
 
 pub states-told : (P : Answer → Type 0) → IsOfPackets P → (d : PlainDurable) (c : StateCommand) (a : Answer) → states_step d c ≡ Ok (Done a) → P a
-states-told P all d (Track name packet) a h = verdict-told P all d name packet (verdict d packet) a h
+states-told P all d (Track name packet until) a h = verdict-told P all d name packet (expiry_of until) (verdict d packet) a (tracks d name packet until h).step
 states-told P all d (Peer m) a h =
     absurd (never-wanted (fits d (acts (steps_here d m))) (acts (steps_here d m)) (outcome.Peered (counts d.states (steps_here d m))) (Done a) (done-is-none a) h)
 states-told P all d (KillState name) a h = absurd (never-there (is_some (held_at name d.states)) (removes name) outcome.Killed (Done a) (done-is-none a) h)
+states-told P all d (ExpireStates tick) a h = absurd (never-wanted (fits d (expires tick)) (expires tick) (outcome.Expired (due_count d.states tick)) (Done a) (done-is-none a) h)
 
 -- P holds of each answer that a step gives by itself
 pub record IsOfSteps (P : Answer → Type 0) : Type 0 where
@@ -169,6 +170,7 @@ edit-within d (Kill p name) h w = (keeps_within d w).by_set p name [] h
 states-within : (d : PlainDurable) (e : PlainChange) → IsOfStates e → fits d e ≡ Ok tt → IsWithin d → IsWithin (applied d e)
 states-within d _ (of_steps steps) h w = (keeps_within d w).by_steps steps h
 states-within d _ (of_removal name) h w = (keeps_within d w).by_removal name
+states-within d _ (of_tick tick) h w = (keeps_within d w).by_tick tick
 
 pub change-within : (t : PlainTickets) (d : PlainDurable) (c : Command) (e : PlainChange) (o : Outcome) → step_by t d c ≡ Ok (Wants e o) → AreTicketsWithin t → IsWithin d → IsWithin (applied d e)
 change-within t d (Transact (Begin names)) e o h all w = absurd (none-wanted (begin_reply t names) (λ range. answer.Given range) e o h)

@@ -11,9 +11,9 @@ use Rattle.pf_map.specs.ListMaps.{list_by}
 use Rattle.pf_anchor.specs.declared.limits.TheConstants.{RULE_LIMIT, RULESET_LIMIT, TABLE_COUNT_LIMIT}
 use Rattle.pf_anchor.specs.{Configurations.PlainConfig, Rulesets.rules_at, Tables.{placed_table, table_order}}
 use Rattle.pf_anchor.proofs.TableMaps.{tables_replaced, table_maps_stay}
-use Rattle.pf_state.specs.Steps.{passes_limit}
-use Rattle.pf_state.proofs.{Counting.states_deleted, Tables.stays_states}
-use Rattle.pf_core.specs.{declared.{durable.refusal.ChangeRefusal.ChangeRefusal, durable.refusal.ChangeRefusal.TheVariants.Twice, durable.refusal.ChangeRefusal.TheVariants.TableFull, durable.refusal.ChangeRefusal.TheVariants.TooManyRulesets, durable.refusal.ChangeRefusal.TheVariants.TooManyTables, durable.refusal.ChangeRefusal.TheVariants.StatesFull, durable.change.Item.Item}, Durable.Changes.{PlainDurable, commits, deletes, applied, fits, named_again, rulesets_in, tables_in, entries_at, with_entries, is_one_more, no_conflict, holdable, room_for_table, replaceable}, Laws.Durable.{IsWithin, AreFew, KeepsWithin}}
+use Rattle.pf_state.specs.Steps.{passes_limit, any_inserts_due}
+use Rattle.pf_state.proofs.{Counting.states_deleted, Tables.stays_states, Ticks.{states_due, left_stand, stand_after, stand_without}}
+use Rattle.pf_core.specs.{declared.{durable.refusal.ChangeRefusal.ChangeRefusal, durable.refusal.ChangeRefusal.TheVariants.Twice, durable.refusal.ChangeRefusal.TheVariants.TableFull, durable.refusal.ChangeRefusal.TheVariants.TooManyRulesets, durable.refusal.ChangeRefusal.TheVariants.TooManyTables, durable.refusal.ChangeRefusal.TheVariants.StatesFull, durable.refusal.ChangeRefusal.TheVariants.BadTick, durable.change.Item.Item}, Durable.Changes.{PlainDurable, commits, deletes, applied, fits, named_again, rulesets_in, tables_in, entries_at, with_entries, is_one_more, no_conflict, holdable, room_for_table, replaceable}, Laws.Durable.{IsWithin, AreFew, KeepsWithin}}
 use Rattle.pf_core.proofs.{Edited.replaces_exactly, TableCounts.{deleted-none, no-table-more}}
 
 table-within : (d : PlainDurable) (p name : List ℕ) (es : List PlainEntry) → AreEntries es → length (with_entries d p name es).config.tables ≤ TABLE_COUNT_LIMIT → IsWithin d → IsWithin (with_entries d p name es)
@@ -23,6 +23,7 @@ table-within d p name es few count w = record {
   rules = w.rules;
   tables = count;
   states = w.states;
+  standing = w.standing;
   entries = λ q other. subst AreEntries (sym (tables_replaced (placed_table p name es ∷ []) d.config.tables q other))
       (cond_both (eq_by_cmp table_order (p, name) (q, other)) es (entries_at d q other) AreEntries (λ _. few) (λ _. w.entries q other));
 }
@@ -83,6 +84,7 @@ commit-within d items each h w =
       entries = λ p name. subst AreEntries (sym ((replaces_exactly d items w.maps).tables p name))
           (listed-within table_order AreEntries (tables_in items) (p, name) (entries_at d p name) each.entries (w.entries p name));
       states = w.states;
+      standing = w.standing;
     }
 
 pub keeps_within : KeepsWithin
@@ -93,13 +95,34 @@ keeps_within d w = record {
       replaceable-within d p name new (sorted_added (entries_at d p name) xs (w.entries p name).sorted) (both_passed (no_conflict xs) (replaceable d p name new) tt h).second w;
   by_delete = λ p name xs. delete-within d p name xs w;
   by_set = λ p name xs h. replaceable-within d p name (replaced xs) (sorted_added [] xs tt) (both_passed (no_conflict xs) (replaceable d p name (replaced xs)) tt h).second w;
-  by_steps = λ steps h. record {
+  by_steps = λ steps h.
+      let both : AreBothPassed (unless (any_inserts_due d.tick steps) BadTick) (unless (passes_limit d.states steps) StatesFull) tt =
+      both_passed (unless (any_inserts_due d.tick steps) BadTick) (unless (passes_limit d.states steps) StatesFull) tt h in
+      record {
+        maps = w.maps;
+        rulesets = w.rulesets;
+        rules = w.rules;
+        tables = w.tables;
+        entries = w.entries;
+        states = (stays_states d.states steps).table w.states (not_refused (passes_limit d.states steps) StatesFull both.second);
+        standing = stand_after d.states d.tick steps w.standing (not_refused (any_inserts_due d.tick steps) BadTick both.first);
+      };
+  by_removal = λ name. record {
     maps = w.maps;
     rulesets = w.rulesets;
     rules = w.rules;
     tables = w.tables;
     entries = w.entries;
-    states = (stays_states d.states steps).table w.states (not_refused (passes_limit d.states steps) StatesFull h);
+    states = states_deleted d.states name w.states;
+    standing = stand_without d.states d.tick name w.standing;
   };
-  by_removal = λ name. record { maps = w.maps; rulesets = w.rulesets; rules = w.rules; tables = w.tables; entries = w.entries; states = states_deleted d.states name w.states };
+  by_tick = λ tick. record {
+    maps = w.maps;
+    rulesets = w.rulesets;
+    rules = w.rules;
+    tables = w.tables;
+    entries = w.entries;
+    states = states_due d.states tick w.states;
+    standing = left_stand d.states tick;
+  };
 }

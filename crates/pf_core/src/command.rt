@@ -68,12 +68,19 @@ pub enum TableEdit {
 #[derive(Drop)]
 pub enum StateCommand {
     /// Judges a packet. If no state passes it and a rule that keeps state does, a state of its flow is made under this name, with
-    /// generation 0, unless the name is taken. It is bound to that rule if it is one of the main ruleset, else to the default rule.
-    Track { name: StateName, packet: Packet },
+    /// generation 0, unless the name is taken. It is bound to that rule if it is one of the main ruleset, else to the default rule. It
+    /// expires at the tick `until`, which has to be greater than the tick now; never without one.
+    Track {
+        name: StateName,
+        packet: Packet,
+        until: Option<u64>,
+    },
     /// Acts on the records of a peer's message, in order.
     Peer(Message),
     /// Takes out the state of a name. It has to be there (pfctl(8), `-k`).
     Kill(StateName),
+    /// Sets the tick, which doesn't go back, and takes out the states that are due.
+    Expire(u64),
 }
 
 /// A question about what is kept. It changes nothing.

@@ -211,14 +211,15 @@ impl Core {
     }
 
     /// The step of one command. If it wants a change, is left to whoever keeps the history, or is refused, the core is as before. A judge,
-    /// a test, a sum and a rollback take no memory, and neither does a `track` that makes no state or a kill of what isn't there.
+    /// a test, a sum and a rollback take no memory, and neither does a `track` that is answered without a change or whose tick has come, a
+    /// kill of what isn't there or a tick that would go back.
     ///
     /// The refusal is the first of these that holds. A begin: `BadCount`, `TooManyRulesets`, `TicketsExhausted`. An add of a rule: `Busy`,
     /// `RulesetFull`. A define: `Conflict`, `Busy`, `TableFull`, `TooManyTables`. A commit: `BadCount`, `Twice`, `Busy`, `TooManyRulesets`,
     /// `TooManyTables`. A rollback: `BadCount`, `Twice`. Entries that are added to a table or replace its own: `Conflict`, `TableFull`,
-    /// `TooManyTables`. Entries that are deleted: `Conflict`, `Absent`. A table or a state that is killed: `Absent`. A packet that is
-    /// tracked, if a state is to be made of it, and a peer's message: `StatesFull`. A question, or what the history is asked: none. Out of
-    /// memory, `Memory` may come before any of them.
+    /// `TooManyTables`. Entries that are deleted: `Conflict`, `Absent`. A table or a state that is killed: `Absent`. A tick: `BadTick`. A
+    /// packet that is tracked: `BadTick`, and if a state is to be made of it `StatesFull`. A peer's message: `StatesFull`. A question, or
+    /// what the history is asked: none. Out of memory, `Memory` may come before any of them.
     ///
     /// The core knows neither the history's limit nor its device nor what is shown. Whoever keeps the history answers `HistoryFull`, `Full`
     /// or `Fault` to a change that is wanted and isn't accepted, `Stored` to one that is accepted and can't be shown, and after a `Fault`

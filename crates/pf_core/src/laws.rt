@@ -1,7 +1,7 @@
 //! What follows from the definitions that contracts cite: functions that do nothing, whose contracts are the laws.
 ghost use Rattle.std.specs.Prelude.{◌≡◌};
 ghost use Rattle.pf_core.specs.declared.group.TheConstants.{GROUP_LIMIT};
-ghost use Rattle.pf_core.specs.{Worlds.last_epoch, Laws.Commands.{LeaveTheOtherKind, WantsWhatFits, SwitchesAll, VoidsTheNamed, KeepsNoneValid, LeavesTheOthers, MentionsTheNamed, RefusedMentionNothing, TrackMakesOne}, Laws.Groups.GroupsAreInTurn, Laws.Openings.{VoidsTickets, KeepsWhole, GivesAllThatWasKept, GivesTheFold, KeepsAcknowledged, KeepsSeen, KeepsLearnt, RaisesTheEpoch, CrashesAreEvents}, Laws.Worlds.{TicketsAreOfTheCalls, GivesEachOnce, KeepsTheLimits, CommitsNameOnce, ShowsAll, TestsTellTheEntry, JudgesTellTheVerdict}};
+ghost use Rattle.pf_core.specs.{Worlds.last_epoch, Laws.Commands.{LeaveTheOtherKind, WantsWhatFits, SwitchesAll, VoidsTheNamed, KeepsNoneValid, LeavesTheOthers, MentionsTheNamed, RefusedMentionNothing, TrackMakesOne}, Laws.Groups.GroupsAreInTurn, Laws.Openings.{VoidsTickets, KeepsWhole, GivesAllThatWasKept, GivesTheFold, KeepsAcknowledged, KeepsSeen, KeepsLearnt, RaisesTheEpoch, CrashesAreEvents}, Laws.Worlds.{TicketsAreOfTheCalls, GivesEachOnce, TickNeverGoesBack, KeepsTheLimits, CommitsNameOnce, ShowsAll, TestsTellTheEntry, JudgesTellTheVerdict}};
 
 /// No opening has an epoch past 4,294,967,295.
 pub fn the_last_epoch()
@@ -23,7 +23,7 @@ pub fn wants_what_fits()
     ensures { WantsWhatFits }
 {}
 
-/// A packet that is tracked with a change makes one state, which is new: it clashes with none, and replaces none.
+/// If no state is due, a packet that is tracked with a change makes one state, which is new: it clashes with none, and replaces none.
 #[tactic(auto, using(crate::proofs::Tracking::track_makes_one))]
 pub fn track_makes_one_state()
     ensures { TrackMakesOne }
@@ -71,9 +71,14 @@ pub fn gives_each_ticket_once()
     ensures { GivesEachOnce }
 {}
 
+/// In every world, over crashes and openings, the tick never goes back.
+pub fn the_tick_never_goes_back()
+    ensures { TickNeverGoesBack }
+{}
+
 /// In the opening that a world ends in, if it was so of what was held first: what is kept are maps of rulesets and of tables, in which
 /// none is empty and no path, no name at a path and no network of a table is there twice, and states, of which no two have the same name or
-/// flow; and all limits hold, of rules, rulesets, entries, tables, states, tickets and history.
+/// flow, and none is due; and all limits hold, of rules, rulesets, entries, tables, states, tickets and history.
 pub fn keeps_the_limits()
     ensures { KeepsTheLimits }
 {}
@@ -90,8 +95,8 @@ pub fn shows_all()
 {}
 
 /// So the answer to a test is the one entry of its table that contains the address with the most specific network, or none if none contains
-/// it. A packet is judged by the one state of its flow, and without one by the rules: if the main ruleset has no anchor rule, by the last
-/// rule that matches or the first quick one. An anchor rule leads to the rulesets that are there.
+/// it. A packet is judged by the one state of its flow, which isn't due, and without one by the rules: if the main ruleset has no anchor
+/// rule, by the last rule that matches or the first quick one. An anchor rule leads to the rulesets that are there.
 pub fn answers_rest_on_what_is_kept()
     ensures tests { TestsTellTheEntry }
     ensures judges { JudgesTellTheVerdict }

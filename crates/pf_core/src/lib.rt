@@ -18,10 +18,10 @@
 //! all. specs/WorldBooks.antt is for the crate above.
 //!
 //! Proved: each step, refusal and change is the one that the definitions give (the contracts of `Core` and `Durable`). Of every legal
-//! world: no limit is passed, nothing is there twice, no ticket is given twice or outlives an opening, each opening gives all that was kept
-//! before it, and what a worker saw or learnt stays (specs/Laws/Worlds.antt, specs/Laws/Openings.antt). specs/Laws/Commands.antt says what
-//! one step does, and specs/Laws/Groups.antt compares a group with its commands one by one. That what runs is such a world is proved in
-//! pf_book.
+//! world: no limit is passed, nothing is there twice, the tick never goes back, no ticket is given twice or outlives an opening, each
+//! opening gives all that was kept before it, and what a worker saw or learnt stays (specs/Laws/Worlds.antt, specs/Laws/Openings.antt).
+//! specs/Laws/Commands.antt says what one step does, and specs/Laws/Groups.antt compares a group with its commands one by one. That what
+//! runs is such a world is proved in pf_book.
 //! Only tests of other crates show that memory runs out only if a growth was refused.
 #![tactic(auto)]
 

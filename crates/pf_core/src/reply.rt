@@ -129,6 +129,8 @@ pub enum Outcome {
     Tracked(RuleVerdict),
     /// What became of the records of a peer's message.
     Peered(Counts),
+    /// The tick is set, and so many states were due and are gone.
+    Expired(usize),
 }
 
 /// Why nothing was done. After each of these but `Fault` all is as before: what is kept, the valid tickets, what is offered with them, and
@@ -172,6 +174,8 @@ pub enum Refusal {
     /// Entries are to be deleted from a table that isn't there, or such a table is to be killed, or a state that isn't there. All is as
     /// before.
     Absent,
+    /// The tick would go back, or a packet is to be tracked until a tick that has come. All is as before.
+    BadTick,
     /// The inactive ruleset has 1,024 rules already. All is as before, and its ticket is valid.
     RulesetFull,
     /// A commit would leave more than 1,024 rulesets, or a begin more than 1,024 with a valid ticket. All is as before.
@@ -235,6 +239,7 @@ impl From<ChangeRefusal> for Refusal {
             ChangeRefusal::TooManyRulesets => Refusal::TooManyRulesets,
             ChangeRefusal::TooManyTables => Refusal::TooManyTables,
             ChangeRefusal::StatesFull => Refusal::StatesFull,
+            ChangeRefusal::BadTick => Refusal::BadTick,
             ChangeRefusal::Memory => Refusal::Memory,
         }
     }

@@ -1,8 +1,8 @@
 //! Changes of states: which change each one wants, and its outcome.
-ghost use Rattle.std.specs.Prelude.{◌≡◌, ◌∷◌, [], length, not, IfOk};
+ghost use Rattle.std.specs.Prelude.{◌≡◌, ◌∷◌, [], ◌||◌, length, not, IfOk};
 ghost use Rattle.pf_anchor.specs.Rulesets.{rules_at};
 ghost use Rattle.pf_state.specs.declared.step.Step.TheVariants as step_kind;
-ghost use Rattle.pf_core.specs.{Durable.Changes.verdict, Commands.{bound_here, makes_state, make_step, track_step, steps_here, states_step, is_done, changes_states_in_memory}, Nexts.next_with, Refusals.OrMemory, Cores.{plain, IsMadeFrom}};
+ghost use Rattle.pf_core.specs.{Durable.Changes.verdict, Commands.{bound_here, makes_state, make_step, judge_step, track_step, expiry_of, is_past, steps_here, states_step, is_done, changes_states_in_memory}, Nexts.next_with, Refusals.OrMemory, Cores.{plain, IsMadeFrom}};
 
 use crate::command::StateCommand;
 use crate::durable::{Change, Durable, Verdict};
@@ -75,15 +75,16 @@ fn make(
     Ok(wants(alloc, before, change, left, Outcome::Tracked(by))?)
 }
 
-// Judges a packet, and makes its state if a rule says so.
-fn track(
+// Judges a packet, and makes its state, with this expiry, if a rule says so.
+fn judge(
     alloc: Global,
     durable: &Durable,
     before: &[RulesetName],
     name: StateName,
     packet: &Packet,
+    expiry: u64,
 ) -> Result<ReadyStep, Refusal>
-    ensures reply { let due = track_step durable.now name packet.now (verdict durable.now packet.now) in OrMemory (not (is_done due)) (plain result) due }
+    ensures reply { let due = judge_step durable.now name packet.now expiry (verdict durable.now packet.now) in OrMemory (not (is_done due)) (plain result) due }
     ensures made { IsMadeFrom (next_with durable.now before.now) result }
 {
     let by = match durable.verdict(packet) {
@@ -94,11 +95,41 @@ fn track(
         return Ok(ReadyStep::Done(Answer::Judged(Verdict::Rules(by))));
     };
     let held = Held {
+        expiry,
         generation: 0,
         flow: Flow::of(packet),
         bound,
     };
     make(alloc, durable, before, by, name, held)
+}
+
+// Whether the tick until which a packet is to be tracked has come.
+fn is_past(durable: &Durable, until: Option<u64>) -> bool
+    ensures { result ≡ is_past durable.now until }
+{
+    match until {
+        Some(expiry) => expiry <= durable.tick(),
+        None => false,
+    }
+}
+
+// Tracks a packet until a tick, or for ever.
+fn track(
+    alloc: Global,
+    durable: &Durable,
+    before: &[RulesetName],
+    name: StateName,
+    packet: &Packet,
+    until: Option<u64>,
+) -> Result<ReadyStep, Refusal>
+    ensures reply { let due = track_step durable.now name packet.now until in
+        OrMemory (not (is_past durable.now until || is_done due)) (plain result) due }
+    ensures made { IsMadeFrom (next_with durable.now before.now) result }
+{
+    if is_past(durable, until) {
+        return Err(Refusal::BadTick);
+    }
+    judge(alloc, durable, before, name, packet, until.unwrap_or(0))
 }
 
 // What a peer's message does to the states here.
@@ -120,7 +151,11 @@ pub(crate) fn change_states(
     ensures made { IsMadeFrom (next_with durable.now before.now) result }
 {
     match command {
-        StateCommand::Track { name, packet } => track(alloc, durable, before, *name, packet),
+        StateCommand::Track {
+            name,
+            packet,
+            until,
+        } => track(alloc, durable, before, *name, packet, *until),
         StateCommand::Peer(message) => {
             let steps = steps_here(alloc, durable, message)?;
             let (states, counts) = durable.with_stepped(alloc, steps.as_slice())?;
@@ -136,6 +171,11 @@ pub(crate) fn change_states(
             let left = durable.with_states(alloc, states)?;
             let change = Change::remove(*name);
             Ok(wants(alloc, before, change, left, Outcome::Killed)?)
+        }
+        StateCommand::Expire(tick) => {
+            let (left, expired) = durable.at_tick(alloc, *tick)?;
+            let change = Change::expire(*tick);
+            Ok(wants(alloc, before, change, left, Outcome::Expired(expired))?)
         }
     }
 }

@@ -1,6 +1,6 @@
 //! A change of what is kept.
 ghost use Rattle.std.specs.Prelude.{◌≡◌, map, IfOk};
-ghost use Rattle.pf_core.specs.Durable.Changes.{commits, adds, deletes, sets, acts, removes, name_of, voided_by};
+ghost use Rattle.pf_core.specs.Durable.Changes.{commits, adds, deletes, sets, acts, removes, expires, name_of, voided_by};
 ghost use Rattle.pf_core.specs.Durable.ChangeViews.{change_of};
 
 use crate::durable::entry_list::EntryList;
@@ -47,6 +47,8 @@ pub enum ChangeKind {
     States(StepList),
     /// The removal of one state.
     Remove(StateName),
+    /// A tick, which takes out the states that are due.
+    Expire(u64),
 }
 
 /// What is to be kept. Contracts see it as a `PlainChange`.
@@ -129,6 +131,15 @@ impl Change {
     {
         Change {
             kind: ChangeKind::Remove(name),
+        }
+    }
+
+    /// A tick, which takes out the states that are due.
+    pub fn expire(tick: u64) -> Change
+        ensures { result ≡ expires tick }
+    {
+        Change {
+            kind: ChangeKind::Expire(tick),
         }
     }
 

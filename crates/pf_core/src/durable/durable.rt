@@ -1,14 +1,13 @@
 //! What is kept.
-ghost use Rattle.std.specs.{Prelude.{◌≡◌, ◌==◌, ◌++◌, ◌<◌, ◌^◌, ℕ, [], T, not, true, map, length, IfOk, OnOk}, FinMap.is_sorted, List.list_all, Arc.arc_value};
+ghost use Rattle.std.specs.{Prelude.{◌≡◌, ◌==◌, ◌++◌, ◌<◌, ◌^◌, ℕ, [], T, not, true, map, length, Err, IfOk, OnOk}, FinMap.is_sorted, List.list_all, Arc.arc_value};
 ghost use Rattle.pf_addr.specs.{Refusing.{refused_at, OrMemory, Meets}, Path.Names.name_order};
 ghost use Rattle.pf_anchor.specs.Configurations.{with_rulesets};
 ghost use Rattle.pf_table.specs.{Edits.{added, additions, deleted, deletions, replaced}, Tables.deciding};
-ghost use Rattle.pf_state.specs.Steps.{after, counts, without_state};
+ghost use Rattle.pf_state.specs.{Layouts.States.has_expiry, States.all_stand, Steps.{after, counts, without_state, without_due, due_count}};
 ghost use Rattle.pf_ticket.specs.Replies.{twice_behind};
-ghost use Rattle.pf_core.specs.declared.durable.refusal.ChangeRefusal.TheVariants.{Twice, Memory};
-ghost use Rattle.pf_rule.specs.Sum.Layouts.{has_labels};
+ghost use Rattle.pf_core.specs.declared.durable.refusal.ChangeRefusal.TheVariants.{Twice, BadTick, Memory};
 ghost use Rattle.pf_core.specs.Durable.Forms.{allows, durable_length};
-ghost use Rattle.pf_core.specs.Durable.Changes.{is_in_order, name_of, durable_with, kept_nothing, commits, adds, deletes, sets, acts, rulesets_in, replaces_main, placed, tables_in, entries_at, sum_of, main_sum, with_entries, with_states, in_epoch, room_for_table, fits, applied, changed, verdict};
+ghost use Rattle.pf_core.specs.Durable.Changes.{is_in_order, name_of, durable_with, kept_nothing, commits, adds, deletes, sets, acts, expires, rulesets_in, replaces_main, placed, tables_in, entries_at, sum_of, main_sum, with_entries, with_states, at_tick, in_epoch, room_for_table, fits, applied, changed, verdict};
 
 use crate::durable::change::{Change, ChangeKind, Item, names_of};
 use crate::durable::refusal::ChangeRefusal;
@@ -18,18 +17,20 @@ use pf_addr::path::TableName;
 use pf_anchor::{Config, Path, Placed, PlacedTable};
 use pf_rule::Packet;
 use pf_rule::sum::ruleset_sum;
-use pf_state::layouts::states_length;
-use pf_state::{Counts, StateName, StateTable, Step};
+use pf_state::layouts::{EXPIRY_FROM, states_length};
+use pf_state::{Counts, StateName, StateTable, Step, any_inserts_due};
 use pf_table::{Addition, Deletion, Entry, Table};
 use pf_ticket::{Defined, named_twice};
 use std::alloc::{AllocError, Global};
 use std::marker::Model;
 use std::sync::Arc;
 
-/// What is kept: the epoch of the opening, the active rulesets and tables, and the states. Contracts see it as a `PlainDurable`.
+/// What is kept: the epoch of the opening, the tick, the active rulesets and tables, and the states, none of which is due. Contracts see it
+/// as a `PlainDurable`.
 #[derive(Drop)]
 pub struct Durable {
     epoch: u32,
+    tick: u64,
     config: Arc<Config>,
     states: Arc<StateTable>,
     // the checksum of the main rules, kept so that it isn't computed for each message of a peer
@@ -37,15 +38,16 @@ pub struct Durable {
 }
 
 impl Model for Durable {
-    ghost use Rattle.std.specs.Prelude.{◌≡◌};
+    ghost use Rattle.std.specs.Prelude.{◌≡◌, true};
     ghost use Rattle.std.specs.Arc.{arc_value};
+    ghost use Rattle.pf_state.specs.States.{all_stand};
     ghost use Rattle.pf_core.specs.Durable.Changes.{PlainDurable, durable_with, sum_of};
 
     ghost Value = { PlainDurable };
 
-    ghost view = { λ d. durable_with d.epoch (arc_value d.config) (arc_value d.states) };
+    ghost view = { λ d. durable_with d.epoch d.tick (arc_value d.config) (arc_value d.states) };
 
-    ghost invariant = { λ d. d.sum ≡ sum_of (arc_value d.config) };
+    ghost invariant = { λ d. (d.sum ≡ sum_of (arc_value d.config)) × (all_stand d.tick (arc_value d.states) ≡ true) };
 }
 
 // Whether the main ruleset is among these.
@@ -119,29 +121,34 @@ fn tables_in(alloc: Global, items: &[Item]) -> Result<Vec<PlacedTable>, AllocErr
 }
 
 impl Durable {
-    /// No rulesets, no tables and no states, in the opening with this epoch. `AllocError`: nothing is made.
+    /// No rulesets, no tables and no states, at tick 0, in the opening with this epoch. `AllocError`: nothing is made.
     pub fn empty(alloc: Global, epoch: u32) -> Result<Durable, AllocError>
         ensures { IfOk result (λ d. d ≡ kept_nothing epoch) }
     {
         Ok(Durable {
             epoch,
+            tick: 0,
             config: shared(alloc, Config::empty())?,
             states: shared(alloc, StateTable::empty())?,
             sum: ruleset_sum(&[]),
         })
     }
 
-    /// These rulesets and tables, and these states, in the opening with this epoch. `AllocError`: nothing is made.
+    /// These rulesets and tables, and these states, of which none is due, at this tick in the opening with this epoch. `AllocError`: nothing
+    /// is made.
     pub fn of(
         alloc: Global,
         opening: u32,
+        tick: u64,
         config: Config,
         states: StateTable,
     ) -> Result<Durable, AllocError>
-        ensures { IfOk result (λ d. d ≡ durable_with opening config states) }
+        requires { all_stand tick states ≡ true }
+        ensures { IfOk result (λ d. d ≡ durable_with opening tick config states) }
     {
         Ok(Durable {
             epoch: opening,
+            tick,
             sum: ruleset_sum(config.rules_at(&Path::main())?.as_slice()),
             config: shared(alloc, config)?,
             states: shared(alloc, states)?,
@@ -155,6 +162,13 @@ impl Durable {
         self.epoch
     }
 
+    /// The tick.
+    pub fn tick(&self) -> u64
+        ensures { result ≡ self.now.tick }
+    {
+        self.tick
+    }
+
     /// The active rulesets and tables.
     pub fn config(&self) -> &Config
         ensures { result.now ≡ self.now.config }
@@ -164,7 +178,9 @@ impl Durable {
 
     /// The states.
     pub fn states(&self) -> &StateTable
-        ensures { result.now ≡ self.now.states }
+        ensures states { result.now ≡ self.now.states }
+        // what is kept at any time
+        ensures standing { all_stand self.now.tick self.now.states ≡ true }
     {
         &self.states
     }
@@ -176,30 +192,32 @@ impl Durable {
         self.sum
     }
 
-    /// How many bytes its snapshot has, in each version that has labels. It looks at no rule, entry or state, and takes no memory.
-    #[tactic(auto, unfolding(crate::specs::Durable::Forms::durable_form))]
+    /// How many bytes its snapshot has, in each version with expiries. It looks at no rule, entry or state, and takes no memory.
     pub fn byte_length(&self) -> u128
-        ensures exact { (version : ℕ) → has_labels version ≡ true → result ≡ durable_length version self.now }
+        ensures exact { (version : ℕ) → has_expiry version ≡ true → result ≡ durable_length version self.now }
         ensures light { result < 2 ^ 99 }
     {
-        4 + self.config.byte_length() + states_length(&self.states) as u128
+        12 + self.config.byte_length() + states_length(&self.states) as u128
     }
 
-    /// Whether a version allows its rules: one without labels allows none that has one. It looks at no rule, and takes no memory.
+    /// Whether a version allows it: one before labels allows no rule that has one, and one before expiries no tick but 0 and no state with an
+    /// expiry. It looks at no rule and at no state, and takes no memory.
     pub fn is_allowed_in(&self, version: u8) -> bool
         ensures { result ≡ allows version self.now }
     {
-        self.config.is_allowed_in(version)
+        let ticks = version >= EXPIRY_FROM || self.tick == 0;
+        self.config.is_allowed_in(version) && ticks && self.states.is_allowed_in(version)
     }
 
-    /// What happens to a packet: the state of its flow passes it; without one the rule decides that the evaluation of the main ruleset
-    /// finds, there or in an anchor, else the packet passes. It takes no memory.
+    /// What happens to a packet: the state of its flow passes it, if its expiry is 0 or greater than the tick; without one the rule decides
+    /// that the evaluation of the main ruleset finds, there or in an anchor, else the packet passes. It takes no memory.
     pub fn verdict(&self, packet: &Packet) -> Verdict
         ensures { result ≡ verdict self.now packet.now }
     {
         match self.states.find(packet) {
-            Some(state) => Verdict::State(*state.key()),
-            None => Verdict::Rules(self.config.judge(packet)),
+            // the expiry stands in the state that was found, so this looks nothing up
+            Some(state) if state.value().stands(self.tick) => Verdict::State(*state.key()),
+            _ => Verdict::Rules(self.config.judge(packet)),
         }
     }
 
@@ -346,6 +364,7 @@ impl Durable {
         let config = self.config.with_rulesets(alloc, rulesets.as_slice())?;
         Ok(Durable {
             epoch: self.epoch,
+            tick: self.tick,
             sum: self.sum_after(rulesets.as_slice(), &config)?,
             config: shared(alloc, config.with_tables(alloc, tables.as_slice())?)?,
             states: Arc::try_clone(&self.states)?,
@@ -365,6 +384,7 @@ impl Durable {
         let tables = [PlacedTable::new(alloc, (path.copied(), *name), table)?];
         Ok(Durable {
             epoch: self.epoch,
+            tick: self.tick,
             config: shared(alloc, self.config.with_tables(alloc, &tables)?)?,
             states: Arc::try_clone(&self.states)?,
             sum: self.sum,
@@ -384,8 +404,9 @@ impl Durable {
         self.with_table(alloc, path, name, Table::empty())
     }
 
-    /// The states after steps in turn, and what became of them. The refusal is `StatesFull` if a step would leave too many; `Memory` may
-    /// come before. What is kept stays as it is.
+    /// The states after steps in turn, and what became of them. The refusal is the first that holds of `BadTick`, if a step inserts a state
+    /// that is due, and `StatesFull`, if a step would leave too many; `Memory` may come before. What is kept stays as it is.
+    #[tactic(auto, using(crate::proofs::Ticked::steps_stand))]
     pub fn with_stepped(
         &self,
         alloc: Global,
@@ -394,17 +415,23 @@ impl Durable {
         ensures fits { Meets Memory result (fits self.now (acts steps.now)) }
         ensures states { IfOk result (λ r. r.0 ≡ after self.now.states steps.now) }
         ensures counts { IfOk result (λ r. r.1 ≡ counts self.now.states steps.now) }
+        ensures standing { IfOk result (λ r. all_stand self.now.tick r.0 ≡ true) }
     {
+        if any_inserts_due(steps, self.tick) {
+            return Err(ChangeRefusal::BadTick);
+        }
         Ok(self.states.after_batch(alloc, steps)?)
     }
 
     // The states without the one of this name.
+    #[tactic(auto, using(crate::proofs::Ticked::removal_stands))]
     pub(crate) fn without_state(
         &self,
         alloc: Global,
         name: StateName,
     ) -> Result<StateTable, AllocError>
-        ensures { IfOk result (λ t. t ≡ without_state self.now.states name) }
+        ensures states { IfOk result (λ t. t ≡ without_state self.now.states name) }
+        ensures standing { IfOk result (λ t. all_stand self.now.tick t ≡ true) }
     {
         let mut states = self.states.shared()?;
         states.remove(alloc, name)?;
@@ -417,14 +444,44 @@ impl Durable {
         alloc: Global,
         states: StateTable,
     ) -> Result<Durable, AllocError>
+        requires { all_stand self.now.tick states ≡ true }
         ensures { IfOk result (λ d. d ≡ with_states self.now states) }
     {
         Ok(Durable {
             epoch: self.epoch,
+            tick: self.tick,
             config: Arc::try_clone(&self.config)?,
             states: shared(alloc, states)?,
             sum: self.sum,
         })
+    }
+
+    // What is kept at this tick, without the states that are due at it, and how many these are. The refusals are `BadTick`, exactly if the
+    // tick would go back, and `Memory`.
+    #[tactic(auto, using(crate::proofs::Ticked::tick_stands))]
+    pub(crate) fn at_tick(
+        &self,
+        alloc: Global,
+        tick: u64,
+    ) -> Result<(Durable, usize), ChangeRefusal>
+        ensures fits { Meets Memory result (fits self.now (expires tick)) }
+        ensures back { tick < self.now.tick → result ≡ Err BadTick }
+        ensures after { IfOk result (λ r. r.0 ≡ at_tick self.now tick) }
+        ensures count { IfOk result (λ r. r.1 ≡ due_count self.now.states tick) }
+    {
+        if tick < self.tick {
+            return Err(ChangeRefusal::BadTick);
+        }
+        let mut states = self.states.shared()?;
+        let expired = states.expire(alloc, tick)?;
+        let left = Durable {
+            epoch: self.epoch,
+            tick,
+            config: Arc::try_clone(&self.config)?,
+            states: shared(alloc, states)?,
+            sum: self.sum,
+        };
+        Ok((left, expired))
     }
 
     /// The same in another opening, all of it shared. `AllocError`: nothing is made.
@@ -433,18 +490,20 @@ impl Durable {
     {
         Ok(Durable {
             epoch: next,
+            tick: self.tick,
             config: Arc::try_clone(&self.config)?,
             states: Arc::try_clone(&self.states)?,
             sum: self.sum,
         })
     }
 
-    /// What is kept after a change. Rulesets and tables that stay are shared, and no rule is copied; if a change isn't of states, these are
-    /// shared too.
+    /// What is kept after a change. Rulesets and tables that stay are shared, and no rule is copied; if a change isn't of states and
+    /// is no tick, these are shared too.
     ///
     /// The refusal is the first of these that holds: `Twice` for a commit that names a ruleset or a table twice; `Conflict` for a list that
-    /// names a network with both signs; `TableFull`; `TooManyRulesets`, `TooManyTables`; `StatesFull`. A change that a command wants of
-    /// this state is never refused for these. Out of memory, nothing is made.
+    /// names a network with both signs; `BadTick` for a step that inserts a state that is due, and for a tick below the present one;
+    /// `TableFull`; `TooManyRulesets`, `TooManyTables`; `StatesFull`. A change that a command wants of this state is never refused for
+    /// these. Out of memory, nothing is made.
     pub fn apply(&self, alloc: Global, change: &Change) -> Result<Durable, ChangeRefusal>
         ensures { OrMemory Memory result (changed self.now change.now) }
     {
@@ -484,6 +543,10 @@ impl Durable {
             ChangeKind::Remove(name) => {
                 let states = self.without_state(alloc, *name)?;
                 Ok(self.with_states(alloc, states)?)
+            }
+            ChangeKind::Expire(tick) => {
+                let (left, _) = self.at_tick(alloc, *tick)?;
+                Ok(left)
             }
         }
     }

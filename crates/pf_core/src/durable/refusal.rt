@@ -22,6 +22,8 @@ pub enum ChangeRefusal {
     TooManyTables,
     /// There would be more than 65,536 states after one of the steps, even if later ones would leave fewer.
     StatesFull,
+    /// A state would be inserted that is due already, or the tick would go back.
+    BadTick,
     /// Out of memory.
     Memory,
 }
