@@ -1,10 +1,11 @@
 //! Reading the words of a line.
 ghost use Rattle.pf_form.specs.Form.Readers.{ReadsWhole, ReadsAll};
-ghost use Rattle.pf_line.specs.Grammar.{begun, added, defined, committed, rolled_back, entries_added, entries_deleted, entries_set, killed, judged, tested, tracked, state_killed, shown, overview, question, alone, history_or_question, state_or_question, edit_or_question, command};
+ghost use Rattle.pf_line.specs.Grammar.{begun, added, defined, committed, rolled_back, entries_added, entries_deleted, entries_set, killed, judged, tested, tracked, state_killed, expired, shown, overview, question, alone, history_or_question, state_or_question, edit_or_question, command};
 
 use crate::lists::{read_rows, read_some_rows};
 use crate::words::{
-    path_word, read_entry, read_name, read_offered, read_state, read_table, ticket_word,
+    path_word, read_entry, read_name, read_offered, read_state, read_table, read_until, tick_word,
+    ticket_word,
 };
 use pf_core::{Command, HistoryCommand, Question, StateCommand, TableEdit, Transaction};
 use pf_form::form::{Stop, Unread, Words, each, end, expect, takes};
@@ -136,9 +137,17 @@ fn track<'a>(words: Words<'a>) -> Result<Result<Command, Mistake>, Stop>
     let mut rest = words;
     let name = read_state(&mut rest)?;
     let read = Packet::read(&mut rest)?;
+    let until = read_until(&mut rest)?;
     end(rest)?;
     match read {
-        Ok(packet) => Ok(Ok(Command::States(StateCommand::Track { name, packet }))),
+        Ok(packet) => {
+            let command = StateCommand::Track {
+                name,
+                packet,
+                until,
+            };
+            Ok(Ok(Command::States(command)))
+        }
         Err(mistake) => Ok(Err(mistake)),
     }
 }
@@ -151,6 +160,16 @@ fn kill_state<'a>(words: Words<'a>) -> Result<Result<Command, Mistake>, Stop>
     let name = read_state(&mut rest)?;
     end(rest)?;
     Ok(Ok(Command::States(StateCommand::Kill(name))))
+}
+
+#[tactic(auto, unfolding(crate::specs::Grammar::expired))]
+fn expire<'a>(words: Words<'a>) -> Result<Result<Command, Mistake>, Stop>
+    ensures { ReadsWhole (λ x. x) expired result words.now }
+{
+    let mut rest = words;
+    let tick = tick_word(&mut rest)?;
+    end(rest)?;
+    Ok(Ok(Command::States(StateCommand::Expire(tick))))
 }
 
 #[tactic(auto, unfolding(crate::specs::Grammar::judged))]
@@ -269,6 +288,9 @@ fn change_state_or_ask<'a>(words: Words<'a>) -> Result<Result<Command, Mistake>,
     }
     if takes(&mut rest, b"kill") {
         return kill_state(rest);
+    }
+    if takes(&mut rest, b"expire") {
+        return expire(rest);
     }
     ask_history_or_ask(rest)
 }

@@ -1,6 +1,6 @@
 //! Reading the words that stand for values, each from the front of the words left.
 ghost use Rattle.pf_form.specs.Form.Readers.{Moves};
-ghost use Rattle.pf_line.specs.Grammar.{kind, path, ticket_text, table_name, row, name, entry, table, offered_table, id, creator, state};
+ghost use Rattle.pf_line.specs.Grammar.{kind, path, ticket_text, table_name, row, name, entry, table, offered_table, id, tick, until, creator, state};
 
 use crate::entries::entry_of;
 use crate::state::{read_creator, read_id};
@@ -94,6 +94,25 @@ pub(crate) fn read_offered<'a>(words: &mut Words<'a>) -> Result<(Path, Ticket, T
     let ticket = ticket_word(words)?;
     let name = name_word(words)?;
     Ok((path, ticket, name))
+}
+
+/// A tick.
+pub(crate) fn tick_word<'a>(words: &mut Words<'a>) -> Result<u64, Stop>
+    ensures { Moves tick result words.old.now words.new.now }
+{
+    take_word!(words, word => read_id(word))
+}
+
+/// The tick behind `until`, or none.
+#[tactic(auto, unfolding(crate::specs::Grammar::until))]
+pub(crate) fn read_until<'a>(words: &mut Words<'a>) -> Result<Option<u64>, Stop>
+    ensures { Moves until result words.old.now words.new.now }
+{
+    if takes(words, b"until") {
+        let tick = tick_word(words)?;
+        return Ok(Some(tick));
+    }
+    Ok(None)
 }
 
 /// A state, by its name.

@@ -110,6 +110,7 @@ fn write_outcome<W: Write>(out: &mut W, so_far: io::Result<()>, outcome: &Outcom
         Outcome::Deleted { deleted, absent } => write_deleted(out, so_far, *deleted, *absent),
         Outcome::Tracked(verdict) => write_tracked(out, so_far, verdict),
         Outcome::Peered(counts) => write_counts(out, so_far, counts),
+        Outcome::Expired(expired) => write_numbered(out, so_far, b" expired ", *expired as u64),
         Outcome::Committed | Outcome::Set | Outcome::Killed => write_part(out, so_far, b""),
     }
 }

@@ -21,6 +21,7 @@ pub(crate) fn write_refusal<W: Write>(
         Refusal::Halted => write_part(out, so_far, b"err halted"),
         Refusal::BadCount => write_part(out, so_far, b"err count"),
         Refusal::Absent => write_part(out, so_far, b"err absent"),
+        Refusal::BadTick => write_part(out, so_far, b"err tick"),
         Refusal::RulesetFull => write_part(out, so_far, b"err ruleset"),
         Refusal::TableFull => write_part(out, so_far, b"err table"),
         Refusal::TooManyRulesets => write_part(out, so_far, b"err rulesets"),

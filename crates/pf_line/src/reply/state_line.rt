@@ -3,7 +3,7 @@ ghost use Rattle.std.specs.Prelude.{◌≡◌, ◌∷◌, ◌++◌, [], codes, d
 ghost use Rattle.hex.specs.Hex.{encode_lower};
 ghost use Rattle.pf_addr.specs.Spelling.{addr_text};
 ghost use Rattle.pf_rule.specs.Value.Tests.{protocol_word};
-ghost use Rattle.pf_line.specs.{Reply.TextLines.{newlines, GoesOn, WroteLines}, Reply.StateTexts.{name_text, way_text, end_text, flow_text, bound_text, state_line, state_lines, message_line, message_lines, counts_text, fault_text}};
+ghost use Rattle.pf_line.specs.{Reply.TextLines.{newlines, GoesOn, WroteLines}, Reply.StateTexts.{name_text, way_text, end_text, flow_text, bound_text, expiry_text, state_line, state_lines, message_line, message_lines, counts_text, fault_text}};
 
 use crate::reply::entry::write_network;
 use crate::reply::part::{end_line, write_number, write_numbered, write_part};
@@ -55,7 +55,18 @@ fn write_state<W: Write>(out: &mut W, so_far: io::Result<()>, state: &State) -> 
     let so_far = write_name(out, so_far, *state.key());
     let so_far = write_numbered(out, so_far, b" ", held.generation as u64);
     let so_far = write_flow(out, so_far, &held.flow);
-    write_bound(out, so_far, &held.bound)
+    let so_far = write_bound(out, so_far, &held.bound);
+    write_expiry(out, so_far, held.expiry)
+}
+
+// Writes when a state expires, if it does.
+fn write_expiry<W: Write>(out: &mut W, so_far: io::Result<()>, expiry: u64) -> io::Result<()>
+    ensures { GoesOn so_far (W.contents out.old) result (W.contents out.new) (expiry_text expiry) }
+{
+    if expiry == 0 {
+        return write_part(out, so_far, b"");
+    }
+    write_numbered(out, so_far, b" until ", expiry)
 }
 
 /// Writes a state's number and its creator.
