@@ -1,6 +1,6 @@
 //! Opening a device, adding records to the bank that counts, and switching to the other one.
 ghost use Rattle.std.specs.Prelude.{◌≡◌, ◌↔◌, ◌+◌, ◌^◌, ◌<◌, ◌≤◌, true, false, List, ℕ, length, IfOk, IfErr, OnOk, OnErr, IsErrOf, MatchResult, if◌then◌else◌};
-ghost use Rattle.pf_disk.specs.Disk.{CountsFault, EachMoment, IsImage, IsSynced, is_within};
+ghost use Rattle.pf_disk.specs.{Disk.{CountsFault, EachMoment, IsImage, IsSynced, is_within}, Reads.WritesNothing};
 ghost use Rattle.pf_journal.specs.{Faults.is_append_fault, Journal.IsOf};
 ghost use Rattle.pf_snap.specs.{Banks.{bank_size, Content, with_payload, switched, Holds, HoldsAt, HoldsEither}, Ready.{IsReady, IsNext, Keeps}, Looked.{IsFound, content_of}, Faults.{IsRefused, is_fault, is_switch_fault}};
 ghost use Rattle.pf_snap.specs.declared.fault.LookFault.TheVariants as looking;
@@ -42,16 +42,8 @@ impl<D: Disk> Banks<D> {
         ensures unchanged_at_bad_size { IfErr result (λ e. e.0 ≡ looking.BadSize → e.1 ≡ disk) }
 
         // It reads as before, and each image at each moment is one from before.
-        ensures seen { IfOk result (λ r. D.seen r.0.journal.disk ≡ D.seen disk) }
-        ensures seen_err { IfErr result (λ e. D.seen e.1 ≡ D.seen disk) }
-        ensures any_moment { IfOk result (λ r. EachMoment D.moment D.left_since disk r.0.journal.disk
-            (IsImage (D.seen disk) (D.unsynced disk))) }
-        ensures any_moment_err { IfErr result (λ e. EachMoment D.moment D.left_since disk e.1 (IsImage (D.seen disk) (D.unsynced disk))) }
-
-        ensures moments { IfOk result (λ r. D.moment r.0.journal.disk ≤ D.moment disk + 5) }
-        ensures moments_err { IfErr result (λ e. D.moment e.1 ≤ D.moment disk + 5) }
-        ensures no_fault { IfOk result (λ r. D.fault_count r.0.journal.disk ≡ D.fault_count disk) }
-        ensures fault { IfErr result (λ e. D.fault_count e.1 ≡ D.fault_count disk + (if is_fault e.0 then 1 else 0)) }
+        ensures unwritten { IfOk result (λ r. WritesNothing D.Disk disk r.0.journal.disk 5 false) }
+        ensures unwritten_err { IfErr result (λ e. WritesNothing D.Disk disk e.1 5 (is_fault e.0)) }
     {
         if !is_size(disk.size()) {
             return Err((LookFault::BadSize, disk));

@@ -1,6 +1,6 @@
 //! What a device holds.
-ghost use Rattle.std.specs.Prelude.{◌≡◌, ◌≢◌, ◌+◌, ◌^◌, ◌<◌, ◌≤◌, IfOk, IfErr, if◌then◌else◌};
-ghost use Rattle.pf_disk.specs.Disk.{AreIn, EachMoment, IsImage};
+ghost use Rattle.std.specs.Prelude.{◌≡◌, ◌≢◌, ◌^◌, ◌<◌, IfOk, IfErr};
+ghost use Rattle.pf_disk.specs.Reads.{OnlyReads};
 ghost use Rattle.pf_core.specs.Laws.Durable.{IsWithin};
 ghost use Rattle.pf_store.specs.declared.store.fault.OpenFault.TheVariants as opening;
 ghost use Rattle.pf_store.specs.{Stores.Holds, StoreFaults.{is_open_fault}, Openings.{IsUnopened, generation_of}};
@@ -22,12 +22,7 @@ impl<D: Disk> Store<D> {
         ensures within { IfOk result (λ d. IsWithin d) }
         ensures refused { IfErr result (λ e. IsUnopened e (D.seen disk.old)) }
         ensures by_reading { IfErr result (λ e. (e ≢ opening.EpochsExhausted) × (e ≢ opening.Full)) }
-        ensures seen { D.seen disk.new ≡ D.seen disk.old }
-        ensures unsynced { AreIn (D.unsynced disk.new) (D.unsynced disk.old) }
-        ensures still { AreIn (D.unsynced disk.old) (D.unsynced disk.new) }
-        ensures any_moment { EachMoment D.moment D.left_since disk.old disk.new (IsImage (D.seen disk.old) (D.unsynced disk.old)) }
-        ensures moments { D.moment disk.new ≤ D.moment disk.old + 4 }
-        ensures faults { D.fault_count disk.new ≡ D.fault_count disk.old + (if is_open_fault result then 1 else 0) }
+        ensures reads { OnlyReads D.Disk disk.old disk.new 4 (is_open_fault result) }
     {
         match look(alloc, disk) {
             Ok(looked) => match replay(alloc, &looked) {

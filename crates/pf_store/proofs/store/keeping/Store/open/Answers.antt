@@ -15,7 +15,7 @@ returns-in-Ok-replay-clause-opened g c =
     let keeps = c.in-Ok.ensures.keeps c.in-Ok-replay.ensures.whole in
     let held : Holds (d.seen c.args.disk) k = record {
       content = content_of l;
-      bank = subst (λ (x : List ℕ). snap.Holds x (content_of l)) c.in-Ok.ensures.seen (record { at = b.at; other = b.other; holds = keeps.holds });
+      bank = subst (λ (x : List ℕ). snap.Holds x (content_of l)) c.in-Ok.ensures.unwritten.seen (record { at = b.at; other = b.other; holds = keeps.holds });
       makes = c.in-Ok-replay.ensures.made;
     } in
     on_both c.raise_on.result _ _ _ (λ r is up. (k, held, is.0, is.1, omega (arith, up, keeps.generation), c.in-Ok.ensures.found.early)) c.raise_on.ensures.raised c.raise_on.ensures.generation
@@ -30,18 +30,18 @@ returns-in-Ok-replay-clause-within g c = on_ok c.raise_on.result _ _ (λ r s. ma
 
 pub returns-in-Ok-replay-clause-room : goal.returns-in-Ok-replay-clause-room
 returns-in-Ok-replay-clause-room g c =
-    on_ok c.raise_on.result _ _ (λ r none e full. none e (subst (λ (x : List ℕ). IsFull x e) (sym c.in-Ok.ensures.seen) full)) c.raise_on.ensures.room
+    on_ok c.raise_on.result _ _ (λ r none e full. none e (subst (λ (x : List ℕ). IsFull x e) (sym c.in-Ok.ensures.unwritten.seen) full)) c.raise_on.ensures.room
 
 pub returns-in-Ok-replay-clause-here : goal.returns-in-Ok-replay-clause-here
 returns-in-Ok-replay-clause-here g c =
     on_ok c.raise_on.result _ _
-    (λ r here. subst (λ (x : List ℕ). (e : PlainDurable) (held : Holds x e) → HasRoomHere x e held → (r.1.generation ≡ generation_of x e held) × (r.1.version ≡ version_of x e held)) c.in-Ok.ensures.seen here)
+    (λ r here. subst (λ (x : List ℕ). (e : PlainDurable) (held : Holds x e) → HasRoomHere x e held → (r.1.generation ≡ generation_of x e held) × (r.1.version ≡ version_of x e held)) c.in-Ok.ensures.unwritten.seen here)
     c.raise_on.ensures.here
 
 pub returns-in-Ok-replay-clause-there : goal.returns-in-Ok-replay-clause-there
 returns-in-Ok-replay-clause-there g c =
     on_ok c.raise_on.result _ _
-    (λ r there. subst (λ (x : List ℕ). (e : PlainDurable) (held : Holds x e) → ¬ HasRoomHere x e held → (r.1.generation ≡ generation_of x e held + 1) × (r.1.version ≡ NEWEST)) c.in-Ok.ensures.seen there)
+    (λ r there. subst (λ (x : List ℕ). (e : PlainDurable) (held : Holds x e) → ¬ HasRoomHere x e held → (r.1.generation ≡ generation_of x e held + 1) × (r.1.version ≡ NEWEST)) c.in-Ok.ensures.unwritten.seen there)
     c.raise_on.ensures.there
 
 pub returns-in-Ok-replay-clause-any_moment : goal.returns-in-Ok-replay-clause-any_moment
@@ -53,13 +53,13 @@ returns-in-Ok-replay-clause-any_moment g c =
     let keeps = c.in-Ok.ensures.keeps c.in-Ok-replay.ensures.whole in
     let held : Holds (d.seen c.args.disk) k = record {
       content = content_of l;
-      bank = subst (λ (x : List ℕ). snap.Holds x (content_of l)) c.in-Ok.ensures.seen (record { at = b.at; other = b.other; holds = keeps.holds });
+      bank = subst (λ (x : List ℕ). snap.Holds x (content_of l)) c.in-Ok.ensures.unwritten.seen (record { at = b.at; other = b.other; holds = keeps.holds });
       makes = c.in-Ok-replay.ensures.made;
     } in
     let low : b.generation + 1 ≤ generation_of (d.seen c.args.disk) k held + 1 = omega (arith, keeps.generation) in
-    let same : length (d.seen b.journal.disk) ≡ length (d.seen c.args.disk) = ap length c.in-Ok.ensures.seen in
+    let same : length (d.seen b.journal.disk) ≡ length (d.seen c.args.disk) = ap length c.in-Ok.ensures.unwritten.seen in
     on_three c.raise_on.result _ _ _ _
-    (λ r run by long. opened d.seen d.unsynced d.moment d.left_since c.args.disk b.journal.disk r.1.disk k held (b.generation + 1) low same c.in-Ok.ensures.any_moment run by long)
+    (λ r run by long. opened d.seen d.unsynced d.moment d.left_since c.args.disk b.journal.disk r.1.disk k held (b.generation + 1) low same c.in-Ok.ensures.unwritten.any_moment run by long)
     c.raise_on.ensures.any_moment c.raise_on.ensures.by c.raise_on.ensures.lengths
 
 pub returns-in-Ok-replay-clause-any_moment_err : goal.returns-in-Ok-replay-clause-any_moment_err
@@ -71,13 +71,13 @@ returns-in-Ok-replay-clause-any_moment_err g c =
     let keeps = c.in-Ok.ensures.keeps c.in-Ok-replay.ensures.whole in
     let held : Holds (d.seen c.args.disk) k = record {
       content = content_of l;
-      bank = subst (λ (x : List ℕ). snap.Holds x (content_of l)) c.in-Ok.ensures.seen (record { at = b.at; other = b.other; holds = keeps.holds });
+      bank = subst (λ (x : List ℕ). snap.Holds x (content_of l)) c.in-Ok.ensures.unwritten.seen (record { at = b.at; other = b.other; holds = keeps.holds });
       makes = c.in-Ok-replay.ensures.made;
     } in
     let low : b.generation + 1 ≤ generation_of (d.seen c.args.disk) k held + 1 = omega (arith, keeps.generation) in
-    let same : length (d.seen b.journal.disk) ≡ length (d.seen c.args.disk) = ap length c.in-Ok.ensures.seen in
+    let same : length (d.seen b.journal.disk) ≡ length (d.seen c.args.disk) = ap length c.in-Ok.ensures.unwritten.seen in
     on_three_err c.raise_on.result _ _ _ _
-    (λ e run by long. opened d.seen d.unsynced d.moment d.left_since c.args.disk b.journal.disk e.1 k held (b.generation + 1) low same c.in-Ok.ensures.any_moment run by long)
+    (λ e run by long. opened d.seen d.unsynced d.moment d.left_since c.args.disk b.journal.disk e.1 k held (b.generation + 1) low same c.in-Ok.ensures.unwritten.any_moment run by long)
     c.raise_on.ensures.any_moment_err c.raise_on.ensures.by_err c.raise_on.ensures.lengths_err
 
 pub returns-in-Ok-clause-refused : goal.returns-in-Ok-clause-refused
