@@ -1,20 +1,19 @@
 -- Which versions allow what is held: what the bytes of a version say, that version allows.
-use Rattle.std.proofs.{Common.{◌≡◌, ◌&&◌, ◌||◌, ◌==◌, ℕ, ◌<◌, ◌≤◌, Bool, true, false, List, [], ◌∷◌, map, cond, Option, Some, None, refl, sym, ap, ◌∙◌, subst, inl, inr, arith}, lemmas.Bool.and_parts, lemmas.List.Elements.{All-head, All-tail}}
-use Rattle.std.specs.{Prelude.{All, fold, is_none, ◌⊎◌, if◌then◌else◌}, FinMap.Entries.{by_order, put, where_key}, List.{list_all, AllByRecursion}, Ordering.eq_by_cmp}
-use Rattle.std.specs.declared.cmp.{Ordering.Ordering, Ordering.TheVariants.{Less, Equal, Greater}}
+use Rattle.std.proofs.{Common.{◌≡◌, ◌&&◌, ◌||◌, ◌==◌, ℕ, ◌<◌, ◌≤◌, Bool, true, false, List, [], ◌∷◌, map, refl, sym, ap, ◌∙◌, subst, inl, inr, arith}, lemmas.Bool.eq-eqb, lemmas.List.Elements.{All-head, All-tail}}
+use Rattle.std.specs.{Prelude.{All, is_none, ◌⊎◌, if◌then◌else◌}, List.{list_all, AllByRecursion}}
 use Rattle.pf_form.specs.Bytes.Forms.{Value, Fits}
-use Rattle.pf_map.specs.{ListMaps.with_list, Maps.without}
-use Rattle.pf_addr.specs.Path.Paths.{path_order}
+use Rattle.pf_state.specs.{declared.step.Step.{Step, TheVariants.{Insert, Delete, Clear}}, Layouts.{States.{StateShape, has_expiry, state_form, state_in, all_allowed}, Steps.{StepShape, step_form, step_in, allows_step, allows_steps}}}
+use Rattle.pf_state.proofs.Expiries.{all_allowed_is, data_is_allowed, data_of_step_is_allowed}
 use Rattle.pf_rule.specs.{Rules.{PlainRule, IsRule}, Sum.{Layouts.{EndingShape, RuleShape, label_form, named, rule_layout, plain_rule, has_labels, allows}, Reading.{label_of, rule_of}}}
 use Rattle.pf_rule.proofs.RuleBytes.{fits_allowed}
-use Rattle.pf_anchor.specs.{Forms.{RulesShape, rule_list_form, rules_form, rulesets_form, plain_ruled, ruled_in, allows_rules, allows_ruleset}, Rulesets.{PlainPlaced, with_rules}}
-use Rattle.pf_core.specs.Durable.{Changes.{PlainDurable, PlainChange, commits, adds, deletes, sets, acts, removes, rulesets_in}, Forms.{durable_form, plain_durable, durable_in}}
+use Rattle.pf_anchor.specs.{Forms.{RulesShape, rule_list_form, rules_form, rulesets_form, plain_ruled, ruled_in, allows_rules, allows_ruleset}, Rulesets.{PlainPlaced}}
+use Rattle.pf_core.specs.Durable.{Changes.{PlainDurable, PlainChange, commits, adds, deletes, sets, acts, removes, expires}, Forms.{DurableShape, tick_form, durable_form, plain_durable, durable_in}}
 use Rattle.pf_core.specs.Durable.Forms.{allows as allows_durable}
 use Rattle.pf_core.specs.declared.durable.change.Item.{Item}
 use Rattle.pf_core.specs.declared.durable.change.Item.TheVariants as item
-use Rattle.pf_snap.specs.{Banks.Content, declared.header.TheConstants.NEWEST}
+use Rattle.pf_snap.specs.declared.header.TheConstants.{NEWEST}
 use Rattle.pf_store.specs.declared.groups.change.Recorded.{Recorded, TheVariants.Made as made}
-use Rattle.pf_store.specs.{Durables.IsDurable, Groups.{ChangeShape, ItemShape, change_form, group_form, item_form, item_in, items_form, plain_record, record_in, allows_item, allows_record, allows_group, made_all, IsRecorded}, Stores.{left_by, left_by_all, Leads, Makes}}
+use Rattle.pf_store.specs.{Durables.IsDurable, Groups.{ChangeShape, ItemShape, expire_form, change_form, group_form, item_form, item_in, items_form, plain_record, record_in, allows_item, allows_record, allows_group, made_all, IsRecorded}}
 
 -- ---- a rule
 
@@ -64,8 +63,18 @@ items_all version [] new = refl
 items_all version (item.Rules r ∷ items) new = rw (rules_all version r.1 new, items_all version items new) refl
 items_all version (item.Tables p named ∷ items) new = items_all version items new
 
+-- versions that have expiries allow all steps
+step_all : (version : ℕ) (x : Step) → has_expiry version ≡ true → allows_step version x ≡ true
+step_all version (Insert s) new = ap (λ (b : Bool). b || (s.1.expiry == 0)) new
+step_all version (Delete n) new = refl
+step_all version (Clear creator) new = refl
+
+steps_all : (version : ℕ) (xs : List Step) → has_expiry version ≡ true → allows_steps version xs ≡ true
+steps_all version [] new = refl
+steps_all version (x ∷ xs) new = rw (step_all version x new, steps_all version xs new) refl
+
 pub newest_allows : (d : PlainDurable) → allows_durable NEWEST d ≡ true
-newest_allows d = rulesets_all NEWEST d.config.rulesets refl
+newest_allows d = rw (rulesets_all NEWEST d.config.rulesets refl) (sym (all_allowed_is NEWEST d.states))
 
 made_in_newest : (es : List PlainChange) → allows_group NEWEST (made_all es) ≡ true
 made_in_newest [] = refl
@@ -73,8 +82,9 @@ made_in_newest (commits items ∷ es) = rw (items_all NEWEST items refl, made_in
 made_in_newest (adds p name xs ∷ es) = made_in_newest es
 made_in_newest (deletes p name xs ∷ es) = made_in_newest es
 made_in_newest (sets p name xs ∷ es) = made_in_newest es
-made_in_newest (acts steps ∷ es) = made_in_newest es
+made_in_newest (acts steps ∷ es) = rw (steps_all NEWEST steps refl) (made_in_newest es)
 made_in_newest (removes name ∷ es) = made_in_newest es
+made_in_newest (expires tick ∷ es) = made_in_newest es
 
 -- changes, each as it was handed in
 pub allowed_as : {C : Type 0} (as_plain : C → PlainChange) (version : ℕ) (cs : List C)
@@ -101,14 +111,27 @@ elsewhere true allowed needed room is why = by (is refl) why where
 
 -- ---- a snapshot
 
-pub durable_allowed : (version : ℕ) (d : PlainDurable) (bytes : List ℕ) → IsDurable version d bytes → allows_durable version d ≡ true
+tick_allowed : (has : Bool) (tick : ℕ) → Fits (tick_form has) tick → (has || (tick == 0)) ≡ true
+unfolding tick_form
+tick_allowed true tick fits = refl
+tick_allowed false tick fits = eq-eqb tick 0 fits
+
+states_allowed : (version : ℕ) (vs : List (Value StateShape)) → AllByRecursion (Fits (state_form version)) vs → all_allowed version (map state_in vs) ≡ true
+states_allowed version [] each = refl
+states_allowed version (v ∷ vs) each = rw (data_is_allowed version v each.0) (states_allowed version vs each.1)
+
+-- of the data of a snapshot
+data_allowed : (version : ℕ) (v : Value DurableShape) → Fits (durable_form version) v → allows_durable version (durable_in v) ≡ true
 unfolding durable_form rulesets_form
+data_allowed version v fits =
+    rw (rulesets_allowed version v.1.1.0 fits.0.1.1.0.0.0.1, tick_allowed (has_expiry version) v.1.0 fits.0.1.0, states_allowed version v.1.1.1.1 fits.0.1.1.1.1.0.1) refl
+
+pub durable_allowed : (version : ℕ) (d : PlainDurable) (bytes : List ℕ) → IsDurable version d bytes → allows_durable version d ≡ true
 durable_allowed version d bytes is =
-    subst (λ (e : PlainDurable). allows_durable version e ≡ true) (sym is.told) (rulesets_allowed version (plain_durable d).1.0 is.spelled.fits.1.0.0.0.1)
+    subst (λ (e : PlainDurable). allows_durable version e ≡ true) (sym is.told) (data_allowed version (plain_durable d) is.spelled.fits)
 
 pub snapshot_allowed : (version : ℕ) (d : PlainDurable) → durable_in (plain_durable d) ≡ d → Fits (durable_form version) (plain_durable d) → allows_durable version d ≡ true
-unfolding durable_form rulesets_form
-snapshot_allowed version d told fits = subst (λ (e : PlainDurable). allows_durable version e ≡ true) told (rulesets_allowed version (plain_durable d).1.0 fits.1.0.0.0.1)
+snapshot_allowed version d told fits = subst (λ (e : PlainDurable). allows_durable version e ≡ true) told (data_allowed version (plain_durable d) fits)
 
 -- ---- what is recorded
 
@@ -117,9 +140,18 @@ unfolding item_form
 item_allowed version (inl v) fits = ruleset_allowed version v fits
 item_allowed version (inr v) fits = refl
 
-items_allowed : (version : ℕ) (vs : List (Value ItemShape)) → AllByRecursion (Fits (item_form version)) vs → list_all (allows_item version) (map item_in vs) ≡ true
+pub items_allowed : (version : ℕ) (vs : List (Value ItemShape)) → AllByRecursion (Fits (item_form version)) vs → list_all (allows_item version) (map item_in vs) ≡ true
 items_allowed version [] each = refl
 items_allowed version (v ∷ vs) each = rw (item_allowed version v each.0) (items_allowed version vs each.1)
+
+steps_allowed : (version : ℕ) (vs : List (Value StepShape)) → AllByRecursion (Fits (step_form version)) vs → allows_steps version (map step_in vs) ≡ true
+steps_allowed version [] each = refl
+steps_allowed version (v ∷ vs) each = rw (data_of_step_is_allowed version v each.0) (steps_allowed version vs each.1)
+
+expire_allowed : (has : Bool) (tick : ℕ) → Fits (expire_form has) tick → has ≡ true
+unfolding expire_form
+expire_allowed true tick fits = refl
+expire_allowed false tick fits = fits.1
 
 record_allowed : (version : ℕ) (v : Value ChangeShape) → Fits (change_form version) v → allows_record version (record_in v) ≡ true
 unfolding change_form items_form
@@ -127,9 +159,10 @@ record_allowed version (inl vs) fits = items_allowed version vs fits.0.1
 record_allowed version (inr (inl v)) fits = refl
 record_allowed version (inr (inr (inl v))) fits = refl
 record_allowed version (inr (inr (inr (inl v)))) fits = refl
-record_allowed version (inr (inr (inr (inr (inl steps))))) fits = refl
+record_allowed version (inr (inr (inr (inr (inl steps))))) fits = steps_allowed version steps fits.0.0.0.0.1
 record_allowed version (inr (inr (inr (inr (inr (inl name)))))) fits = refl
-record_allowed version (inr (inr (inr (inr (inr (inr epoch)))))) fits = refl
+record_allowed version (inr (inr (inr (inr (inr (inr (inl epoch))))))) fits = refl
+record_allowed version (inr (inr (inr (inr (inr (inr (inr tick))))))) fits = expire_allowed (has_expiry version) tick fits.0.0.0.0.0.0.0
 
 pub allowed : (version : ℕ) (r : Recorded) → record_in (plain_record r) ≡ r → Fits (change_form version) (plain_record r) → allows_record version r ≡ true
 allowed version r told fits = subst (λ x. allows_record version x ≡ true) told (record_allowed version (plain_record r) fits)
@@ -144,75 +177,3 @@ group_allowed version rs told fits = subst (λ xs. allows_group version xs ≡ t
 
 pub recorded_allowed : (version : ℕ) (rs : List Recorded) (payload : List ℕ) → IsRecorded version rs payload → allows_group version rs ≡ true
 recorded_allowed version rs payload is = group_allowed version rs (sym is.told) is.spelled.fits
-
--- ---- what changes leave
-
-module _ {K X : Type 0} (R : K → K → Ordering) (Q : X → Bool) where
-  filtered : (p : K → Bool) (es : List (K × X)) → list_all (λ e. Q e.1) es ≡ true → list_all (λ e. Q e.1) (where_key R p es) ≡ true
-  filtered p [] all = refl
-  filtered p (e ∷ es) all =
-      let both = and_parts (Q e.1) (list_all (λ e. Q e.1) es) all in
-      let rest = filtered p es both.1 in
-      elim (p e.0) as (λ b. list_all (λ e. Q e.1) (cond b (e ∷ where_key R p es) (where_key R p es)) ≡ true) [ true ↦ rw (both.0) rest | false ↦ rest ]
-
-  with_one : (k : K) (v : X) → Q v ≡ true → (es : List (K × X)) → list_all (λ e. Q e.1) es ≡ true → list_all (λ e. Q e.1) (put R k v es) ≡ true
-  with_one k v new [] all = rw new refl
-  with_one k v new (e ∷ es) all =
-      let both = and_parts (Q e.1) (list_all (λ e. Q e.1) es) all in
-      let rest = with_one k v new es both.1 in
-      elim (R k e.0) as (λ o. list_all (λ e. Q e.1) (by_order o ((k, v) ∷ e ∷ es) ((e.0, v) ∷ es) (e ∷ put R k v es)) ≡ true) [
-        | Less ↦ rw (new, both.0) (both.1)
-        | Equal ↦ rw new (both.1)
-        | Greater ↦ rw (both.0) rest
-      ]
-
--- a ruleset that is put in place of another
-placed_allowed : (version : ℕ) (es : List PlainPlaced) (e : PlainPlaced) → list_all (allows_ruleset version) es ≡ true → allows_ruleset version e ≡ true
-    → list_all (allows_ruleset version) (with_rules es e) ≡ true
-placed_allowed version es e all is = by e.1 is where
-  others : list_all (allows_ruleset version) (without path_order es e.0) ≡ true
-  others = filtered path_order (allows_rules version) _ es all
-
-  by : (rs : List PlainRule) → allows_rules version rs ≡ true → list_all (allows_ruleset version) (with_list path_order es (e.0, rs)) ≡ true
-  by [] is = others
-  by (r ∷ rs) is = with_one path_order (allows_rules version) e.0 (r ∷ rs) is _ others
-
-rulesets_in_turn : (version : ℕ) (items es : List PlainPlaced) → list_all (allows_ruleset version) items ≡ true → list_all (allows_ruleset version) es ≡ true
-    → list_all (allows_ruleset version) (fold with_rules es items) ≡ true
-rulesets_in_turn version [] es new all = all
-rulesets_in_turn version (e ∷ items) es new all =
-    let both = and_parts (allows_ruleset version e) (list_all (allows_ruleset version) items) new in
-    rulesets_in_turn version items (with_rules es e) both.1 (placed_allowed version es e all both.0)
-
-among : (version : ℕ) (items : List Item) → list_all (allows_item version) items ≡ true → list_all (allows_ruleset version) (rulesets_in items) ≡ true
-among version [] all = refl
-among version (item.Rules r ∷ items) all = let both = and_parts (allows_ruleset version r) (list_all (allows_item version) items) all in rw (both.0) (among version items both.1)
-among version (item.Tables p named ∷ items) all = among version items all
-
-left_allowed : (version : ℕ) (d : PlainDurable) (v : Value ChangeShape) → Fits (change_form version) v → allows_durable version d ≡ true → allows_durable version (left_by d (record_in v)) ≡ true
-unfolding change_form items_form
-left_allowed version d (inl vs) fits all = rulesets_in_turn version (rulesets_in (map item_in vs)) d.config.rulesets (among version (map item_in vs) (items_allowed version vs fits.0.1)) all
-left_allowed version d (inr (inl v)) fits all = all
-left_allowed version d (inr (inr (inl v))) fits all = all
-left_allowed version d (inr (inr (inr (inl v)))) fits all = all
-left_allowed version d (inr (inr (inr (inr (inl steps))))) fits all = all
-left_allowed version d (inr (inr (inr (inr (inr (inl name)))))) fits all = all
-left_allowed version d (inr (inr (inr (inr (inr (inr epoch)))))) fits all = all
-
-in_turn_allowed : (version : ℕ) (d : PlainDurable) (vs : List (Value ChangeShape)) → AllByRecursion (Fits (change_form version)) vs → allows_durable version d ≡ true
-    → allows_durable version (left_by_all d (map record_in vs)) ≡ true
-in_turn_allowed version d [] each all = all
-in_turn_allowed version d (v ∷ vs) each all = in_turn_allowed version (left_by d (record_in v)) vs each.1 (left_allowed version d v each.0 all)
-
-led_allowed : (version : ℕ) (d : PlainDurable) (ps : List (List ℕ)) (e : PlainDurable) → Leads version d ps e → allows_durable version d ≡ true → allows_durable version e ≡ true
-unfolding group_form
-led_allowed version d [] e led all = subst (λ (k : PlainDurable). allows_durable version k ≡ true) led all
-led_allowed version d (p ∷ ps) e led all =
-    led_allowed version (left_by_all d led.0) ps e led.3
-    (subst (λ (xs : List Recorded). allows_durable version (left_by_all d xs) ≡ true) (sym led.1.told)
-    (in_turn_allowed version d (map plain_record led.0) led.1.spelled.fits.0.1 all))
-
--- what a bank holds, its version allows
-pub made_allowed : (content : Content) (d : PlainDurable) → Makes content d → allows_durable content.version d ≡ true
-made_allowed content d makes =
-    led_allowed content.version makes.first content.payloads d makes.leads (durable_allowed content.version makes.first content.snapshot makes.kept)

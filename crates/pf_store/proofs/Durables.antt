@@ -1,22 +1,23 @@
 -- What is kept: what its types guarantee fits its form, its data determine it, and so do its bytes.
-use Rattle.std.proofs.{Common.{◌*◌, ◌^◌, ◌≡◌, ◌≢◌, ◌≤◌, ◌==◌, ◌&&◌, not, ℕ, Bool, true, false, T, List, [], ◌∷◌, length, map, cond, Some, None, Ok, refl, sym, ap, ◌∙◌, true≢false, arith}, lemmas.{List.length-map, Bool.{and_parts, Decides.nat_tests}, Cmp.{alike_right, tied_itself, nat_list_cmp_total}}}
-use Rattle.std.specs.{Prelude.{nat_le, replicate}, declared.{cmp.Ordering.Ordering, cmp.Ordering.TheVariants.Less, cmp.Ordering.TheVariants.Equal, cmp.Ordering.TheVariants.Greater}, Cmp.IsTotalOrder, FinMap.{find, is_sorted}, FinMap.Entries.below_all, List.{list_all, AllByRecursion}, Ordering.{is_eq, is_lt, ordering_reverse}}
+use Rattle.std.proofs.{Common.{◌+◌, ◌++◌, ◌*◌, ◌^◌, ◌≡◌, ◌≢◌, ◌≤◌, ◌==◌, ◌&&◌, not, ℕ, Bool, true, false, T, List, [], ◌∷◌, length, map, cond, Some, None, Ok, Err, refl, sym, ap, ◌∙◌, true≢false, arith}, lemmas.{List.length-map, Bool.{and_parts, Decides.nat_tests}, Cmp.{alike_right, tied_itself, nat_list_cmp_total}}}
+use Rattle.std.specs.{Prelude.{nat_le, replicate, if◌then◌else◌}, declared.{cmp.Ordering.Ordering, cmp.Ordering.TheVariants.Less, cmp.Ordering.TheVariants.Equal, cmp.Ordering.TheVariants.Greater}, Cmp.IsTotalOrder, FinMap.{find, is_sorted}, FinMap.Entries.below_all, List.{list_all, AllByRecursion}, Ordering.{is_eq, is_lt, ordering_reverse}}
 use Rattle.pf_addr.specs.Path.Paths.{path_order}
-use Rattle.pf_form.specs.{Bytes.{BasicForms.number_bytes, Forms.{Shape, Value, Form, that, Fits, Spells, reads, writes, onto}, Lists.{in_order, ordered}}, Laws.Bytes.{Onto.onto_is, Texts.one_value}}
+use Rattle.pf_form.specs.{Bytes.{BasicForms.number_bytes, Forms.{Shape, Value, Form, number, pair, back, that, Fits, Spells, reads, writes, onto}, Lists.{in_order, ordered}}, Laws.Bytes.{Onto.onto_is, Texts.one_value}}
 use Rattle.pf_addr.specs.{NetForms.family, Path.PathForms.{path_form, table_name_form}}
-use Rattle.pf_form.specs.Bytes.Codes.{below}
+use Rattle.pf_form.specs.{Bytes.Codes.below, declared.bytes.fault.Fault.TheVariants.Bad}
 use Rattle.pf_anchor.specs.{declared.limits.TheConstants.{RULESET_LIMIT, TABLE_COUNT_LIMIT}, Rulesets.{PlainPlaced, IsMap}, Tables.{PlainPlacedTable, table_order, IsTableMap}}
 use Rattle.pf_anchor.proofs.TableMaps.{table_order_total}
 use Rattle.pf_core.specs.Durable.Changes.{PlainDurable, durable_with, kept_nothing}
 use Rattle.pf_rule.specs.Sum.{Layouts.plain_rule}
+use Rattle.pf_state.specs.{Layouts.States.{StateShape, has_expiry, states_form, plain_states, state_in}, States.{PlainState, stands, all_stand}}
 use Rattle.pf_state.proofs.LayoutsBack.{states_back}
 use Rattle.pf_table.specs.EntryForms.{entry, plain_entry}
 use Rattle.pf_map.proofs.Tests.{first_of, second_of, less_of}
 use Rattle.pf_store.proofs.InOrder.{in_order_of, sorted_of}
 use Rattle.pf_store.specs.declared.snapshots.{rulesets.StoredRuleset.StoredRuleset, tables.StoredPlaced.StoredPlaced}
 use Rattle.pf_anchor.specs.Forms.{at_most, RulesShape, rules_form, named_form, entries_form, has_some, ruleset_before, are_rulesets, rulesets_form, plain_ruled, PlacedShape, placed_before, are_tables, placed_form, kept_tables_form, plain_tabled, ruled_in, tabled_in, configured}
-use Rattle.pf_core.specs.Durable.Forms.{DurableShape, durable_form, plain_durable, durable_in}
-use Rattle.pf_store.specs.{Durables.{durable_has_form, IsDurable, example_kept, example_bytes}, Snapshots.{empty_form, EndsInSnapshot}}
+use Rattle.pf_core.specs.Durable.Forms.{DurableShape, tick_form, none_is_due, durable_form, plain_durable, durable_in}
+use Rattle.pf_store.specs.{Durables.{durable_has_form, IsDurable, example_kept, example_rest, example_bytes}, Snapshots.{zeros_of, empty_form, EndsInSnapshot}}
 use Rattle.pf_store.proofs.RecordedForms.{entries_told}
 
 -- ---- lists
@@ -43,6 +44,14 @@ seen_in_order before view (x ∷ y ∷ xs) = ap (λ b. before (view x) (view y) 
 that_read : {a : Shape} (test : Value a → Bool) (f : Form a) (before rest : List ℕ) (x : Value a) → reads f before ≡ Ok (x, rest)
     → test x ≡ true → reads (that test f) before ≡ Ok (x, rest)
 that_read test f before rest x read is = rw (read, is) refl
+
+that_refused : {a : Shape} (test : Value a → Bool) (f : Form a) (before rest : List ℕ) (x : Value a) → reads f before ≡ Ok (x, rest)
+    → test x ≡ false → reads (that test f) before ≡ Err (Bad (length before))
+that_refused test f before rest x read is = rw (read, is) refl
+
+pair_read : {a b : Shape} (f : Form a) (g : Form b) (before between rest : List ℕ) (x : Value a) (y : Value b) → reads f before ≡ Ok (x, between)
+    → reads g between ≡ Ok (y, rest) → reads (pair f g) before ≡ Ok ((x, y), rest)
+pair_read f g before between rest x y first second = rw (first, second) refl
 
 seen_again : {A B C : Type 0} (f : A → B) (g : B → C) (xs : List A) → map (λ x. g (f x)) xs ≡ map g (map f xs)
 seen_again f g [] = refl
@@ -203,7 +212,7 @@ tables_told [] = refl
 tables_told (t ∷ ts) = λ i. (t.0, entries_told t.1 i) ∷ tables_told ts i
 
 pub durable_told : (d : PlainDurable) → map ruled_in (map plain_ruled d.config.rulesets) ≡ d.config.rulesets → durable_in (plain_durable d) ≡ d
-durable_told d rulesets = λ i. durable_with d.epoch (configured (rulesets i) (tables_told d.config.tables i)) (states_back d.states i)
+durable_told d rulesets = λ i. durable_with d.epoch d.tick (configured (rulesets i) (tables_told d.config.tables i)) (states_back d.states i)
 
 -- ---- what has bytes
 
@@ -213,9 +222,9 @@ durable_formed version d fits =
     let rs : List (Value RulesShape) = map plain_ruled d.config.rulesets in
     let ts : List (Value PlacedShape) = map plain_tabled d.config.tables in
     let rulesets : at_most RULESET_LIMIT rs ≡ true =
-    (and_parts (at_most RULESET_LIMIT rs) (list_all (λ r. has_some r.1) rs) fits.1.0.1).0 in
+    (and_parts (at_most RULESET_LIMIT rs) (list_all (λ r. has_some r.1) rs) fits.0.1.1.0.1).0 in
     let tables : at_most TABLE_COUNT_LIMIT ts ≡ true =
-    (and_parts (at_most TABLE_COUNT_LIMIT ts) (list_all (λ t. has_some t.1.1) ts) fits.1.1.0.1).0 in
+    (and_parts (at_most TABLE_COUNT_LIMIT ts) (list_all (λ t. has_some t.1.1) ts) fits.0.1.1.1.0.1).0 in
     rw (sym (few RULESET_LIMIT d.config.rulesets plain_ruled), rulesets)
     (rw (sym (few TABLE_COUNT_LIMIT d.config.tables plain_tabled), tables) refl)
 
@@ -251,25 +260,86 @@ pub none_told : {A : Type 0} (version : ℕ) (d : PlainDurable) (bytes : List �
     → IsDurable version d bytes → A
 none_told version d bytes refuses is = refuses (plain_durable d) is.spelled
 
+-- ---- part by part
+
+-- the form of the parts, by whether there is a tick
+abbrev parts : ℕ → Bool → Form DurableShape
+parts version has = pair (number 4) (pair (tick_form has) (pair (rulesets_form version) (pair kept_tables_form (states_form version))))
+
+parts_read : (version : ℕ) (has : Bool) (b0 b1 b2 b3 b4 rest : List ℕ) (epoch tick : ℕ) (rs : List (Value RulesShape)) (ts : List (Value PlacedShape)) (ss : List (Value StateShape))
+    → reads (number 4) b0 ≡ Ok (epoch, b1) → reads (tick_form has) b1 ≡ Ok (tick, b2) → reads (rulesets_form version) b2 ≡ Ok (rs, b3)
+    → reads kept_tables_form b3 ≡ Ok (ts, b4) → reads (states_form version) b4 ≡ Ok (ss, rest)
+    → reads (parts version has) b0 ≡ Ok ((epoch, (tick, (rs, (ts, ss)))), rest)
+parts_read version has b0 b1 b2 b3 b4 rest epoch tick rs ts ss first second third fourth fifth =
+    let tables = pair_read kept_tables_form (states_form version) b3 b4 rest ts ss fourth fifth in
+    let rulesets = pair_read (rulesets_form version) (pair kept_tables_form (states_form version)) b2 b3 rest rs (ts, ss) third tables in
+    let ticks = pair_read (tick_form has) (pair (rulesets_form version) (pair kept_tables_form (states_form version))) b1 b2 rest tick (rs, (ts, ss)) second rulesets in
+    pair_read (number 4) (pair (tick_form has) (pair (rulesets_form version) (pair kept_tables_form (states_form version)))) b0 b1 rest epoch (tick, (rs, (ts, ss))) first ticks
+
+-- none of the states is due at a tick exactly if none is as their data say
+pub none_due : (tick : ℕ) (es : List PlainState) → list_all (λ s. stands tick (state_in s).1) (plain_states es) ≡ all_stand tick es
+none_due tick [] = refl
+none_due tick (e ∷ es) = ap (λ (b : Bool). stands tick e.1 && b) (none_due tick es)
+
+-- they are a snapshot if none of the states is due, and otherwise they go wrong at its first byte
+module _ (version : ℕ) (b0 b1 b2 b3 b4 rest : List ℕ) (epoch tick : ℕ) (rs : List PlainPlaced) (ts : List PlainPlacedTable) (ss : List PlainState)
+    (first : reads (number 4) b0 ≡ Ok (epoch, b1)) (second : reads (tick_form (has_expiry version)) b1 ≡ Ok (tick, b2))
+    (third : reads (rulesets_form version) b2 ≡ Ok (map plain_ruled rs, b3)) (fourth : reads kept_tables_form b3 ≡ Ok (map plain_tabled ts, b4))
+    (fifth : reads (states_form version) b4 ≡ Ok (plain_states ss, rest)) where
+  read : reads (parts version (has_expiry version)) b0 ≡ Ok ((epoch, (tick, (map plain_ruled rs, (map plain_tabled ts, plain_states ss)))), rest)
+  read = parts_read version (has_expiry version) b0 b1 b2 b3 b4 rest epoch tick (map plain_ruled rs) (map plain_tabled ts) (plain_states ss) first second third fourth fifth
+
+  pub durable_read : all_stand tick ss ≡ true → reads (durable_form version) b0 ≡ Ok (plain_durable (durable_with epoch tick (configured rs ts) ss), rest)
+  unfolding durable_form
+  durable_read standing =
+      that_read none_is_due (parts version (has_expiry version)) b0 rest (epoch, (tick, (map plain_ruled rs, (map plain_tabled ts, plain_states ss)))) read (none_due tick ss ∙ standing)
+
+  pub durable_refused : all_stand tick ss ≡ false → reads (durable_form version) b0 ≡ Err (Bad (length b0))
+  unfolding durable_form
+  durable_refused due =
+      that_refused none_is_due (parts version (has_expiry version)) b0 rest (epoch, (tick, (map plain_ruled rs, (map plain_tabled ts, plain_states ss)))) read (none_due tick ss ∙ due)
+
 -- ---- the snapshot of nothing
 
 abbrev nothing_plain : ℕ → Value DurableShape
-nothing_plain epoch = (epoch, ([], ([], [])))
+nothing_plain epoch = (epoch, (0, ([], ([], []))))
+
+-- the form, by whether there is a tick
+abbrev formed : ℕ → Bool → Form DurableShape
+formed version has = that none_is_due (parts version has)
+
+-- the tick 0 is allowed by all
+no_tick : (has : Bool) → Fits (tick_form has) 0
+unfolding tick_form
+no_tick true = omega arith
+no_tick false = refl
+
+nothing_by : (version epoch : ℕ) (has : Bool)
+    → writes (formed version has) (nothing_plain epoch) ≡ writes (back (number 4) (replicate (if has then 20 else 12) 0)) epoch
+unfolding tick_form rulesets_form kept_tables_form number_bytes
+nothing_by version epoch true = refl
+nothing_by version epoch false = refl
 
 nothing_written : (version epoch : ℕ) → writes (durable_form version) (nothing_plain epoch) ≡ writes (empty_form version) epoch
-unfolding durable_form rulesets_form kept_tables_form empty_form number_bytes
-nothing_written version epoch = refl
+unfolding durable_form empty_form
+nothing_written version epoch = nothing_by version epoch (has_expiry version)
 
 pub nothing_is_empty : (version epoch : ℕ) (bytes : List ℕ) → IsDurable version (kept_nothing epoch) bytes → Spells (empty_form version) epoch bytes
 unfolding durable_form empty_form
 nothing_is_empty version epoch bytes is =
-    record { fits = is.spelled.fits.0; written = is.spelled.written ∙ nothing_written version epoch }
+    record { fits = is.spelled.fits.0.0; written = is.spelled.written ∙ nothing_written version epoch }
 
 pub empty_is_nothing : (version epoch : ℕ) (bytes : List ℕ) → Spells (empty_form version) epoch bytes → IsDurable version (kept_nothing epoch) bytes
 unfolding durable_form rulesets_form kept_tables_form empty_form
 empty_is_nothing version epoch bytes is = record {
   spelled = record {
-    fits = (is.fits, ((((omega arith, tt), refl), refl), ((((omega arith, tt), refl), refl), ((omega arith, tt), refl))));
+    fits = (
+      (
+        is.fits,
+        (no_tick (has_expiry version), ((((omega arith, tt), refl), refl), ((((omega arith, tt), refl), refl), ((omega arith, tt), refl)))),
+      ),
+      refl,
+    );
     written = is.written ∙ sym (nothing_written version epoch);
   };
   told = refl;
@@ -289,27 +359,56 @@ unfolding placed_form path_form named_form table_name_form entries_form
 example_fits =
     (((omega arith, tt), refl), (((omega arith, (omega arith, tt)), refl), (((omega arith, (entry_of_example_fits, tt)), refl), refl)))
 
-example_written : (version : ℕ) → example_bytes ≡ writes (durable_form version) (plain_durable example_kept)
-unfolding durable_form rulesets_form kept_tables_form placed_form path_form named_form table_name_form entries_form entry family below number_bytes
-example_written version = refl
+example_by : (version : ℕ) (has : Bool)
+    → replicate 4 0 ++ (replicate (if has then 8 else 0) 0 ++ example_rest) ≡ writes (formed version has) (plain_durable example_kept)
+unfolding tick_form rulesets_form kept_tables_form placed_form path_form named_form table_name_form entries_form entry family below number_bytes
+example_by version true = refl
+example_by version false = refl
 
-pub example_is : (version : ℕ) → IsDurable version example_kept example_bytes
+example_written : (version : ℕ) → example_bytes version ≡ writes (durable_form version) (plain_durable example_kept)
+unfolding durable_form
+example_written version = example_by version (has_expiry version)
+
+pub example_is : (version : ℕ) → IsDurable version example_kept (example_bytes version)
 unfolding durable_form rulesets_form kept_tables_form
 example_is version = record {
   spelled = record {
-    fits =
-        (omega arith, ((((omega arith, tt), refl), refl), ((((omega arith, (example_fits, tt)), refl), refl), ((omega arith, tt), refl))));
+    fits = (
+      (
+        omega arith,
+        (
+          no_tick (has_expiry version),
+          ((((omega arith, tt), refl), refl), ((((omega arith, (example_fits, tt)), refl), refl), ((omega arith, tt), refl))),
+        ),
+      ),
+      refl,
+    );
     written = (example_written version);
   };
   told = refl;
 }
 
-pub zeros_are : (version : ℕ) → IsDurable version (kept_nothing 0) (replicate 16 0)
-unfolding durable_form rulesets_form kept_tables_form number_bytes
+zeros_by : (version : ℕ) (has : Bool) → replicate (4 + (if has then 20 else 12)) 0 ≡ writes (formed version has) (nothing_plain 0)
+unfolding tick_form rulesets_form kept_tables_form number_bytes
+zeros_by version true = refl
+zeros_by version false = refl
+
+zeros_written : (version : ℕ) → replicate (4 + zeros_of version) 0 ≡ writes (durable_form version) (nothing_plain 0)
+unfolding durable_form
+zeros_written version = zeros_by version (has_expiry version)
+
+pub zeros_are : (version : ℕ) → IsDurable version (kept_nothing 0) (replicate (4 + zeros_of version) 0)
+unfolding durable_form rulesets_form kept_tables_form
 zeros_are version = record {
   spelled = record {
-    fits = (omega arith, ((((omega arith, tt), refl), refl), ((((omega arith, tt), refl), refl), ((omega arith, tt), refl))));
-    written = refl;
+    fits = (
+      (
+        omega arith,
+        (no_tick (has_expiry version), ((((omega arith, tt), refl), refl), ((((omega arith, tt), refl), refl), ((omega arith, tt), refl)))),
+      ),
+      refl,
+    );
+    written = zeros_written version;
   };
   told = refl;
 }

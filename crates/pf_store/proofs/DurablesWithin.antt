@@ -7,7 +7,7 @@ use Rattle.pf_anchor.specs.{declared.limits.TheConstants.{RULE_LIMIT, RULESET_LI
 use Rattle.pf_anchor.proofs.TableMaps.{table_order_total}
 use Rattle.pf_core.specs.{Durable.Changes.PlainDurable, Laws.Durable.IsWithin}
 use Rattle.pf_rule.specs.{Rules.PlainRule, Sum.Reading.rule_of}
-use Rattle.pf_state.specs.{declared.{limits.TheConstants.STATE_LIMIT, state.Held.Held, state.StateName.StateName}, Flows.same_flow, Orders.name_total, States.{PlainState, name_order, held_at, IsStates}, Layouts.States.{StateShape, states_form, state_before, state_in, no_flow_twice}}
+use Rattle.pf_state.specs.{declared.{limits.TheConstants.STATE_LIMIT, state.Held.Held, state.StateName.StateName}, Flows.same_flow, Orders.name_total, States.{PlainState, stands, all_stand, name_order, held_at, IsStates}, Layouts.States.{StateShape, states_form, state_before, state_in, no_flow_twice}}
 use Rattle.pf_state.proofs.{Flows.same_back, Names.one_name, Tables.nothing_is}
 use Rattle.pf_table.specs.{EntryForms.{EntryShape, entry_of, entry_before}, Tables.AreEntries}
 use Rattle.pf_addr.specs.{NetOrder.net_order, Laws.NetOrder.net_total}
@@ -155,17 +155,23 @@ are_states version vs fits =
       few = grind (arith, nat_tests, length-map vs state_in, ordered.0);
     }
 
+-- states as their data say
+all_seen : (tick : ℕ) (vs : List (Value StateShape)) → all_stand tick (map state_in vs) ≡ list_all (λ v. stands tick (state_in v).1) vs
+all_seen tick [] = refl
+all_seen tick (v ∷ vs) = ap (λ b. stands tick (state_in v).1 && b) (all_seen tick vs)
+
 -- ---- all of it
 
 data_within : (version : ℕ) (v : Value DurableShape) → Fits (durable_form version) v → IsWithin (durable_in v)
 unfolding durable_form
 data_within version v fits = record {
-  maps = record { rulesets = are_rulesets_map version v.1.0 fits.1.0; tables = are_tables_map v.1.1.0 fits.1.1.0 };
-  rulesets = rulesets_few version v.1.0 fits.1.0;
-  rules = rules_few_at version v.1.0 fits.1.0;
-  tables = tables_few v.1.1.0 fits.1.1.0;
-  entries = entries_few_at v.1.1.0 fits.1.1.0;
-  states = are_states version v.1.1.1 fits.1.1.1;
+  maps = record { rulesets = are_rulesets_map version v.1.1.0 fits.0.1.1.0; tables = are_tables_map v.1.1.1.0 fits.0.1.1.1.0 };
+  rulesets = rulesets_few version v.1.1.0 fits.0.1.1.0;
+  rules = rules_few_at version v.1.1.0 fits.0.1.1.0;
+  tables = tables_few v.1.1.1.0 fits.0.1.1.1.0;
+  entries = entries_few_at v.1.1.1.0 fits.0.1.1.1.0;
+  states = are_states version v.1.1.1.1 fits.0.1.1.1.1;
+  standing = all_seen v.1.0 v.1.1.1.1 ∙ fits.1;
 }
 
 pub durable_within : (version : ℕ) (d : PlainDurable) (bytes : List ℕ) → IsDurable version d bytes → IsWithin d

@@ -3,6 +3,7 @@ pub mod Taken
 pub mod RecordedForms
 pub mod Allowing
 pub mod Sized
+pub mod OlderBanks
 pub mod Recording
 pub mod Leading
 pub mod Refusing

@@ -1,16 +1,16 @@
 -- Data determine what is recorded, and bytes determine the data.
-use Rattle.std.proofs.{Common.{◌≡◌, ◌<◌, ◌^◌, ◌==◌, ◌&&◌, ◌+◌, ◌++◌, not, ℕ, true, List, [], ◌∷◌, length, map, take, get_or, refl, sym, ap, ◌∙◌, subst, inl, inr, arith}, lemmas.{List.{length-map, take_more, map-append}, Bool.Decides.nat_tests}}
+use Rattle.std.proofs.{Common.{◌≡◌, ◌<◌, ◌^◌, ◌==◌, ◌&&◌, ◌+◌, ◌++◌, not, ℕ, Bool, true, false, List, [], ◌∷◌, length, map, take, get_or, refl, sym, ap, ◌∙◌, subst, inl, inr, arith}, lemmas.{List.{length-map, take_more, map-append}, Bool.Decides.nat_tests}}
 use Rattle.std.specs.{Prelude.nat_le, List.{list_all, AllByRecursion}}
-use Rattle.pf_form.specs.{Bytes.{BasicForms.number_bytes, Forms.{list, Value, Fits, Spells, number, onto}}, Laws.Bytes.{Onto.onto_is, Texts.one_value}}
-use Rattle.pf_state.specs.{declared.step.Step.Step, Layouts.Steps.{plain_step, step_in}}
+use Rattle.pf_form.specs.{Bytes.{BasicForms.number_bytes, Forms.{list, Value, Form, Fits, Spells, number, or, counted, onto}}, Laws.Bytes.{Onto.onto_is, Texts.one_value}}
+use Rattle.pf_state.specs.{declared.step.Step.Step, Layouts.{States.{has_expiry, name_form}, Steps.{plain_step, step_form, step_in}}}
 use Rattle.pf_state.proofs.LayoutsBack.{step_back}
 use Rattle.pf_table.specs.{Entries.PlainEntry, EntryForms.{entry_of}, Laws.EntryForms.entry_again}
 use Rattle.pf_ticket.specs.NamedTables.{PlainDefinedTable}
-use Rattle.pf_core.specs.Durable.Changes.{PlainChange}
+use Rattle.pf_core.specs.Durable.Changes.{PlainChange, expires}
 use Rattle.pf_core.specs.declared.group.TheConstants.{GROUP_LIMIT}
 use Rattle.pf_store.specs.declared.groups.change.Recorded.{Recorded, TheVariants.Made as made, TheVariants.Opens as opens}
 use Rattle.pf_anchor.specs.Forms.{plain_entries, entries_in, plain_named, named_in}
-use Rattle.pf_store.specs.Groups.{ChangeShape, ItemShape, change_form, edit_form, items_form, item_form, tables_form, defined_form, group_form, item_in, plain_record, record_in, is_commit, is_group, made_all, has_item_form, has_form, have_form, IsRecorded}
+use Rattle.pf_store.specs.Groups.{ChangeShape, ItemShape, change_form, edit_form, expire_form, items_form, item_form, tables_form, defined_form, group_form, item_in, plain_record, record_in, is_commit, is_group, made_all, has_item_form, has_form, have_form, IsRecorded}
 
 pub entries_told : (es : List PlainEntry) → entries_in (plain_entries es) ≡ es
 entries_told [] = refl
@@ -30,6 +30,33 @@ pub again_taken : {A B : Type 0} (f : A → B) (g : B → A) (xs : List A) (i : 
 again_taken {A} f g xs i x within here before one =
     let more : take (i + 1) xs ≡ take i xs ++ x ∷ [] = take_more xs i x within ∙ ap (λ (y : A). take i xs ++ y ∷ []) (sym here) in
     rw more (ap (λ ys. map g ys) (map-append f (take i xs) (x ∷ [])) ∙ map-append g (map f (take i xs)) (f x ∷ []) ∙ rw (before, one) refl)
+
+-- ---- a tick in bytes
+
+-- the form of changes, by whether there are ticks
+abbrev formed_by : ℕ → Bool → Form ChangeShape
+formed_by version has =
+    or 1 (items_form version) (or 2 edit_form (or 3 edit_form (or 4 edit_form
+    (or 5 (counted 4 (step_form version)) (or 6 name_form (or 7 (number 4) (expire_form has)))))))
+
+fits_by : (version tick : ℕ) (has : Bool) → has ≡ true → tick < 2 ^ 64 → Fits (formed_by version has) (plain_record (made (expires tick)))
+unfolding expire_form
+fits_by version tick true is short = (((((((omega (arith, short), refl), refl), refl), refl), refl), refl), refl)
+fits_by version tick false is short = absurd (cc (is))
+
+pub tick_fits : (version tick : ℕ) → has_expiry version ≡ true → tick < 2 ^ 64 → Fits (change_form version) (plain_record (made (expires tick)))
+unfolding change_form
+tick_fits version tick is short = fits_by version tick (has_expiry version) is short
+
+written_by : (version tick : ℕ) (out : List ℕ) (has : Bool) → has ≡ true → onto (formed_by version has) (plain_record (made (expires tick))) out ≡ (out ++ 8 ∷ []) ++ number_bytes 8 tick
+unfolding expire_form
+written_by version tick out true is = refl
+written_by version tick out false is = absurd (cc (is))
+
+pub tick_written : (version tick : ℕ) (out : List ℕ) → has_expiry version ≡ true
+    → onto (change_form version) (plain_record (made (expires tick))) out ≡ (out ++ 8 ∷ []) ++ number_bytes 8 tick
+unfolding change_form
+tick_written version tick out is = written_by version tick out (has_expiry version) is
 
 -- ---- which changes have bytes
 
@@ -54,7 +81,8 @@ formed_of version (inr (inr (inl v))) fits = grind (arith, nat_tests, length-map
 formed_of version (inr (inr (inr (inl v)))) fits = grind (arith, nat_tests, length-map v.1.1 entry_of, fits.0.0.0.1.1.0)
 formed_of version (inr (inr (inr (inr (inl steps))))) fits = grind (arith, nat_tests, length-map steps step_in, fits.0.0.0.0.0)
 formed_of version (inr (inr (inr (inr (inr (inl name)))))) fits = refl
-formed_of version (inr (inr (inr (inr (inr (inr epoch)))))) fits = grind (arith, nat_tests, fits.0.0.0.0.0.0)
+formed_of version (inr (inr (inr (inr (inr (inr (inl epoch))))))) fits = grind (arith, nat_tests, fits.0.0.0.0.0.0)
+formed_of version (inr (inr (inr (inr (inr (inr (inr tick))))))) fits = refl
 
 -- if data determine what is recorded, and fit, it has bytes
 pub formed : (version : ℕ) (r : Recorded) → record_in (plain_record r) ≡ r → Fits (change_form version) (plain_record r) → has_form r ≡ true

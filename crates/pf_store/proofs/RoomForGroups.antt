@@ -1,7 +1,7 @@
 -- A group fits exactly if its record finds room, and what can be wanted has bytes then.
 use Rattle.std.proofs.{Common.{◌≡◌, ℕ, ◌+◌, ◌^◌, ◌<◌, ◌≤◌, Bool, true, false, List, [], ◌∷◌, length, refl, ◌∙◌, arith}, lemmas.{List.length-map, Bool.Decides.nat_tests}}
 use Rattle.std.specs.{Prelude.{◌↔◌, ◌&&◌, nat_le, nat_lt}, List.list_all}
-use Rattle.pf_core.specs.Durable.Changes.{PlainDurable, PlainChange, commits, adds, deletes, sets, acts, removes}
+use Rattle.pf_core.specs.Durable.Changes.{PlainDurable, PlainChange, commits, adds, deletes, sets, acts, removes, expires}
 use Rattle.pf_state.specs.{declared.step.Step.{Step, TheVariants.Insert, TheVariants.Delete, TheVariants.Clear}, Layouts.{States.{held_form, name_form, state_form}, Steps.step_form}}
 use Rattle.pf_table.specs.Entries.{PlainEntry}
 use Rattle.pf_store.specs.{Groups.{can_be_wanted, change_form, has_form, is_group, made_all}, Lengths.{edit_length, payload_length, recorded_length, snapshot_length, step_length, total}, Rooms.group_fits, Stores.{FindsRoom, HasRoom}}
@@ -70,6 +70,7 @@ has_bytes (deletes p name xs) can low = short_edit p name xs (omega (arith, low)
 has_bytes (sets p name xs) can low = short_edit p name xs (omega (arith, low))
 has_bytes (acts steps) can low = is_short steps (omega (arith, steps_long steps, short_steps steps, low))
 has_bytes (removes name) can low = refl
+has_bytes (expires tick) can low = refl
 
 all_have_bytes : (es : List PlainChange) → list_all can_be_wanted es ≡ true → total recorded_length (made_all es) < 2 ^ 32 → list_all has_form (made_all es) ≡ true
 all_have_bytes [] can low = refl

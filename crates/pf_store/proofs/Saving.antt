@@ -9,7 +9,7 @@ use Rattle.pf_snap.proofs.Holding.{one_content}
 use Rattle.pf_core.specs.{Durable.Changes.{PlainDurable}, Worlds.{last_epoch, raised}}
 use Rattle.pf_store.specs.declared.groups.change.Recorded.{Recorded}
 use Rattle.pf_store.specs.{Durables.IsDurable, Groups.IsRecorded, Lengths.snapshot_length, Openings.{HasRoomHere, IsAsLongAs, IsFull, IsNoLaterThan, IsOfOpening, LeavesRoom, gate_of, generation_of, version_of}, Stores.{FollowInTurn, left_by_all, Holds, HoldsEither, IsRoomy, Makes}, StoreKept.{Stands, PlainStore, IsStore, HaveKept}}
-use Rattle.pf_store.proofs.{Leading.{leads-push}, Refusing.{one_at, one_gate, one_held}, Sized.{raised_roomy, roomy_newest, roomy_own}}
+use Rattle.pf_store.proofs.{Leading.{leads-push}, Refusing.{one_at, one_gate, one_held}, Sized.raised_roomy}
 
 not_greater : (a b : ℕ) → (a ≤ b → ⊥) → b < a
 not_greater a b none = omega (arith, none)
@@ -70,8 +70,7 @@ neither_later g a b one other c (inr has) = no_later g b other c has
 -- an image that holds either of two leaves room
 roomy_as : (seen : List ℕ) (d : PlainDurable) → IsRoomy (bank_size (length seen)) d → (c : List ℕ) → IsAsLongAs seen c → Holds c d → LeavesRoom c
 roomy_as seen d roomy c long has e holds =
-    roomy_own holds.content (bank_size (length c)) e holds.makes
-    (subst (λ (k : PlainDurable). IsRoomy (bank_size (length c)) k) (one_held c d e has holds) (subst (λ (n : ℕ). IsRoomy (bank_size n) d) (sym long) roomy))
+    subst (λ (k : PlainDurable). IsRoomy (bank_size (length c)) k) (one_held c d e has holds) (subst (λ (n : ℕ). IsRoomy (bank_size n) d) (sym long) roomy)
 
 pub roomy_either : (seen : List ℕ) (d e : PlainDurable) → IsRoomy (bank_size (length seen)) d → IsRoomy (bank_size (length seen)) e
     → (c : List ℕ) → IsAsLongAs seen c → HoldsEither d e c → LeavesRoom c
@@ -243,6 +242,6 @@ module _ {D : Type 0} (seen : D → List ℕ) (unsynced : D → ℕ → Bool) wh
           holds = is.0.0;
           generation = λ e there. let by : generation_of c e there ≤ g = is.0.1 e there in omega (arith, by, low);
           roomy = λ room.
-              let own = roomy_newest held.content (bank_size (length (seen old))) d held.makes (room d held) in
+              let own = room d held in
               roomy_either (seen old) d (raised d) own (raised_roomy (bank_size (length (seen old))) d own) c (cc (is.1, same)) is.0.0;
         })))

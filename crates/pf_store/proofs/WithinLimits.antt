@@ -51,8 +51,16 @@ told_within version d (inr (inr (inl v))) fits follows within = (keeps_within d 
 told_within version d (inr (inr (inr (inl v)))) fits follows within = (keeps_within d within).by_set v.0 v.1.0 (map entry_of v.1.1) follows
 told_within version d (inr (inr (inr (inr (inl steps))))) fits follows within = (keeps_within d within).by_steps (map step_in steps) follows
 told_within version d (inr (inr (inr (inr (inr (inl name)))))) fits follows within = (keeps_within d within).by_removal (name_in name)
-told_within version d (inr (inr (inr (inr (inr (inr epoch)))))) fits follows within =
-    record { maps = within.maps; rulesets = within.rulesets; rules = within.rules; tables = within.tables; entries = within.entries; states = within.states }
+told_within version d (inr (inr (inr (inr (inr (inr (inl epoch))))))) fits follows within = record {
+  maps = within.maps;
+  rulesets = within.rulesets;
+  rules = within.rules;
+  tables = within.tables;
+  entries = within.entries;
+  states = within.states;
+  standing = within.standing;
+}
+told_within version d (inr (inr (inr (inr (inr (inr (inr tick))))))) fits follows within = (keeps_within d within).by_tick tick
 
 group_within : (version : ℕ) (d : PlainDurable) (vs : List (Value ChangeShape)) → AllByRecursion (Fits (change_form version)) vs → FollowInTurn d (map record_in vs) → IsWithin d → IsWithin (left_by_all d (map record_in vs))
 group_within version d [] each follows within = within

@@ -17,8 +17,8 @@
 //! - What is written is read back, bytes are those of at most one group or one thing kept, and their number is that of the layout
 //!   ([`write_group`], [`read_group`], [`write_durable`], [`read_durable`], the laws of `groups` and `snapshots`).
 //! - An image holds at most one thing, within all limits. One that does, by a generation below 2^63, is never refused as one that holds
-//!   nothing. If the epoch isn't the last one and a bank has 64 bytes left after a snapshot of it, as each save leaves it, it fails to open
-//!   only when out of memory or by a fault of the device (the laws of `store`).
+//!   nothing. If the epoch isn't the last one and a bank has 56 bytes left after a snapshot of it in the newest version (a save leaves 64),
+//!   it fails to open only when out of memory or by a fault of the device (the laws of `store`).
 //!
 //! Only tests (`pf_store_tests`) show that calls succeed with enough memory, since no contract says when memory runs out, and how many
 //! calls of the device a save or an opening really makes: the contracts give upper bounds. That a store keeps the memory of a switch for
@@ -31,7 +31,7 @@ pub mod snapshots;
 pub mod store;
 
 pub use groups::{AsChange, GroupFault, Recorded, read_group, write_group};
-pub use limits::{AROUND, OPENING_RECORD, ROOM_TO_OPEN};
+pub use limits::{AROUND, OPENING_RECORD, ROOM_KEPT, ROOM_TO_OPEN};
 pub use pf_snap::FormatFault;
 pub use snapshots::{read_durable, write_durable};
 pub use store::{OpenFault, SaveFault, Store, format};

@@ -1,7 +1,7 @@
 //! How much room a bank keeps. Specs use these constants.
 
 /// Bytes of a snapshot of nothing.
-pub const EMPTY_LENGTH: usize = 16;
+pub const EMPTY_LENGTH: usize = 24;
 
 /// Bytes of a record besides its payload: its gate, the payload's length in four bytes, and the gate after it.
 pub const AROUND: usize = 6;
@@ -14,3 +14,7 @@ pub const OPENING_RECORD: usize = OPENING_PAYLOAD + AROUND;
 
 /// Bytes that a bank has left after a snapshot of what is kept, as room for openings' records.
 pub const ROOM_TO_OPEN: usize = 64;
+
+/// Bytes that a bank has left of these at any time. They are eight fewer once a full bank of a version without expiries was switched from,
+/// since a snapshot is eight bytes shorter there.
+pub const ROOM_KEPT: usize = ROOM_TO_OPEN - 8;

@@ -1,8 +1,10 @@
 //! One change or opening in bytes.
-ghost use Rattle.std.specs.Prelude.{◌≡◌, ◌<◌, ◌^◌, true, length, OnOk};
-ghost use Rattle.pf_form.specs.{Bytes.Forms.{onto, Fits}, Bytes.Readers.Reads};
+ghost use Rattle.std.specs.Prelude.{◌≡◌, ◌∷◌, ◌<◌, ◌^◌, true, length, IfOk, OnOk};
+ghost use Rattle.pf_form.specs.Bytes.{BasicForms.number_bytes, Forms.{onto, writes, Fits}, Readers.Reads};
 ghost use Rattle.pf_anchor.specs.Forms.{plain_entries};
-ghost use Rattle.pf_store.specs.Groups.{EditShape, edit_form, change_form, plain_record, has_form, allows_record};
+ghost use Rattle.pf_core.specs.Durable.Changes.{expires};
+ghost use Rattle.pf_state.specs.Layouts.States.{has_expiry};
+ghost use Rattle.pf_store.specs.Groups.{EditShape, edit_form, expire_form, change_form, plain_record, has_form, allows_record};
 
 use crate::groups::items::{have_form, items_are_allowed_in, push_items, read_items};
 use crate::groups::tables::{push_entries, read_entries};
@@ -10,9 +12,12 @@ use crate::groups::telling::tells;
 use pf_addr::path::{Path, TableName};
 use pf_core::{Change, ChangeKind, EntryList};
 use pf_form::bytes::{
-    Layout, Rest, Stop, expect, push_bytes, push_fitting, push_key, push_u32, read_u32, takes,
+    Fault, Layout, Rest, Stop, expect, push_fitting, push_key, push_u32, push_u64, read_u32,
+    read_u64, takes,
 };
-use pf_state::layouts::{push_name, push_steps, read_name, read_steps};
+use pf_state::layouts::{
+    EXPIRY_FROM, push_name, push_steps, read_name, read_steps, steps_are_allowed_in,
+};
 use pf_table::Entry;
 use std::alloc::{AllocError, Global};
 
@@ -33,6 +38,8 @@ const REMOVE: u8 = 6;
 
 /// The byte of an opening's kind.
 pub(crate) const OPEN: u8 = 7;
+
+const EXPIRE: u8 = 8;
 
 /// A change or an opening, as a record keeps it.
 #[derive(Drop)]
@@ -132,8 +139,25 @@ fn read_record<'a>(alloc: Global, version: u8, from: &mut Rest<'a>) -> Result<Re
     if takes(from, REMOVE)? {
         return Ok(Recorded::Made(Change::remove(read_name(from)?)));
     }
-    expect(from, &[OPEN])?;
-    Ok(Recorded::Opens(read_u32(from)?))
+    if takes(from, OPEN)? {
+        return Ok(Recorded::Opens(read_u32(from)?));
+    }
+    let tick = read_expire(version, from)?;
+    Ok(Recorded::Made(Change::expire(tick)))
+}
+
+// A tick, behind its kind; none in a version without expiries.
+#[tactic(auto, unfolding(crate::specs::Groups::expire_form))]
+fn read_expire<'a>(version: u8, from: &mut Rest<'a>) -> Result<u64, Stop>
+    ensures read { Reads (λ n. n) (expire_form (has_expiry version)) result from.old.now from.new.now }
+    ensures kind { IfOk result (λ n. writes (expire_form (has_expiry version)) n ≡ 8 ∷ number_bytes 8 n) }
+{
+    let left = from.len();
+    if version < EXPIRY_FROM {
+        return Err(Stop::Fault(Fault::Bad(left)));
+    }
+    expect(from, &[EXPIRE])?;
+    read_u64(from)
 }
 
 /// Appends what is recorded to the bytes, as a version has it; it fits. Fails only when out of memory.
@@ -151,7 +175,7 @@ pub(crate) fn push_record(
     match recorded {
         Recorded::Made(change) => push_change(out, version, change),
         Recorded::Opens(epoch) => {
-            push_bytes(out, &[OPEN])?;
+            push_key(out, OPEN)?;
             push_u32(out, *epoch)
         }
     }
@@ -202,7 +226,19 @@ pub(crate) fn push_change(out: &mut Vec<u8>, version: u8, change: &Change) -> Re
             push_key(out, REMOVE)?;
             push_name(out, *name)
         }
+        ChangeKind::Expire(tick) => push_expire(out, version, *tick),
     }
+}
+
+// Appends a tick behind its kind, in a version with expiries.
+#[tactic(auto, using(crate::proofs::RecordedForms::tick_fits, crate::proofs::RecordedForms::tick_written))]
+fn push_expire(out: &mut Vec<u8>, version: u8, tick: u64) -> Result<(), AllocError>
+    requires { has_expiry version ≡ true }
+    ensures written { OnOk result (out.new.items ≡ onto (change_form version) (plain_record (Recorded.Made (expires tick))) out.old.items) }
+    ensures fits { OnOk result (Fits (change_form version) (plain_record (Recorded.Made (expires tick)))) }
+{
+    push_key(out, EXPIRE)?;
+    push_u64(out, tick)
 }
 
 /// Whether it has bytes.
@@ -215,11 +251,11 @@ pub(crate) fn has_change_form(change: &Change) -> bool
         | ChangeKind::Delete { entries, .. }
         | ChangeKind::Set { entries, .. } => entries.as_slice().len() < COUNTS,
         ChangeKind::States(steps) => steps.as_slice().len() < COUNTS,
-        ChangeKind::Remove(_) => true,
+        ChangeKind::Remove(_) | ChangeKind::Expire(_) => true,
     }
 }
 
-/// Whether a version allows its rules. It looks at none of them.
+/// Whether a version allows its rules and states, or the tick that it is. It looks at no rule.
 pub(crate) fn is_allowed_in(change: &Change, version: u8) -> bool
     ensures { result ≡ allows_record version (Recorded.Made change.now) }
 {
@@ -228,7 +264,8 @@ pub(crate) fn is_allowed_in(change: &Change, version: u8) -> bool
         ChangeKind::Add { .. }
         | ChangeKind::Delete { .. }
         | ChangeKind::Set { .. }
-        | ChangeKind::States(_)
         | ChangeKind::Remove(_) => true,
+        ChangeKind::States(steps) => steps_are_allowed_in(steps.as_slice(), version),
+        ChangeKind::Expire(_) => version >= EXPIRY_FROM,
     }
 }

@@ -136,7 +136,7 @@ fn has_bytes<C: AsChange>(change: &C) -> bool
     has_change_form(change.as_change())
 }
 
-/// Whether a version allows the rules of each of these changes. It looks at none of them.
+/// Whether a version allows each of these changes. It looks at no rule.
 pub(crate) fn changes_are_allowed_in<C: AsChange>(changes: &[C], version: u8) -> bool
     ensures { result ≡ allows_group version (made_all (map C.as_plain changes.now)) }
 {
@@ -160,8 +160,8 @@ fn change_is_allowed_in<C: AsChange>(change: &C, version: u8) -> bool
 /// The bytes, at least 2, of a group of changes in a version.
 ///
 /// `NoForm`: it has none. There are no changes or more than 64, or one of them has no bytes, such as a commit of nothing, of more than 64
-/// rulesets, of more tables at a path than a ticket takes, or of a rule with a label in a version without labels. `Memory`: it has some,
-/// but memory ran out.
+/// rulesets or of more tables at a path than a ticket takes; or the version doesn't allow one: a rule with a label in one before labels, a
+/// tick or an expiry in one before expiries. `Memory`: it has some, but memory ran out.
 pub fn write_group<C: AsChange>(
     alloc: Global,
     version: u8,

@@ -28,6 +28,7 @@ pub(crate) fn tell_change(change: &Change)
         ChangeKind::Set { .. } => {}
         ChangeKind::States(_) => {}
         ChangeKind::Remove(_) => {}
+        ChangeKind::Expire(_) => {}
     }
 }
 

@@ -1,11 +1,12 @@
 //! Snapshots.
-ghost use Rattle.std.specs.{Prelude.{◌≡◌, ℕ, true, false, T, List, length, IfOk, IfErr, OnOk}, FinMap.is_sorted, List.list_all};
+ghost use Rattle.std.specs.{Prelude.{◌≡◌, ◌==◌, ◌||◌, ℕ, true, false, T, List, length, IfOk, IfErr, OnOk}, FinMap.is_sorted, List.list_all};
 ghost use Rattle.pf_addr.specs.Path.Paths.{path_order};
-ghost use Rattle.pf_form.specs.Bytes.Forms.{onto, Fits};
+ghost use Rattle.pf_form.specs.{Bytes.Forms.{onto, Fits}, Bytes.Readers.Reads};
+ghost use Rattle.pf_state.specs.Layouts.States.{has_expiry};
 ghost use Rattle.pf_anchor.specs.Tables.{table_order};
 ghost use Rattle.pf_core.specs.Durable.Changes.{PlainDurable};
 ghost use Rattle.pf_anchor.specs.Forms.{has_some, configured};
-ghost use Rattle.pf_core.specs.Durable.Forms.{allows, durable_form, plain_durable};
+ghost use Rattle.pf_core.specs.Durable.Forms.{allows, durable_length, tick_form, durable_form, plain_durable};
 ghost use Rattle.pf_store.specs.{Durables.{durable_has_form, durable_has_form_in, IsDurable}, Lengths.snapshot_length, Snapshots.EndsInSnapshot};
 
 use crate::groups::GroupFault;
@@ -14,8 +15,8 @@ use crate::snapshots::tables::{push_tables, read_tables};
 use crate::snapshots::telling::tell_durable;
 use pf_anchor::{Config, Placed, PlacedTable};
 use pf_core::Durable;
-use pf_form::bytes::{Layout, Rest, Stop, decode, push_u32, read_u32};
-use pf_state::layouts::{push_states, read_states};
+use pf_form::bytes::{Fault, Layout, Rest, Stop, decode, push_u32, push_u64, read_u32, read_u64};
+use pf_state::layouts::{EXPIRY_FROM, push_states, read_states};
 use std::alloc::{AllocError, Global};
 
 // What a snapshot keeps.
@@ -38,13 +39,18 @@ impl Layout for Snapshot {
 
     #[tactic(auto, unfolding(pf_core::specs::Durable::Forms::durable_form))]
     fn read<'a>(alloc: Global, version: u8, from: &mut Rest<'a>) -> Result<Snapshot, Stop> {
+        let left = from.len();
         let epoch = read_u32(from)?;
+        let tick = read_tick(version, from)?;
         let rulesets = read_rulesets(alloc, version, from)?;
         let tables = read_tables(alloc, version, from)?;
         let states = read_states(alloc, version, from)?;
+        if !states.all_stand(tick) {
+            return Err(Stop::Fault(Fault::Bad(left)));
+        }
         let config = config_of(alloc, &rulesets, &tables)?;
         Ok(Snapshot {
-            durable: Durable::of(alloc, epoch, config, states)?,
+            durable: Durable::of(alloc, epoch, tick, config, states)?,
         })
     }
 
@@ -53,6 +59,30 @@ impl Layout for Snapshot {
         tell_durable(&self.durable);
         push_durable(out, version, &self.durable)
     }
+}
+
+// A tick; none, for 0, in a version without expiries.
+#[tactic(auto, unfolding(pf_core::specs::Durable::Forms::tick_form))]
+fn read_tick<'a>(version: u8, from: &mut Rest<'a>) -> Result<u64, Stop>
+    ensures { Reads (λ n. n) (tick_form (has_expiry version)) result from.old.now from.new.now }
+{
+    if version < EXPIRY_FROM {
+        return Ok(0);
+    }
+    read_u64(from)
+}
+
+// Appends a tick to the bytes, as this version has it, which has to allow it.
+#[tactic(auto, unfolding(pf_core::specs::Durable::Forms::tick_form))]
+fn push_tick(out: &mut Vec<u8>, version: u8, tick: u64) -> Result<(), AllocError>
+    requires { (has_expiry version || (tick == 0)) ≡ true }
+    ensures written { OnOk result (out.new.items ≡ onto (tick_form (has_expiry version)) tick out.old.items) }
+    ensures fits { OnOk result (Fits (tick_form (has_expiry version)) tick) }
+{
+    if version < EXPIRY_FROM {
+        return Ok(());
+    }
+    push_u64(out, tick)
 }
 
 // The configuration of these rulesets and tables.
@@ -70,7 +100,7 @@ fn config_of(
     Config::of(alloc, rulesets, tables)
 }
 
-#[tactic(auto, unfolding(pf_core::specs::Durable::Forms::durable_form))]
+#[tactic(auto, using(crate::proofs::Durables::none_due), unfolding(pf_core::specs::Durable::Forms::durable_form))]
 fn push_durable(out: &mut Vec<u8>, version: u8, durable: &Durable) -> Result<(), AllocError>
     requires formed { durable_has_form durable.now ≡ true }
     requires allowed { allows version durable.now ≡ true }
@@ -79,6 +109,7 @@ fn push_durable(out: &mut Vec<u8>, version: u8, durable: &Durable) -> Result<(),
 {
     let epoch = durable.epoch();
     push_u32(out, epoch)?;
+    push_tick(out, version, durable.tick())?;
     push_rulesets(out, version, durable.config())?;
     push_tables(out, version, durable.config())?;
     push_states(out, version, durable.states())
@@ -111,11 +142,11 @@ pub(crate) fn push_snapshot(
 
 /// The bytes, at least 16, of a snapshot of what is kept, in a version.
 ///
-/// `NoForm`: it has none, since there are more than 1,024 rulesets or tables, or a rule with a label in a version without labels. `Memory`:
-/// out of memory.
+/// `NoForm`: it has none, since there are more than 1,024 rulesets or tables, or since the version doesn't allow it: a rule with a label in
+/// one before labels, a tick or an expiry in one before expiries. `Memory`: out of memory.
 pub fn write_durable(alloc: Global, version: u8, durable: &Durable) -> Result<Vec<u8>, GroupFault>
     ensures written { IfOk result (λ v. IsDurable version durable.now v.items) }
-    ensures length { IfOk result (λ v. length v.items ≡ snapshot_length durable.now) }
+    ensures length { IfOk result (λ v. length v.items ≡ durable_length version durable.now) }
     ensures formed { OnOk result (durable_has_form_in version durable.now ≡ true) }
     ensures formless { IfErr result (λ e. e ≡ GroupFault.NoForm → durable_has_form_in version durable.now ≡ false) }
 {

@@ -62,7 +62,7 @@ impl<D: Disk> Store<D> {
     /// all of them or none.
     ///
     /// Unless it is halted, the store has to stand for `before`; each change has to fit what those before it leave, and `after` has to be
-    /// what all of them leave. If their record has no room in the bank that counts, or its version doesn't allow their rules, the other one
+    /// what all of them leave. If their record has no room in the bank that counts, or its version doesn't allow them, the other one
     /// is begun first, in the newest version, with a snapshot of `before`. `Full` comes exactly if they have no bytes as one group, if a
     /// bank has no room for their record after a snapshot of `before`, or if a bank has fewer than 64 bytes left after a snapshot of
     /// `after`, in the lengths of the newest version. So `Memory` comes only if they find room.
@@ -104,7 +104,7 @@ impl<D: Disk> Store<D> {
         ensures generation { self.new.generation ≤ self.old.generation + 1 }
         ensures generation_stays { self.old.generation ≤ self.new.generation }
 
-        // It switches exactly if the version of the bank that counts doesn't allow their rules, or their record has no room there.
+        // It switches exactly if the version of the bank that counts doesn't allow them, or their record has no room there.
         ensures here { OnOk result (allows_group self.old.version (made_all (map C.as_plain changes.now)) ≡ true
             → payload_length (made_all (map C.as_plain changes.now)) + AROUND ≤ self.old.room
             → (self.new.generation ≡ self.old.generation) × (self.new.version ≡ self.old.version)) }

@@ -1,9 +1,9 @@
 //! Laws of what is held. Each function does nothing; its clauses are what is proved.
-ghost use Rattle.std.specs.Prelude.{◌≡◌, ◌⊎◌, ◌↔◌, ◌^◌, ◌<◌, true, List, ℕ, length};
+ghost use Rattle.std.specs.Prelude.{◌≡◌, ◌⊎◌, ◌↔◌, ◌+◌, ◌^◌, ◌<◌, ◌≤◌, true, List, ℕ, length};
 ghost use Rattle.std.specs.List.{list_all};
-ghost use Rattle.pf_snap.specs.Banks.{bank_size};
-ghost use Rattle.pf_core.specs.{Durable.Changes.{PlainDurable, PlainChange, after}, Laws.Durable.IsWithin, Worlds.{last_epoch, raised}};
-ghost use Rattle.pf_store.specs.declared.store.fault.{OpenFault.OpenFault, OpenFault.TheVariants.{Memory, Fault}};
+ghost use Rattle.pf_snap.specs.{Banks.bank_size, declared.header.TheConstants.BANK_HEADER};
+ghost use Rattle.pf_core.specs.{Durable.{Changes.{PlainDurable, PlainChange, after}, Forms.durable_length}, Laws.Durable.IsWithin, Worlds.{last_epoch, raised}};
+ghost use Rattle.pf_store.specs.declared.{limits.TheConstants.ROOM_TO_OPEN, store.fault.{OpenFault.OpenFault, OpenFault.TheVariants.{Memory, Fault}}};
 ghost use Rattle.pf_store.specs.{Groups.{can_be_wanted, is_group, made_all}, Lengths.payload_length, Rooms.group_fits, Stores.{FindsRoom, HasRoom, Holds, IsRoomy, left_by_all}, StoreFaults.SaysNone, Openings.{IsFull, IsUnopened, generation_of}};
 
 /// An image holds at most one state of what is kept.
@@ -18,12 +18,15 @@ pub fn held_state_is_found()
 {}
 
 /// If the epoch isn't the last one, and an opening's record has room here or in the other bank, a state that is held by a generation below
-/// 2^63 fails to open only when out of memory or by a fault of the device. There is room if a bank has 64 bytes left after a snapshot of
-/// that state, and a snapshot with the next epoch is no longer.
+/// 2^63 fails to open only when out of memory or by a fault of the device. There is room if a bank has 56 bytes left after a snapshot of
+/// that state in the newest version. It has if 64 are left after one in the version of the bank that holds the state, which may be an older
+/// one. A snapshot with the next epoch is no longer.
 pub fn state_with_room_is_refused_by_chance_alone()
     ensures chance { (image : List ℕ) (fault : OpenFault) (d : PlainDurable) (held : Holds image d) → generation_of image d held < 2 ^ 63
         → d.epoch < last_epoch → ¬ IsFull image d → IsUnopened fault image → (fault ≡ Memory) ⊎ (fault ≡ Fault) }
     ensures room { (image : List ℕ) (d : PlainDurable) → IsRoomy (bank_size (length image)) d → ¬ IsFull image d }
+    ensures own { (image : List ℕ) (d : PlainDurable) (held : Holds image d)
+        → BANK_HEADER + durable_length held.content.version d + ROOM_TO_OPEN ≤ bank_size (length image) → IsRoomy (bank_size (length image)) d }
     ensures next { (size : ℕ) (d : PlainDurable) → IsRoomy size d → IsRoomy size (raised d) }
 {}
 

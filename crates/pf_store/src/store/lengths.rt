@@ -1,5 +1,5 @@
-//! How many bytes a snapshot of what is kept would have, and a group's payload. It looks at items and steps, at no rule, entry or state,
-//! and takes no memory. Each `behind_` function takes the bytes of something off a room: `None` if there are too few.
+//! How many bytes a snapshot of what is kept would have, and a group's payload. It looks at items and steps, at no rule or entry, of a
+//! state at most at its expiry, and takes no memory. Each `behind_` function takes the bytes of something off a room: `None` if there are too few.
 ghost use Rattle.std.specs.Prelude.{◌≡◌, true, ◌↔◌, ◌+◌, ◌<◌, ◌≤◌, map, IsTrue, MatchOption};
 ghost use Rattle.pf_store.specs.declared.groups.change.Recorded.TheVariants as recorded;
 ghost use Rattle.pf_store.specs.{Groups.{allows_group, made_all}, Lengths.{named_length, item_length, edit_length, step_length, total, snapshot_length, recorded_length, payload_length}, Stores.{FindsRoom}};
@@ -35,8 +35,8 @@ pub(crate) fn find_room<C: AsChange>(
         }
 }
 
-/// Whether a record of these changes can be added to a bank of this version that has so many bytes left: the version allows their rules, and
-/// there is room.
+/// Whether a record of these changes can be added to a bank of this version that has so many bytes left: the version allows them, and there
+/// is room.
 pub(crate) fn goes_here<C: AsChange>(changes: &[C], version: u8, room: usize) -> bool
     ensures { IsTrue result ↔ ((allows_group version (made_all (map C.as_plain changes.now)) ≡ true)
         × (payload_length (made_all (map C.as_plain changes.now)) + AROUND ≤ room)) }
@@ -88,7 +88,7 @@ fn behind_snapshot(durable: &Durable, size: usize) -> Option<usize>
 }
 
 // The bytes that a change, as a record has it, leaves of `room`.
-#[tactic(auto, using(crate::proofs::Sized::items_long, crate::proofs::Sized::steps_long), unfolding(crate::specs::Groups::change_form, pf_state::specs::Layouts::States::name_form))]
+#[tactic(auto, using(crate::proofs::Sized::items_long, crate::proofs::Sized::steps_long), unfolding(crate::specs::Groups::change_form, crate::specs::Groups::expire_form, pf_state::specs::Layouts::States::name_form))]
 fn behind_change(change: &Change, room: usize) -> Option<usize>
     ensures { MatchOption result (room < recorded_length (recorded.Made change.now))
         (λ left. room ≡ recorded_length (recorded.Made change.now) + left) }
@@ -113,6 +113,7 @@ fn behind_change(change: &Change, room: usize) -> Option<usize>
         } => behind_edit(path, name, entries.as_slice(), room),
         ChangeKind::States(steps) => behind_steps(steps.as_slice(), room.checked_sub(4)?),
         ChangeKind::Remove(_) => room.checked_sub(12),
+        ChangeKind::Expire(_) => room.checked_sub(8),
     }
 }
 

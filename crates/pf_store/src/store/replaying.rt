@@ -173,5 +173,6 @@ fn unfit(refusal: ChangeRefusal) -> GroupFault
         ChangeRefusal::TooManyRulesets => GroupFault::NoForm,
         ChangeRefusal::TooManyTables => GroupFault::NoForm,
         ChangeRefusal::StatesFull => GroupFault::NoForm,
+        ChangeRefusal::BadTick => GroupFault::NoForm,
     }
 }

@@ -10,3 +10,6 @@ returns-clause-bytes c = example_is
 
 pub returns-clause-many : goal.returns-clause-many
 returns-clause-many c = refl
+
+pub returns-clause-more : goal.returns-clause-more
+returns-clause-more c = refl

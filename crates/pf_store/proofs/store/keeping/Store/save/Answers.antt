@@ -4,7 +4,7 @@ use Rattle.pf_disk.specs.Disk.{EachMoment}
 use Rattle.pf_core.specs.Durable.Changes.{PlainDurable}
 use Rattle.pf_snap.specs.{Banks.bank_size, declared.header.TheConstants.NEWEST}
 use Rattle.pf_store.specs.{Groups.{allows_group, made_all, IsRecordOf}, Lengths.payload_length, Openings.{IsNoLaterThan, LeavesRoom}, Stores.{FindsRoom, Holds, HoldsEither, IsRoomy, left_by_all}, StoreKept.PlainStore}
-use Rattle.pf_store.proofs.{Allowing.{allowed_there, elsewhere}, Sized.{roomy_newest}}
+use Rattle.pf_store.proofs.{Allowing.{allowed_there, elsewhere}, Sized.{spare_roomy}}
 use Rattle.pf_store.proofs.Saving.{before, have_held, held_synced, run_roomy, store_has, stores, unmoved, unmoved_generations, unmoved_roomy}
 use Rattle.pf_store.proofs.store.keeping.Store.save.Goals as goal
 
@@ -158,10 +158,10 @@ returns-in-Ok-add_to-clause-roomy g c going =
     let is = subst (λ (v : ℕ). IsRecordOf v (made_all es) c.in-Ok.record) c.version_for-version.ensures c.in-Ok.ensures.made in
     let found : FindsRoom c.args.self.now.size before c.args.after.now es = (c.has_room.ensures.found.0 c.if-not-has_room.false).1 in
     let then : IsRoomy (bank_size (length (d.seen b.journal.disk))) (left_by_all before (made_all es)) =
-    subst (λ (v : PlainStore g.row.D.Denot). IsRoomy v.size (left_by_all before (made_all es))) (sym c.self.view_is) (subst (λ (k : PlainDurable). IsRoomy c.args.self.now.size k) c.requires.leads found.room.then) in
+    subst (λ (v : PlainStore g.row.D.Denot). IsRoomy v.size (left_by_all before (made_all es))) (sym c.self.view_is) (subst (λ (k : PlainDurable). IsRoomy c.args.self.now.size k) c.requires.leads (spare_roomy c.args.self.now.size c.args.after.now found.room.then)) in
     let holds : Holds (d.seen b.journal.disk) before = subst (λ (v : PlainStore g.row.D.Denot). Holds (d.seen v.disk) before) (sym c.self.view_is) (c.requires.stands going).holds in
     subst (λ (v : PlainStore g.row.D.Denot). LeavesRoom (d.seen v.disk) → EachMoment d.moment d.left_since v.disk c.add_to.new.banks.journal.disk LeavesRoom) c.self.view_is
-    (λ leaves. run_roomy d.seen d.unsynced d.moment d.left_since b.journal.disk c.add_to.new.banks.journal.disk before (left_by_all before (made_all es)) (roomy_newest holds.content (bank_size (length (d.seen b.journal.disk))) before holds.makes (leaves before holds)) then c.add_to.ensures.lengths
+    (λ leaves. run_roomy d.seen d.unsynced d.moment d.left_since b.journal.disk c.add_to.new.banks.journal.disk before (left_by_all before (made_all es)) (leaves before holds) then c.add_to.ensures.lengths
     (c.add_to.ensures.any_moment (made_all es) is c.requires.fit))
 
 pub returns-in-Err-Memory-clause-roomy : goal.returns-in-Err-Memory-clause-roomy
@@ -173,10 +173,10 @@ returns-in-Err-Memory-clause-roomy g c going =
     let is = subst (λ (v : ℕ). IsRecordOf v (made_all es) c.in-Ok.record) c.version_for-version.ensures c.in-Ok.ensures.made in
     let found : FindsRoom c.args.self.now.size before c.args.after.now es = (c.has_room.ensures.found.0 c.if-not-has_room.false).1 in
     let then : IsRoomy (bank_size (length (d.seen b.journal.disk))) (left_by_all before (made_all es)) =
-    subst (λ (v : PlainStore g.row.D.Denot). IsRoomy v.size (left_by_all before (made_all es))) (sym c.self.view_is) (subst (λ (k : PlainDurable). IsRoomy c.args.self.now.size k) c.requires.leads found.room.then) in
+    subst (λ (v : PlainStore g.row.D.Denot). IsRoomy v.size (left_by_all before (made_all es))) (sym c.self.view_is) (subst (λ (k : PlainDurable). IsRoomy c.args.self.now.size k) c.requires.leads (spare_roomy c.args.self.now.size c.args.after.now found.room.then)) in
     let holds : Holds (d.seen b.journal.disk) before = subst (λ (v : PlainStore g.row.D.Denot). Holds (d.seen v.disk) before) (sym c.self.view_is) (c.requires.stands going).holds in
     subst (λ (v : PlainStore g.row.D.Denot). LeavesRoom (d.seen v.disk) → EachMoment d.moment d.left_since v.disk c.add_to.new.banks.journal.disk LeavesRoom) c.self.view_is
-    (λ leaves. run_roomy d.seen d.unsynced d.moment d.left_since b.journal.disk c.add_to.new.banks.journal.disk before (left_by_all before (made_all es)) (roomy_newest holds.content (bank_size (length (d.seen b.journal.disk))) before holds.makes (leaves before holds)) then c.add_to.ensures.lengths
+    (λ leaves. run_roomy d.seen d.unsynced d.moment d.left_since b.journal.disk c.add_to.new.banks.journal.disk before (left_by_all before (made_all es)) (leaves before holds) then c.add_to.ensures.lengths
     (c.add_to.ensures.any_moment (made_all es) is c.requires.fit))
 
 pub returns-in-Err-Full-clause-roomy : goal.returns-in-Err-Full-clause-roomy
@@ -188,10 +188,10 @@ returns-in-Err-Full-clause-roomy g c going =
     let is = subst (λ (v : ℕ). IsRecordOf v (made_all es) c.in-Ok.record) c.version_for-version.ensures c.in-Ok.ensures.made in
     let found : FindsRoom c.args.self.now.size before c.args.after.now es = (c.has_room.ensures.found.0 c.if-not-has_room.false).1 in
     let then : IsRoomy (bank_size (length (d.seen b.journal.disk))) (left_by_all before (made_all es)) =
-    subst (λ (v : PlainStore g.row.D.Denot). IsRoomy v.size (left_by_all before (made_all es))) (sym c.self.view_is) (subst (λ (k : PlainDurable). IsRoomy c.args.self.now.size k) c.requires.leads found.room.then) in
+    subst (λ (v : PlainStore g.row.D.Denot). IsRoomy v.size (left_by_all before (made_all es))) (sym c.self.view_is) (subst (λ (k : PlainDurable). IsRoomy c.args.self.now.size k) c.requires.leads (spare_roomy c.args.self.now.size c.args.after.now found.room.then)) in
     let holds : Holds (d.seen b.journal.disk) before = subst (λ (v : PlainStore g.row.D.Denot). Holds (d.seen v.disk) before) (sym c.self.view_is) (c.requires.stands going).holds in
     subst (λ (v : PlainStore g.row.D.Denot). LeavesRoom (d.seen v.disk) → EachMoment d.moment d.left_since v.disk c.add_to.new.banks.journal.disk LeavesRoom) c.self.view_is
-    (λ leaves. run_roomy d.seen d.unsynced d.moment d.left_since b.journal.disk c.add_to.new.banks.journal.disk before (left_by_all before (made_all es)) (roomy_newest holds.content (bank_size (length (d.seen b.journal.disk))) before holds.makes (leaves before holds)) then c.add_to.ensures.lengths
+    (λ leaves. run_roomy d.seen d.unsynced d.moment d.left_since b.journal.disk c.add_to.new.banks.journal.disk before (left_by_all before (made_all es)) (leaves before holds) then c.add_to.ensures.lengths
     (c.add_to.ensures.any_moment (made_all es) is c.requires.fit))
 
 pub returns-clause-roomy : goal.returns-clause-roomy
@@ -203,10 +203,10 @@ returns-clause-roomy g c going =
     let is = subst (λ (v : ℕ). IsRecordOf v (made_all es) c.in-Ok.record) c.version_for-version.ensures c.in-Ok.ensures.made in
     let found : FindsRoom c.args.self.now.size before c.args.after.now es = (c.has_room.ensures.found.0 c.if-not-has_room.false).1 in
     let then : IsRoomy (bank_size (length (d.seen b.journal.disk))) (left_by_all before (made_all es)) =
-    subst (λ (v : PlainStore g.row.D.Denot). IsRoomy v.size (left_by_all before (made_all es))) (sym c.self.view_is) (subst (λ (k : PlainDurable). IsRoomy c.args.self.now.size k) c.requires.leads found.room.then) in
+    subst (λ (v : PlainStore g.row.D.Denot). IsRoomy v.size (left_by_all before (made_all es))) (sym c.self.view_is) (subst (λ (k : PlainDurable). IsRoomy c.args.self.now.size k) c.requires.leads (spare_roomy c.args.self.now.size c.args.after.now found.room.then)) in
     let holds : Holds (d.seen b.journal.disk) before = subst (λ (v : PlainStore g.row.D.Denot). Holds (d.seen v.disk) before) (sym c.self.view_is) (c.requires.stands going).holds in
     subst (λ (v : PlainStore g.row.D.Denot). LeavesRoom (d.seen v.disk) → EachMoment d.moment d.left_since v.disk c.add_to.new.banks.journal.disk LeavesRoom) c.self.view_is
-    (λ leaves. run_roomy d.seen d.unsynced d.moment d.left_since b.journal.disk c.add_to.new.banks.journal.disk before (left_by_all before (made_all es)) (roomy_newest holds.content (bank_size (length (d.seen b.journal.disk))) before holds.makes (leaves before holds)) then c.add_to.ensures.lengths
+    (λ leaves. run_roomy d.seen d.unsynced d.moment d.left_since b.journal.disk c.add_to.new.banks.journal.disk before (left_by_all before (made_all es)) (leaves before holds) then c.add_to.ensures.lengths
     (c.add_to.ensures.any_moment (made_all es) is c.requires.fit))
 
 pub returns-in-Ok-add_to-clause-here : goal.returns-in-Ok-add_to-clause-here
