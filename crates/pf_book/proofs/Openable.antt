@@ -6,7 +6,7 @@ use Rattle.pf_core.specs.{Durable.Changes.PlainDurable, Worlds.last_epoch}
 use Rattle.pf_store.specs.Banks.{bank_size}
 use Rattle.pf_store.specs.{Openings.{IsNoLaterThan, IsUnopened, LeavesRoom}, Stores.{Holds, IsRoomy}}
 use Rattle.pf_store.specs.declared.store.fault.{OpenFault.OpenFault, OpenFault.TheVariants.{BadSize, NoBank, Corrupt, Memory, Fault, EpochsExhausted, Full, Places}}
-use Rattle.pf_store.proofs.{Refusing.{held_is_found, roomy_is_not_full}, Sized.{roomy_newest, roomy_own}}
+use Rattle.pf_store.proofs.Refusing.{held_is_found, roomy_is_not_full}
 use Rattle.pf_book.specs.Books.{PlainBook, StaysOpenable}
 
 pub later : (g h : ℕ) → g ≤ h → (c : List ℕ) → IsNoLaterThan g c → IsNoLaterThan h c
@@ -20,8 +20,7 @@ itself seen unsynced = record { same_length = refl; agrees = λ i out. refl }
 pub roomy_images : (seen : List ℕ) (unsynced : ℕ → Bool) (size : ℕ) (d : PlainDurable) → size ≡ bank_size (length seen)
     → ((c : List ℕ) → IsImage seen unsynced c → (e : PlainDurable) → Holds c e → e ≡ d) → IsRoomy size d → (c : List ℕ) → IsImage seen unsynced c → LeavesRoom c
 roomy_images seen unsynced size d is one roomy c image e holds =
-    roomy_own holds.content (bank_size (length c)) e holds.makes
-    (subst (λ (n : ℕ). IsRoomy n e) (is ∙ ap bank_size (sym image.same_length)) (subst (λ (k : PlainDurable). IsRoomy size k) (sym (one c image e holds)) roomy))
+    subst (λ (n : ℕ). IsRoomy n e) (is ∙ ap bank_size (sym image.same_length)) (subst (λ (k : PlainDurable). IsRoomy size k) (sym (one c image e holds)) roomy)
 
 -- an image that holds something, with an early generation and with room, is refused by chance alone or for its epoch
 pub left_by_chance : (image : List ℕ) (g : ℕ) (fault : OpenFault) (d : PlainDurable) (held : Holds image d) → IsNoLaterThan g image → g < 2 ^ 63 → LeavesRoom image → IsUnopened fault image
@@ -33,7 +32,7 @@ left_by_chance image g Memory d held is low room refused = inl refl
 left_by_chance image g Fault d held is low room refused = inr (inl refl)
 left_by_chance image g EpochsExhausted d held is low room refused = inr (inr (refl, refused.0, refused.1, refused.3))
 left_by_chance image g Full d held is low room refused = absurd (roomy_is_not_full image refused.0
-    (roomy_newest refused.1.held.content (bank_size (length image)) refused.0 refused.1.held.makes (room refused.0 refused.1.held)) refused.1)
+    (room refused.0 refused.1.held) refused.1)
 left_by_chance image g Places d held is low room refused = absurd refused
 
 module _ {D : Type 0} (seen : D → List ℕ) (unsynced : D → ℕ → Bool) (moment : D → ℕ) (left_since : D → ℕ → List ℕ → Type 0) where

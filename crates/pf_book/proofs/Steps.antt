@@ -1,6 +1,6 @@
 -- No step of the core is refused for a fault of the device.
-use Rattle.std.proofs.Common.{◌≡◌, Bool, true, false, cond, Option, Some, None, Result, Ok, Err, refl, sym, ap, ◌∙◌}
-use Rattle.std.specs.Prelude.{is_some}
+use Rattle.std.proofs.Common.{◌≡◌, ℕ, Bool, true, false, cond, Option, Some, None, Result, Ok, Err, refl, sym, ap, ◌∙◌}
+use Rattle.std.specs.Prelude.{is_some, if◌then◌else◌}
 use Rattle.pf_rule.specs.Packets.{PlainPacket}
 use Rattle.pf_anchor.specs.declared.verdict.RuleVerdict.{RuleVerdict}
 use Rattle.pf_state.specs.{declared.{state.Bound.Bound, state.StateName.StateName}, States.held_at}
@@ -8,8 +8,8 @@ use Rattle.pf_ticket.specs.{declared.refusal.TicketRefusal.TicketRefusal, Replie
 use Rattle.pf_core.specs.declared.reply.Outcome.TheVariants as outcome
 use Rattle.pf_ticket.specs.declared.refusal.TicketRefusal.TheVariants as ticket
 use Rattle.pf_core.specs.declared.durable.refusal.ChangeRefusal.TheVariants as by_change
-use Rattle.pf_core.specs.declared.{command.Command.Command, command.Command.TheVariants.{Transact, Edit, States as OfStates, Ask, History}, command.StateCommand.StateCommand, command.StateCommand.TheVariants.{Track, Peer, Kill as KillState}, command.TableEdit.TableEdit, command.TableEdit.TheVariants.{Add as AddTo, Delete, Set, Kill}, command.Transaction.Transaction, command.Transaction.TheVariants.{Begin, Add, Define, Commit, Rollback}, durable.refusal.ChangeRefusal.ChangeRefusal, durable.verdict.Verdict.Verdict, durable.verdict.Verdict.TheVariants.{State as Stateful, Rules as ByRules}, reply.Refusal.Refusal, reply.Refusal.TheVariants.Absent, step.Step.Step}
-use Rattle.pf_core.specs.{Commands.{unless_refused, unless_unfit, if_there, wanting, items, tracked, makes_state, track_step, transact_step, edit_step, states_step, step_by}, Durable.Changes.{PlainDurable, commits, verdict}, Refusals.{refusal_of, change_refusal_of}, Worlds.is_fault}
+use Rattle.pf_core.specs.declared.{command.Command.Command, command.Command.TheVariants.{Transact, Edit, States as OfStates, Ask, History}, command.StateCommand.StateCommand, command.StateCommand.TheVariants.{Track, Peer, Kill as KillState, Expire as ExpireStates}, command.TableEdit.TableEdit, command.TableEdit.TheVariants.{Add as AddTo, Delete, Set, Kill}, command.Transaction.Transaction, command.Transaction.TheVariants.{Begin, Add, Define, Commit, Rollback}, durable.refusal.ChangeRefusal.ChangeRefusal, durable.verdict.Verdict.Verdict, durable.verdict.Verdict.TheVariants.{State as Stateful, Rules as ByRules}, reply.Refusal.Refusal, reply.Refusal.TheVariants.{Absent, BadTick}, step.Step.Step}
+use Rattle.pf_core.specs.{Commands.{unless_refused, unless_unfit, if_there, wanting, items, tracked, makes_state, judge_step, track_step, expiry_of, is_past, transact_step, edit_step, states_step, step_by}, Durable.Changes.{PlainDurable, commits, verdict}, Refusals.{refusal_of, change_refusal_of}, Worlds.is_fault}
 
 abbrev NoFault : Result Step Refusal → Type 0
 NoFault s = (e : Refusal) → s ≡ Err e → is_fault e ≡ false
@@ -42,6 +42,7 @@ change-not by_change.TableFull = refl
 change-not by_change.TooManyRulesets = refl
 change-not by_change.TooManyTables = refl
 change-not by_change.StatesFull = refl
+change-not by_change.BadTick = refl
 change-not by_change.Memory = refl
 
 unless-not : {A : Type 0} (r : Result A TicketRefusal) (f : A → Result Step Refusal) → ((a : A) → NoFault (f a)) → NoFault (unless_refused r f)
@@ -73,18 +74,26 @@ make-not : (known : Bool) (s t : Result Step Refusal) → NoFault s → NoFault 
 make-not true s t one other = one
 make-not false s t one other = other
 
-tracked-not : (d : PlainDurable) (name : StateName) (packet : PlainPacket) (by : RuleVerdict) (b : Option Bound) → NoFault (tracked d name packet by b)
-tracked-not d name packet by None = ok-not _
-tracked-not d name packet by (Some b) = make-not (is_some (held_at name d.states)) _ _ (ok-not _) (unfit-not _ _ (ok-not _))
+tracked-not : (d : PlainDurable) (name : StateName) (packet : PlainPacket) (expiry : ℕ) (by : RuleVerdict) (b : Option Bound) → NoFault (tracked d name packet expiry by b)
+tracked-not d name packet expiry by None = ok-not _
+tracked-not d name packet expiry by (Some b) = make-not (is_some (held_at name d.states)) _ _ (ok-not _) (unfit-not _ _ (ok-not _))
 
-track-not : (d : PlainDurable) (name : StateName) (packet : PlainPacket) (v : Verdict) → NoFault (track_step d name packet v)
-track-not d name packet (Stateful s) = ok-not _
-track-not d name packet (ByRules by) = tracked-not d name packet by (makes_state d by)
+judge-not : (d : PlainDurable) (name : StateName) (packet : PlainPacket) (expiry : ℕ) (v : Verdict) → NoFault (judge_step d name packet expiry v)
+judge-not d name packet expiry (Stateful s) = ok-not _
+judge-not d name packet expiry (ByRules by) = tracked-not d name packet expiry by (makes_state d by)
+
+past-not : (past : Bool) (s : Result Step Refusal) → NoFault s → NoFault (if past then Err BadTick else s)
+past-not true s not = λ e is. told BadTick e refl is
+past-not false s not = not
+
+track-not : (d : PlainDurable) (name : StateName) (packet : PlainPacket) (until : Option ℕ) → NoFault (track_step d name packet until)
+track-not d name packet until = past-not (is_past d until) _ (judge-not d name packet (expiry_of until) (verdict d packet))
 
 states-not : (d : PlainDurable) (x : StateCommand) → NoFault (states_step d x)
-states-not d (Track name packet) = track-not d name packet (verdict d packet)
+states-not d (Track name packet until) = track-not d name packet until
 states-not d (Peer m) = unfit-not _ _ (ok-not _)
 states-not d (KillState name) = there-not _ _ (ok-not _)
+states-not d (ExpireStates tick) = unfit-not _ _ (ok-not _)
 
 pub never-fault : (t : PlainTickets) (d : PlainDurable) (c : Command) (e : Refusal) → step_by t d c ≡ Err e → is_fault e ≡ false
 never-fault t d (Transact y) e is = transact-not t d y e is

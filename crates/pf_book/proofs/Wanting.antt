@@ -5,7 +5,7 @@ use Rattle.pf_core.specs.Refusing.{both_passed, refused_at}
 use Rattle.pf_ticket.specs.{declared.{entry.RulesetTicket.RulesetTicket, limits.TheConstants.{ENTRY_LIMIT, OFFERED_TABLE_LIMIT}, name.RulesetKind.RulesetKind, name.RulesetKind.TheVariants.{Filter, Table}, refusal.TicketRefusal.TicketRefusal, refusal.TicketRefusal.TheVariants.{BadCount, Busy}}, Laws.Tickets.{IsFew, IsWithin}, Mentions.after as moved_by, Replies.{bad_count, begin_reply, add_reply, define_reply, list_check, commit_check, busy_in}, Names.{filter_at, table_ruleset_at}, Tickets.{Loaded, PlainTickets, offered_as, loaded, content}}
 use Rattle.pf_core.specs.declared.{command.Command.Command, command.Command.TheVariants.{Transact, Edit, States as OfStates, Ask, History}, command.TableEdit.TableEdit, command.TableEdit.TheVariants.{Add as AddTo, Delete, Set, Kill}, command.Transaction.TheVariants.{Begin, Add, Define, Commit, Rollback}, reply.Answer.Answer, reply.Outcome.Outcome, reply.Refusal.Refusal, reply.Refusal.TheVariants.Halted, reply.Reply.TheVariants.Answer as Answered, step.Step.Step, step.Step.TheVariants.{Done, Wants, OfHistory}}
 use Rattle.pf_core.specs.declared.reply.Answer.TheVariants as answer
-use Rattle.pf_core.specs.{Commands.{item_of, items, step_by, may_change, mentioned}, Durable.Changes.{PlainDurable, PlainChange, commits}, Laws.Wanted.{none-wanted, wants_commit, change_by, wants_edit, IsOfStates, of_steps, of_removal, wants_states}, Refusals.OrMemory, Cores.answered, Worlds.{CurrentOpening, due_at}}
+use Rattle.pf_core.specs.{Commands.{item_of, items, step_by, may_change, mentioned}, Durable.Changes.{PlainDurable, PlainChange, commits}, Laws.Wanted.{none-wanted, wants_commit, change_by, wants_edit, IsOfStates, of_steps, of_removal, of_tick, wants_states}, Refusals.OrMemory, Cores.answered, Worlds.{CurrentOpening, due_at}}
 use Rattle.pf_core.proofs.Limits.{legal-told}
 use Rattle.pf_store.specs.{Groups.{can_be_wanted, has_item_form, is_commit}, Rooms.on_device}
 
@@ -47,6 +47,7 @@ edit-can (Kill p name) = refl
 states-can : (e : PlainChange) → IsOfStates e → can_be_wanted e ≡ true
 states-can _ (of_steps steps) = refl
 states-can _ (of_removal name) = refl
+states-can _ (of_tick tick) = refl
 
 pub wanted-can : (t : PlainTickets) (d : PlainDurable) (c : Command) (e : PlainChange) (o : Outcome) → IsWithin t → step_by t d c ≡ Ok (Wants e o) → can_be_wanted e ≡ true
 wanted-can t d (Transact (Begin names)) e o within is = absurd (none-wanted (begin_reply t names) (λ range. answer.Given range) e o is)

@@ -357,9 +357,10 @@ impl<D: Disk + Drop, J: Chapter, R: Wait + Drop> Book<D, J, R> {
     /// memory. The refusals, in this order: `Halted`, if the device failed in an earlier call and the command may change something; the
     /// core's own; `HistoryFull`, if the history has as many changes as it may have; `Full`, exactly if a bank has no room for the change's
     /// record after a snapshot of what was kept before, or fewer than 64 bytes left after a snapshot of what is kept then; `Fault`, if a
-    /// call of the device failed. `Memory` may come instead of any reply but those to a judge, a test, a sum, a rollback and a `log`; but
-    /// once the core has made what a change leaves, the two limits are tested before any more memory is taken. All memory but that for
-    /// showing is taken before the device is written.
+    /// call of the device failed. `Memory` may come instead of any reply but those to a judge, a test, a sum, a rollback, a `log`, a
+    /// `track` that is answered without a change or whose tick has come, a kill of what isn't there and a tick that would go back; but once
+    /// the core has made what a change leaves, the two limits are tested before any more memory is taken. All memory but that for showing is
+    /// taken before the device is written.
     ///
     /// An answer makes no call of the device. After every refusal but `Fault` all is as before. After `Fault` the change is in the history,
     /// not acknowledged, all else is as before, and each later command that may change something is `Halted`.
