@@ -1,9 +1,10 @@
 -- The lines of an export, given to a Book one by one.
 use Rattle.std.proofs.{Common.{◌≡◌, ◌⊎◌, ◌+◌, ◌<◌, ◌≤◌, ◌||◌, ℕ, Bool, true, false, cond, List, [], ◌∷◌, ◌++◌, length, length-append, append-nil, map, Option, Some, Result, Ok, Err, inl, inr, refl, sym, subst, ap, ◌∙◌, append_assoc, arith}, lemmas.Bool.Decides.nat_tests, lemmas.List.length-map, lemmas.List.Sums.{fold-append, fold_push}}
 use Rattle.std.specs.List.{flat_map}
-use Rattle.pf_core.specs.declared.{command.Command.Command, command.Command.TheVariants.States, command.StateCommand.TheVariants.Peer, reply.Outcome.Outcome, reply.Outcome.TheVariants.Peered, reply.Refusal.Refusal, reply.Refusal.TheVariants.{Halted, HistoryFull, Full, Fault, Memory}, reply.Reply.Reply, reply.Reply.TheVariants.{Applied, Stored, Refused}, step.Step.Step, step.Step.TheVariants.Wants, durable.refusal.ChangeRefusal.TheVariants.StatesFull}
+use Rattle.pf_core.specs.declared.{command.Command.Command, command.Command.TheVariants.States, command.StateCommand.TheVariants.Peer, reply.Outcome.Outcome, reply.Outcome.TheVariants.Peered, reply.Refusal.Refusal, reply.Refusal.TheVariants.{Halted, HistoryFull, Full, Fault, Memory}, reply.Reply.Reply, reply.Reply.TheVariants.{Applied, Stored, Refused}, step.Step.Step, step.Step.TheVariants.Wants, durable.refusal.ChangeRefusal.TheVariants.{BadTick, StatesFull}}
 use Rattle.pf_core.specs.{Calls.call, Commands.{steps_here, states_step, unless_unfit}, Durable.Changes.{PlainDurable, PlainChange, main_sum, kept_nothing, acts, applied, after}, WorldBooks.{WorldBook, IsAt, StandsFor}, Worlds.{Setting, Upshot, CurrentOpening, State, up, down, flat, log_of, durable_of, is_halted, step_in, room_for, due, due_at, group_in, group_at, or_refused, if_ok, grouped, Event, called, acked_by, pending_by, opened, begun, raised, heard, next, StandsIn, LegalCall, state_after, IsLegalFrom}}
-use Rattle.pf_addr.specs.Refusing.{unless}
+use Rattle.pf_addr.specs.Refusing.{and_then, unless}
+use Rattle.pf_state.proofs.Asked.{inserts_nothing_due}
 use Rattle.pf_core.proofs.{Groups.room-found, LongerWorlds.flat-push}
 use Rattle.pf_line.specs.{Laws.Exports.{Message, Step as StateStep, message_text, main_count, exported_lines, TellsOf, CanBeExported, states_there}, Failover.Outgoing.exported_messages, Lines.line_at, Peer.Written.Each, Reply.Replies.reply_text, StateTables.PlainState, Steps.{after as stepped_on, stepped, is_over, passes_limit, counts}}
 use Rattle.pf_line.proofs.{ExportedLines.exports_are_read, Lines.one_meaning, TakenOver.takes_over as states_taken}
@@ -54,7 +55,9 @@ taken h d m is none fits few = by (h.setting.is_full h.base h.acked (change d m 
   step : step_in h (States (Peer m)) ≡ one
   step =
       ap (λ (gs : List (List PlainChange)). cond (is_halted gs) (Err Halted) (states_step (durable_of h) (Peer m))) none
-      ∙ ap (λ (k : PlainDurable). states_step k (Peer m)) is ∙ ap (λ (b : Bool). unless_unfit (unless b StatesFull) one) fits
+      ∙ ap (λ (k : PlainDurable). states_step k (Peer m)) is
+      ∙ ap (λ (b : Bool). unless_unfit (and_then (unless b BadTick) (unless (passes_limit d.states (steps_here d m)) StatesFull)) one) (inserts_nothing_due d.tick m (main_sum d) (main_count d))
+      ∙ ap (λ (b : Bool). unless_unfit (unless b StatesFull) one) fits
 
   by : (full : Bool) → h.setting.is_full h.base h.acked (change d m ∷ []) ≡ full → IsTaken h d m ⊎ (due h (States (Peer m)) ≡ Refused Full)
   by false free =

@@ -6,9 +6,9 @@ use crate::server::Gate;
 use pf_disk::Disk;
 
 /// A Book without states that is given the lines of a peer's export, one by one, holds the states that were exported, unless a line was
-/// refused for want of memory or of room on the device, or for a fault of it. Each has its name, its generation and its flow, and is
-/// bound to its rule only if the main rules there and here have one checksum, else to the default rule. So does a fresh Book whose
-/// history has room for as many changes.
+/// refused for want of memory or of room on the device, or for a fault of it. Each has its name, its generation and its flow, never
+/// expires, and is bound to its rule only if the main rules there and here have one checksum, else to the default rule. So does a fresh
+/// Book whose history has room for as many changes.
 pub fn takes_over<D: Disk>()
     ensures any { TakesOver D.fault_count }
     ensures fresh { FreshTakesOver D.fault_count }

@@ -32,8 +32,8 @@ pub fn format_on<D: Disk>(alloc: Global, disk: &mut D) -> Result<(), Fault>
     Ok(())
 }
 
-/// Writes what a disk holds, as it reads, in five lines: `epoch E`, `sum S` in 32 hexadecimal digits, `rulesets N`, `tables N`, `states N`.
-/// The disk is neither written nor synced.
+/// Writes what a disk holds, as it reads, in six lines: `epoch E`, `sum S` in 32 hexadecimal digits, `rulesets N`, `tables N`, `states N`,
+/// `tick N`. The disk is neither written nor synced.
 ///
 /// `Output`: a write or a flush failed, after some front of the text was written. Each other fault says why what the disk holds can't be
 /// shown, and nothing is written.
@@ -61,7 +61,8 @@ fn write_shown<W: Write>(out: &mut W, durable: &Durable) -> io::Result<()>
     let so_far = write_sum(out, so_far, durable.sum());
     let so_far = write_number(out, so_far, b"rulesets ", rulesets);
     let so_far = write_number(out, so_far, b"tables ", tables);
-    match write_number(out, so_far, b"states ", durable.states().len() as u64) {
+    let so_far = write_number(out, so_far, b"states ", durable.states().len() as u64);
+    match write_number(out, so_far, b"tick ", durable.tick()) {
         Ok(()) => out.flush(),
         Err(error) => Err(error),
     }
