@@ -13,8 +13,18 @@ use std::os::unix::fs::FileExt;
 /// The bytes of each file that is written, all of them the digit 0.
 const SIZE: usize = 4096;
 
-/// The files that are images of disks, made by a program that knew version 1 alone.
+/// The files that are images of disks, made by programs that knew no second bank, or no later version than their name says.
 const IMAGE_NAMES: &[&str] = &[
+    "one-bank-formatted",
+    "one-bank-opened",
+    "one-bank-one-table",
+    "one-bank-without-room",
+    "one-bank-rules",
+    "one-bank-rules-twice",
+    "one-bank-states",
+    "one-bank-tables",
+    "one-bank-all",
+    "one-bank-removed",
     "version-1-formatted",
     "version-1-opened",
     "version-1-one-table",
@@ -25,6 +35,19 @@ const IMAGE_NAMES: &[&str] = &[
     "version-1-tables",
     "version-1-all",
     "version-1-full",
+    "version-2-formatted",
+    "version-2-opened",
+    "version-2-one-table",
+    "version-2-switched",
+    "version-2-rules",
+    "version-2-rules-in-a-snapshot",
+    "version-2-states",
+    "version-2-tables",
+    "version-2-all",
+    "version-2-group",
+    "version-2-over-version-1",
+    "version-2-killed",
+    "version-2-full",
 ];
 
 /// A file's bytes, and its name.
@@ -34,7 +57,7 @@ pub struct Image {
     pub bytes: Vec<u8>,
 }
 
-/// The images of version 1 that lie among the files.
+/// The images of older versions that lie among the files.
 pub fn older_images(rt: &HostRuntime) -> Result<Vec<Image>, ReadFault> {
     let mut images = Vec::new(rt.alloc());
     for name in IMAGE_NAMES {

@@ -8,7 +8,7 @@
 //! - `records`: the devices and journals that the others play on, and what an open gate with no record after it is read as.
 //! - `crashes`: how many records a crash leaves, by call and by fill, and what an append comes to on a device whose calls fail.
 //! - `files`: a thousand calls on a file beside the same calls in memory, and files that aren't taken as a device: one has another length,
-//!   one can't be synced. It also reads the images of version 1, on which `saves` plays rows.
+//!   one can't be synced. It also reads the images of older versions, on which `saves` plays rows.
 //! - `saves`: the rows of `stdin`, whose head says how they are written, on devices in memory: openings, saves, crashes and faults.
 //!   Behind them, in its `stops`, devices that tear a call and openings that are stopped, and in its `chances` lines, streams and images at
 //!   random.

@@ -22,7 +22,7 @@ use std::alloc::{AllocError, Global};
 use std::marker::Brand;
 use std::sync::Wait;
 
-/// The replies to these lines say all that the rows keep, but for the epoch.
+/// The replies to these lines say all that the rows keep, but for the epoch and the tick, which no line asks for.
 const QUESTIONS: &str =
     "show rules - | show rules web | show tables - | show tables web | show states | sum";
 
@@ -75,6 +75,11 @@ pub fn play<H: Wait + Drop + Copy>(
         bench.play_segment(told, segment)?;
     }
     Ok(())
+}
+
+/// The replies to the questions, and the tick after them.
+fn with_tick(alloc: Global, told: &str, tick: u64) -> Result<String, AllocError> {
+    format!(in alloc; "{told}, tick {tick}")
 }
 
 /// Makes a Book of an opening, and plays rows over it.
@@ -254,9 +259,16 @@ impl<H: Wait + Drop + Copy> Bench<H> {
 
     /// Takes over what the Book's device holds now.
     fn keep<J: Chapter>(&mut self, book: &mut Book<MemDisk, J, H>) -> Result<(), AllocError> {
-        self.kept.push(replies(self.alloc, book, &self.questions)?)?;
+        let kept = self.kept_by(book)?;
+        self.kept.push(kept)?;
         self.bytes = book.disk().image(self.alloc, u64::MAX, Fill::Old)?;
         Ok(())
+    }
+
+    /// All that the Book keeps, but for the epoch.
+    fn kept_by<J: Chapter>(&self, book: &mut Book<MemDisk, J, H>) -> Result<String, AllocError> {
+        let told = replies(self.alloc, book, &self.questions)?;
+        with_tick(self.alloc, told.as_str(), book.durable().tick())
     }
 
     /// Plays one line of a client.
@@ -526,13 +538,14 @@ impl<H: Wait + Drop + Copy> Bench<H> {
             Ok(opening) => opening,
             Err((fault, _disk)) => return Ok(Err(fault)),
         };
-        let epoch = opening.durable().epoch();
-        let (kept, disk) = replies_over::<_, Brand, _>(
+        let (epoch, tick) = (opening.durable().epoch(), opening.durable().tick());
+        let (told, disk) = replies_over::<_, Brand, _>(
             self.waits,
             self.alloc,
             opening,
             &self.questions,
         )?;
+        let kept = with_tick(self.alloc, told.as_str(), tick)?;
         let bytes = disk.image(self.alloc, u64::MAX, Fill::New)?;
         let gate = closed_gate(self.alloc, &bytes)?;
         Ok(Ok(Opened {

@@ -1,7 +1,7 @@
 // Lines, peers' streams and images at random.
 
 use super::{Bench, Opened};
-use crate::books::{line_reply, replies};
+use crate::books::line_reply;
 use crate::chance::{Chance, Tally};
 use crate::rows::{bytes_of, cut_word, number};
 use crate::streams::{behind, cut_text, front_of, pieces_of, stream_at_random, stream_over};
@@ -58,12 +58,12 @@ impl<H: Wait + Drop + Copy> Bench<H> {
         let (seed, times) = cut_word(how);
         let (mut chance, mut tally) = (Chance::new(number(seed) as u64), Tally::new(self.alloc));
         self.words.ticket = String::from_str(self.alloc, FIRST_TICKET)?;
-        let mut kept = replies(self.alloc, book, &self.questions)?;
+        let mut kept = self.kept_by(book)?;
         let mut others = 0u64;
         for _ in 0..number(times) {
             let line = self.words.line(&mut chance, "LINE")?;
             let reply = line_reply(self.alloc, book, &line)?;
-            let now = replies(self.alloc, book, &self.questions)?;
+            let now = self.kept_by(book)?;
             if is_refusal(reply.as_str()) && now != kept {
                 others = others.saturating_add(1);
             }
