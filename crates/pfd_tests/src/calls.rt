@@ -74,6 +74,7 @@ fn rules_and_tables_are_put_at_their_paths(rt: HostRuntime) -> Result<(), Fail> 
 fn insert(alloc: Global, id: u64, packet: &str) -> Result<Step, Fail> {
     let packet = Packet::parse(alloc, packet)?;
     let held = Held {
+        expiry: 0,
         generation: 0,
         flow: Flow::of(&packet),
         bound: Bound::Default,

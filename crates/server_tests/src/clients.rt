@@ -136,7 +136,7 @@ const SERVED: [&str; 3] = [
 
 /// What is shown of the disk that was served.
 const HOLDS: &str =
-    "epoch 1\nsum d41d8cd98f00b204e9800998ecf8427e\nrulesets 0\ntables 1\nstates 0\n";
+    "epoch 1\nsum d41d8cd98f00b204e9800998ecf8427e\nrulesets 0\ntables 1\nstates 0\ntick 0\n";
 
 #[test]
 fn a_client_is_served(rt: HostRuntime) -> Result<(), Fail> {
