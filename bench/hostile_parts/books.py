@@ -20,7 +20,7 @@ HISTORY = 1000
 # The first byte of a bank that is closed, and what stands between the lines of a group and between those of a reply.
 CLOSED, GROUPED, BAR = b"\0", " + ", " | "
 # What a group may have, and what a Book refuses whose device failed.
-CHANGES = ("commit", "tadd", "tdel", "tset", "tkill", "track", "kill", "peer")
+CHANGES = ("commit", "tadd", "tdel", "tset", "tkill", "track", "kill", "expire", "peer")
 REFUSED_WHEN_HALTED = (*CHANGES, "begin", "add", "define", "rollback")
 # What all that is kept is told by.
 QUESTIONS = [Command("show", ("rules", b"")), Command("show", ("rules", b"web")), Command("show", ("tables", b"")),
@@ -86,7 +86,7 @@ class Book(Session):
         image = bytes(device.bytes)
         found = found_in(image)
         super().__init__(len(image) // 2, HISTORY, held=found.held)
-        self.device, self.has_halted, self.lost, self.pending = device, False, 0, None
+        self.device, self.has_halted, self.lost, self.pending, self.gate_found = device, False, 0, None, found.gate
         self.open(Place(*found[1:]))
 
     def open(self, place):
@@ -150,8 +150,8 @@ class Book(Session):
         return ", ".join([self.line(line) for line in lines])
 
     def kept(self):
-        """All that is kept, but for the epoch."""
-        return ", ".join([self.answer(question) for question in QUESTIONS])
+        """All that is kept, but for the epoch. No question asks for the tick."""
+        return ", ".join([*[reply_text(self.run(question)) for question in QUESTIONS], f"tick {self.held.tick}"])
 
     def answer(self, command):
         """The text of the reply to a command."""

@@ -15,6 +15,17 @@ IMAGE_BYTES = bytes([0, 1, 2, 4, 5, 6, 7, 9, 0x10, 0x2B, 0x7D, 0x7E, 0x80, 0xA5,
 PIECES, MOST_PIECES, DEEPEST = (1, 7, 40, 200), 1000, 6
 
 
+def leaps(most):
+    """By which factor and step no number, one, two and so on are passed by at once."""
+    factor, step = 1, 0
+    for _ in range(most + 1):
+        yield factor, step
+        factor, step = factor * FACTOR & ALL_BITS, (step * FACTOR + STEP) & ALL_BITS
+
+
+LEAPS = list(leaps(MOST_PIECES))
+
+
 class Chance:
     """Numbers, the same ones each time for a seed."""
 
@@ -26,8 +37,13 @@ class Chance:
         return self.last
 
     def below(self, bound):
-        number = self.number() >> 33
-        return number % bound if bound else 0
+        self.last = (self.last * FACTOR + STEP) & ALL_BITS
+        return (self.last >> 33) % bound if bound else 0
+
+    def pass_by(self, count):
+        """As if so many numbers had been taken in turn."""
+        factor, step = LEAPS[count]
+        self.last = (self.last * factor + step) & ALL_BITS
 
     def byte(self, old, some):
         """The byte above it or below it, one of some, or any."""
@@ -40,16 +56,22 @@ class Chance:
         return bytes(self.number() >> 56 for _ in range(count))
 
 
-class Tally:
-    """How often each kind of outcome came, and a checksum of all outcomes in their order."""
+def checksum(last, some):
+    """The checksum behind some bytes."""
+    for byte in some:
+        last = ((last ^ byte) * CHECKSUM_FACTOR) & ALL_BITS
+    return last
 
-    def __init__(self):
-        self.counts, self.checksum = {}, CHECKSUM
+
+class Tally:
+    """How often each kind of outcome came, and a checksum of all outcomes in their order, which another function may take."""
+
+    def __init__(self, checksum_of=checksum):
+        self.counts, self.checksum, self.checksum_of = {}, CHECKSUM, checksum_of
 
     def count(self, kind, outcome):
         self.counts[kind] = self.counts.get(kind, 0) + 1
-        for byte in outcome.encode("latin-1") + b"\n":
-            self.checksum = ((self.checksum ^ byte) * CHECKSUM_FACTOR) & ALL_BITS
+        self.checksum = self.checksum_of(self.checksum, outcome.encode("latin-1") + b"\n")
 
     def told(self):
         kinds = sorted(self.counts, key=str.encode)
@@ -73,7 +95,10 @@ class Words:
 
     def text(self, chance, word):
         for _ in range(DEEPEST):
-            word = " ".join([self.one_of(chance, one) for one in word.split(" ")])
+            words = word.split(" ")
+            if self.texts.keys().isdisjoint(words) and "TICKET" not in words:
+                break
+            word = " ".join([self.one_of(chance, one) for one in words])
         return word
 
     def line(self, chance):
@@ -137,14 +162,22 @@ def changed_stream(chance, some):
     return bytes(made)
 
 
-def pieces_of(chance, some):
-    """The stream in pieces of any lengths, and what is left at last."""
-    most, pieces = PIECES[chance.below(len(PIECES))], []
-    while some and len(pieces) < MOST_PIECES:
-        count = chance.below(most) + 1
-        pieces.append(some[:count])
-        some = some[count:]
-    return [*pieces, some]
+def pass_pieces(chance, length):
+    """Takes the numbers by which the program cuts a stream of so many bytes into pieces."""
+    most = PIECES[chance.below(len(PIECES))]
+    if most == 1:
+        chance.pass_by(min(length, MOST_PIECES))
+    else:
+        chance.last = behind_pieces(chance.last, most, length)
+
+
+def behind_pieces(last, most, length):
+    """The number that was taken last, where a number is taken for each piece of at most so many bytes."""
+    pieces = 0
+    while length > 0 and pieces < MOST_PIECES:
+        last = (last * FACTOR + STEP) & ALL_BITS
+        length, pieces = length - (last >> 33) % most - 1, pieces + 1
+    return last
 
 
 def changed_image(chance, image):

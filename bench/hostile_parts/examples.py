@@ -152,24 +152,24 @@ def try_store_rows(count):
 def try_disk_page(count):
     """The blocks of bytes, the payloads and the places that the page names."""
     page = text_of("docs/DISK.md")
-    block = re.search(r"its places 0 to 51 are\n\n((?:    .*\n)+)", page)[1]
+    block = re.search(r"its places 0 to 59 are\n\n((?:    .*\n)+)", page)[1]
     image = bytes.fromhex("".join(block.split()))
     start = image + bytes(300 - len(image))
-    count.compare("the 52 bytes", start, writing.opened(writing.formatted(300)))
+    count.compare("the 60 bytes", start, writing.opened(writing.formatted(300)))
     payload = bytes.fromhex("".join(re.search(r"has the payload\n`([0-9a-f ]+)`", page)[1].split()))
     change = edit_of("tset - t 10.0.0.0/8")[2]
     count.compare("the payload of 29 bytes", payload, writing.group_bytes([change]))
     first = writing.saved(start, [change])
-    count.compare("places 51 to 84", bytes.fromhex("a50000001d") + payload, first[51:85])
-    count.compare("a closed gate at 85", 85, reading.read(first).gate)
+    count.compare("places 59 to 92", bytes.fromhex("a50000001d") + payload, first[59:93])
+    count.compare("a closed gate at 93", 93, reading.read(first).gate)
     second = writing.saved(first, [change])
-    count.compare("the same again", 119, reading.read(second).gate)
+    count.compare("the same again", 127, reading.read(second).gate)
     third = reading.read(writing.saved(second, [change]))
-    count.compare("the second bank", (150, 2, 251), (third.start, third.generation, third.gate))
-    count.compare("its snapshot", 43, len(reading.snapshot(third.held)))
+    count.compare("the second bank", (150, 2, 259), (third.start, third.generation, third.gate))
+    count.compare("its snapshot", 51, len(reading.snapshot(third.held)))
     count.compare("a second table", None, writing.saved(start, [change, edit_of("tset - u 10.0.0.0/8")[2]]))
-    count.compare("a snapshot of nothing", bytes(16), reading.snapshot(reading.Held(0)))
-    for what, place in (("a crash at 51 that leaves 37", 51),):
+    count.compare("a snapshot of nothing", bytes(24), reading.snapshot(reading.Held(0)))
+    for what, place in (("a crash at 59 that leaves 37", 59),):
         crashed = bytearray(first)
         crashed[place] = 0x37
         count.compare(what, 0, len(reading.read(bytes(crashed)).held.tables))

@@ -35,12 +35,16 @@ SMALL = 300, [line for _ in range(3) for line in ("tset - t 10.0.0.0/8", "tadd -
 ALL_KINDS = 2048, [
     "begin filter - table -", "add - 1.1 block in quick from <t> to any", "add - 1.1 pass in proto tcp all",
     "define - 1.2 t 203.0.113.0/24 !203.0.113.7", "commit filter - 1.1 table - 1.2", "tadd - t 10.0.0.0/8 2001:db8::/32",
-    "track 7 1 in em0 tcp 198.51.100.7 40000 192.0.2.1 80", f"peer {EXAMPLE.hex()}", "kill 7 1", "tset web v 10.0.0.1", "begin filter web",
+    "track 7 1 in em0 tcp 198.51.100.7 40000 192.0.2.1 80", f"peer {EXAMPLE.hex()}", "kill 7 1",
+    "track 8 1 in em0 tcp 198.51.100.8 40000 192.0.2.1 80 until 9", "expire 8", "expire 9", "tset web v 10.0.0.1", "begin filter web",
     "add web 1.3 block all", "commit filter web 1.3", "tkill - t", "show rules -"]
-# A file of the first version, which is switched for the first label.
+# A file of the first version, which is switched for the first label, and one of the second, for the first expiry.
 OLDER = 2048, [
     "tset - t 10.0.0.0/8", "begin filter - filter web", "add - 1.1 block in all label x", "add web 1.2 pass all no state label \"web-1\"",
     "commit filter - 1.1 filter web 1.2", "tadd - t 10.1.0.0/16", "show rules -", "show rules web"]
+EXPIRING = 2048, [
+    "tset - t 10.0.0.0/8", "begin filter -", "add - 1.1 pass all label x", "commit filter - 1.1",
+    "track 7 1 in em0 tcp 198.51.100.7 40000 192.0.2.1 80 until 9", "expire 8", "show states", "expire 9", "show states"]
 
 
 class Program:
@@ -200,8 +204,9 @@ def sweep(job):
     with new_folder() as folder:
         file = os.path.join(folder, "disk")
         first = bytes_of(formatted(options.program, file, size))
-        if script == OLDER[1]:
-            first = first[:1] + b"\1" + first[2:]
+        for version, (_, older) in enumerate((OLDER, EXPIRING), 1):
+            if script == older:
+                first = writing.bank_bytes(1, bytes(16), version).ljust(size, b"\0")
         for number in range(1, MOST_CALLS):
             one = Play(options, shim, way, script, kind, number, first)
             has_met = one.play(file)
@@ -257,10 +262,11 @@ def built(folder):
 def play(options):
     with new_folder() as folder:
         shim = built(folder)
-        scripts = [("run", "a small file", SMALL), ("serve", "groups", with_groups(chance(options.seed, "groups"))), ("run", "an older file", OLDER)]
+        scripts = [("run", "a small file", SMALL), ("serve", "groups", with_groups(chance(options.seed, "groups")))]
+        scripts += [("run", "a file of version 1", OLDER), ("run", "a file of version 2", EXPIRING)]
         if not options.is_quick:
             scripts += [("run", "all kinds", ALL_KINDS), ("serve", "a small file", SMALL), ("serve", "all kinds", ALL_KINDS)]
-            scripts.append(("serve", "an older file", OLDER))
+            scripts += [("serve", "a file of version 1", OLDER), ("serve", "a file of version 2", EXPIRING)]
         jobs = [(options, shim, *script, kind) for script in scripts for kind in FAILING + KILLING + HARMLESS]
         result = spread(sweep, jobs, options.processes)
         result.add(spread(sweep_format, [(options, shim, kind) for kind in FAILING + KILLING + HARMLESS], options.processes))

@@ -64,6 +64,9 @@ class Former:
 
     # Parts
 
+    def tick(self):
+        return self.random.choice((0, 0, 0, 0, 1, 5, 6, 7, 1 << 40, (1 << 64) - 1))
+
     def path(self):
         return self.random.choice(STRANGE_PATHS) if self.rarely(60) else self.random.choice((b"", b"", b"a", b"a-b", b"a/b", b"b"))
 
@@ -99,7 +102,7 @@ class Former:
     def state(self):
         insert = read_insert(self.messages.record(1))
         bound = reading.Bound(self.random.choice((0, 1, 2, (1 << 32) - 1)), self.random.randbytes(16)) if self.random.randrange(2) else None
-        made = reading.state_bytes(insert.name, reading.State(insert.generation, *insert[2:9], bound))
+        made = reading.state_bytes(insert.name, reading.State(insert.generation, *insert[2:9], bound, self.tick()))
         return self.strange(made, STATE_PLACES) if self.random.randrange(6) == 0 else made
 
     # Changes
@@ -124,9 +127,9 @@ class Former:
         return self.shuffled(items.values()) if self.rarely(8) else list(items.values())
 
     def change(self, epoch):
-        kind = self.random.choice((1, 1, 2, 3, 4, 5, 5, 6, 7))
+        kind = self.random.choice((1, 1, 2, 3, 4, 5, 5, 6, 7, 8))
         if self.rarely(80):
-            return bytes([self.random.choice((0, 8, 9, 255))]) + self.random.randbytes(8)
+            return bytes([self.random.choice((0, 9, 10, 255))]) + self.random.randbytes(8)
         if kind == 1:
             return writing.commit_bytes(self.items())
         if kind <= 4:
@@ -135,6 +138,8 @@ class Former:
             return writing.steps_bytes(self.some(self.step))
         if kind == 6:
             return writing.removal_bytes((self.random.randrange(6), self.random.randrange(1, 4)))
+        if kind == 8:
+            return writing.tick_bytes(self.tick())
         return writing.opening(epoch + self.random.choice((1, 1, 1, 1, 2, 0)))
 
     def group(self, epoch):
@@ -146,13 +151,15 @@ class Former:
     # Images
 
     def version(self):
-        return self.random.choice((0, 3, 4, 255) if self.rarely(60) else (*reading.VERSIONS, reading.NEWEST))
+        return self.random.choice((0, 4, 5, 255) if self.rarely(60) else (*reading.VERSIONS, reading.NEWEST))
 
     def groups_image(self):
         """A strange group mostly ends an image, so most that aren't opened are left out before the last."""
         half = self.random.choice(SIZES) // 2
-        bank, gate, epoch = bytearray(half), 40, 0
-        writing.put_at(bank, 0, writing.bank_bytes(1, bytes(16), self.version()))
+        version = self.version()
+        some = nothing_of(version)
+        bank, gate, epoch = bytearray(half), reading.HEADER + len(some), 0
+        writing.put_at(bank, 0, writing.bank_bytes(1, some, version))
         for _ in range(self.random.randrange(1, 9)):
             payload, made = self.group(epoch), bytearray(bank)
             if gate + 6 + len(payload) > half:
@@ -166,8 +173,8 @@ class Former:
                 break
         return main_image(0, bank, half)
 
-    def snapshot(self):
-        """Rulesets, tables and states behind their numbers, mostly in order."""
+    def snapshot(self, version):
+        """Rulesets, tables and states behind their numbers, mostly in order, and mostly with a tick where this version has one."""
         rulesets = {self.path(): self.some(self.rule, 3) for _ in range(self.random.randrange(4))}
         tables = {(self.path(), self.name()): self.rows_in_order() for _ in range(self.random.randrange(4))}
         states = {state[:12]: state for state in self.some(self.state)}
@@ -175,16 +182,19 @@ class Former:
                  [table_form(*key, rows) for key, rows in sorted(tables.items()) if rows or self.rarely(6)],
                  [state for _, state in sorted(states.items())]]
         some = [number_bytes(self.random.choice((0, 1, 5, reading.LAST_EPOCH - 1, reading.LAST_EPOCH)))]
+        if (version >= reading.EXPIRY_FROM) != self.rarely(60):
+            some.append(number_bytes(self.tick(), 8))
         for part in parts:
             part = self.shuffled(part) if self.rarely(10) else part
             some += [number_bytes(len(part)), *part]
         return b"".join(some) + (b"\0" if self.rarely() else b"")
 
     def snapshot_image(self):
-        some = self.snapshot()
+        version = self.version()
+        some = self.snapshot(version)
         half = max(128, reading.HEADER + len(some) + self.random.choice((0, 1, 2, 11, 12, 13, 64, 75, 76, 300)))
         generation = self.random.choice((0, 1, 2, reading.MOST_GENERATION, reading.MOST_GENERATION + 1))
-        bank = writing.bank_bytes(generation, some, self.version())[:half]
+        bank = writing.bank_bytes(generation, some, version)[:half]
         return main_image(self.random.choice((0, half)), bank, half)
 
 
@@ -216,8 +226,13 @@ def image_of(bank):
     return main_image(0, bank, half + half % 2)
 
 
+def nothing_of(version=reading.NEWEST):
+    """A snapshot of nothing, which has a tick from the third version on."""
+    return bytes(24 if version >= reading.EXPIRY_FROM else 16)
+
+
 def snapshot_of(rulesets=(), tables=(), states=(), version=reading.NEWEST):
-    parts = [number_bytes(0)]
+    parts = [number_bytes(0), number_bytes(0, 8) if version >= reading.EXPIRY_FROM else b""]
     for part in (rulesets, tables, states):
         parts += [number_bytes(len(part)), *part]
     return image_of(writing.bank_bytes(1, b"".join(parts), version))
@@ -232,7 +247,7 @@ def table_form(path, name, rows):
 
 
 def records_of(*payloads, version=reading.NEWEST):
-    bank = bytearray(writing.bank_bytes(1, bytes(16), version))
+    bank = bytearray(writing.bank_bytes(1, nothing_of(version), version))
     for payload in payloads:
         writing.appended(bank, len(bank) - 1, payload)
     return image_of(bytes(bank))

@@ -355,16 +355,30 @@ def packet_port(words, proto):
     return words.take(number if proto in (TCP, UDP) or number == 0 else None)
 
 
-def packet(words):
+def packet(words, behind=lambda words: ()):
+    """A packet, with what the words behind it say; then its families are compared."""
     direction, interface, proto = words.known(DIRECTIONS), name(words, MOST_INTERFACE), protocol(words)
     ends = []
     for _ in range(2):
         ends.append((words.take(address_of(words.here())), packet_port(words, proto)))
+    said = behind(words)
     words.end()
     ((family, source), one), ((other_family, destination), other) = ends
     if family != other_family:
         raise LineFault("err family")
-    return Packet(direction, interface, proto, family, source, one, destination, other)
+    return (Packet(direction, interface, proto, family, source, one, destination, other), *said)
+
+
+def tick(words):
+    return words.take(number_in(words.here(), 20, (1 << 64) - 1))
+
+
+def until(words):
+    """The tick behind `until`, or None."""
+    if words.is_at_end():
+        return (None,)
+    words.known({"until": True})
+    return (tick(words),)
 
 
 # Lines
@@ -411,9 +425,10 @@ SHAPES = {
     "tkill": lambda words: (path(words), name(words, MOST_NAME)),
     "test": lambda words: (path(words), name(words, MOST_NAME), words.take(address_of(words.here()))),
     "show": show,
-    "judge": lambda words: (packet(words),),
-    "track": lambda words: (state_name(words), packet(words)),
+    "judge": packet,
+    "track": lambda words: (state_name(words), *packet(words, until)),
     "kill": lambda words: (state_name(words),),
+    "expire": lambda words: (tick(words),),
     "peer": lambda words: (message(words),),
     **{word: lambda words: () for word in ("sum", "export", "log", "publish")},
 }

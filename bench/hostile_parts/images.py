@@ -20,7 +20,9 @@ from .program import Result, bytes_of, chance, formatted, new_folder, ran, sprea
 
 SIZES = (256, 300, 300, 300, 512, 600, 1024, 2048, 4096)
 BYTES = (0, 1, 2, 3, 4, 5, 6, 7, 8, 16, 17, 32, 64, 0x7F, 0x80, 0xA5, 0xFF)
-EXAMPLE = bytes.fromhex("a5020000000000000000000000000001000000100000000000000000000000000000000000000000a500000006010700000001")
+EXAMPLE = bytes.fromhex("a50300000000000000000000000000010000001800000000000000000000000000000000000000000000000000000000a500000006010700000001")
+# the same as a program of before wrote it, but for the version's byte
+OLDER_EXAMPLE = bytes.fromhex("a5010000000000000000000000000001000000100000000000000000000000000000000000000000a500000006010700000001")
 
 
 class Starter:
@@ -67,6 +69,19 @@ def of_snapshot(random, image):
     generation, version = random.choice((1, 2, found.generation, reading.MOST_GENERATION)), random.choice(reading.VERSIONS)
     writing.put_at(made, start, writing.bank_bytes(generation, some, version))
     return bytes(made)
+
+
+def in_version(image, version):
+    """What another image holds and an older version allows, as a snapshot of that version on a device as large."""
+    held = reading.read(image).held
+    held.tick = 0
+    for name, state in list(held.states.items()):
+        held.put_state(name, state._replace(expiry=0))
+    if version < reading.LABELS_FROM:
+        for path, forms in list(held.rulesets.items()):
+            held.put_rules(path, [form for form in forms if not reading.rule_of(form).label])
+    some = reading.snapshot(held)
+    return writing.bank_bytes(1, some[:4] + some[12:], version).ljust(len(image), b"\0")
 
 
 # Changes of images
@@ -159,7 +174,8 @@ def bases_of(options, random, folder):
     table = writing.saved(start, [row])
     switched = writing.saved(writing.saved(table, [row]), [row])
     left = [left_by_lines(options, random, folder, number) for number in range(12)]
-    older = [image[:1] + b"\1" + image[2:] for image in (start, *left[:4])]
+    older = [OLDER_EXAMPLE[:1] + bytes([version]) + OLDER_EXAMPLE[2:] + bytes(size - len(OLDER_EXAMPLE)) for version in (1, 2) for size in (300, 2048)]
+    older += [in_version(image, version) for version in (1, 2) for image in left[:4]]
     return [start, table, switched, *older, *left, *(made_of_forms(Former(random)) for _ in range(12))]
 
 
@@ -214,7 +230,7 @@ def play(options):
     result = play_limits(options)
     if not options.is_quick:
         result.add(spread(each_byte, [(options, number, options.processes) for number in range(options.processes)], options.processes))
-    each, rounds = options.few((1_500, 8), (5_000, 100))
+    each, rounds = options.few((1_500, 8), (5_000, 20))
     result.add(spread(play_images, [(options, number, each) for number in range(rounds)], options.processes))
     result.tell(f"{each * rounds:,} images at random")
     return result

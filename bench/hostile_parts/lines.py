@@ -41,6 +41,7 @@ EDGE_NETWORKS = ["10.0.0.0/33", "::/129", "10/032", "10/0032", "10/", "/8", "10"
 EDGE_TICKETS = ["1", "1.", ".1", "1.1.1", "01.0000000001", "1.00000000001", "1.4294967295", "1.4294967296", "4294967296.1", "1.-1"]
 EDGE_STATES = ["18446744073709551615 1", "18446744073709551616 1", "000000000000000000001 1", "00000000000000000001 0000000001", "1 4294967295",
                "1 4294967296", "1 00000000001"]
+EDGE_TICKS = ["0", "00000000000000000000", "000000000000000000001", "18446744073709551616", "x", "-1", "5 5", "until 5"]
 EDGE_HOSTS = ["<>", "<", "<a", "<a>b", "any any", "! any", "!any", "! ! 10/8", f"<{'t' * 31}>", f"<{'t' * 32}>", "< t >"]
 STRANGE = [b"\0", b"\r", b"\t", b"\x80", b"\xff", b"\x7f", b"\x1b", b"\v", b"\f", b"\xc3\xa9", *(bytes([byte]) for byte in b' !<>/:.-#"*')]
 QUESTIONS = ["sum", "log", "publish", "show states", "export", *(f"show rules {path}" for path in dict.fromkeys(PATHS)),
@@ -155,6 +156,12 @@ class Maker:
     def state(self):
         return self.mostly(f"{self.random.randrange(8)} {self.random.randrange(1, 3)}", EDGE_STATES)
 
+    def tick(self):
+        return self.mostly(str(max(0, self.session.held.tick + self.random.randrange(-1, 5))), EDGE_TICKS)
+
+    def until(self):
+        return f" until {self.tick()}" if self.random.randrange(3) == 0 else ""
+
     def message(self):
         some = self.messages.message() if self.random.randrange(12) else EXAMPLE
         if self.random.randrange(5) == 0:
@@ -236,7 +243,8 @@ SHAPES_AND_WEIGHTS = [
     (lambda maker: f"tkill {maker.path()} {maker.name()}", 2),
     (lambda maker: f"test {maker.path()} {maker.name()} {maker.address()}", 6),
     (lambda maker: f"judge {maker.packet()}", 14),
-    (lambda maker: f"track {maker.state()} {maker.packet()}", 8),
+    (lambda maker: f"track {maker.state()} {maker.packet()}{maker.until()}", 8),
+    (lambda maker: f"expire {maker.tick()}", 2),
     (lambda maker: f"kill {maker.state()}", 3),
     (lambda maker: f"peer {maker.message()}", 5),
     (lambda maker: maker.random.choice(QUESTIONS), 5),
@@ -266,7 +274,7 @@ def first_difference(lines, replies, told):
 
 
 def same(held, other):
-    return held.rulesets == other.rulesets and held.tables == other.tables and held.states == other.states
+    return held.rulesets == other.rulesets and held.tables == other.tables and held.states == other.states and held.tick == other.tick
 
 
 def settings(random):

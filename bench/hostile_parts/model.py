@@ -13,7 +13,7 @@ from typing import NamedTuple
 from . import writing
 from .grammar import LineFault, Packet, read_line
 from .reading import (ANCHOR, ANY, BLOCK, HEADER, MOST_CHANGES, MOST_ENTRIES, MOST_ITEMS, MOST_RULES, MOST_RULESETS, MOST_STATES, MOST_TABLES,
-                      NETWORK, PASS, TABLE, Bound, Held, Host, State, entry_bytes, is_path, number_bytes, put, rule_of, state_bytes, take_step)
+                      NETWORK, PASS, TABLE, Bound, Held, Host, State, entry_bytes, expire, is_path, number_bytes, put, rule_of, state_bytes, take_step)
 from .streams import DELETE, INSERT, NONE, message_bytes
 
 NAMES = {6: "tcp", 17: "udp", 1: "icmp", 58: "icmp6"}
@@ -88,7 +88,7 @@ def state_text(name, state):
     source, destination = (address_text(state.family, some) for some in (state.source, state.destination))
     bound = f"rule {state.bound.number} {state.bound.checksum.hex()}" if state.bound else "default"
     flow = f"{DIRECTION[state.direction]} {protocol_text(state.protocol)} {source} {state.source_port} {destination} {state.destination_port}"
-    return f"{name[0]} {name[1]} {state.generation} {flow} {bound}"
+    return f"{name[0]} {name[1]} {state.generation} {flow} {bound}" + (f" until {state.expiry}" if state.expiry else "")
 
 
 def host_bytes(host):
@@ -243,7 +243,7 @@ class Session:
     def length(self):
         """How many bytes a snapshot of what is kept has."""
         held = self.held
-        return (16 + sum(5 + len(path) + sum(map(len, rules)) for path, rules in held.rulesets.items())
+        return (24 + sum(5 + len(path) + sum(map(len, rules)) for path, rules in held.rulesets.items())
                 + sum(6 + len(path) + len(name) + 20 * len(rows) for (path, name), rows in held.tables.items()) + 96 * len(held.states))
 
     # Transactions
@@ -408,7 +408,8 @@ class Session:
         name, _ = self.found_state(packet)
         return "pass state {} {}".format(*name) if name else verdict_text(Judge(self.held, packet).evaluate(b"")[0])
 
-    def track(self, name, packet):
+    def track(self, name, packet, until):
+        demand(until is None or until > self.held.tick, "err tick")
         found, state = self.found_state(packet)
         match = None if found else Judge(self.held, packet).evaluate(b"")[0]
         if match is None or not match.keeps or match.effect != PASS:
@@ -417,13 +418,27 @@ class Session:
             return f"{verdict_text(match)} stale"
         demand(len(self.held.states) < MOST_STATES, "err states")
         bound = None if match.path else Bound(match.number, self.held.checksum())
-        state = state._replace(bound=bound)
+        state = state._replace(bound=bound, expiry=until or 0)
         said = self.keep(writing.steps_bytes([b"\1" + state_bytes(name, state)]), lambda: self.with_steps([(1, (name, state))])[1])
         return f"{said} {verdict_text(match)}"
 
     def kill(self, name):
         demand(name in self.held.states, "err absent")
         return self.keep(writing.removal_bytes(name), lambda: self.with_steps([(2, name)])[1])
+
+    def expire(self, tick):
+        demand(tick >= self.held.tick, "err tick")
+        held, counts = self.held, []
+        before = held.tick, dict(held.states), dict(held.flows)
+
+        def undo():
+            held.tick, held.states, held.flows = before
+
+        def make():
+            counts.append(expire(held, tick))
+            return undo
+
+        return self.keep(writing.tick_bytes(tick), make) + f" expired {counts[0]}"
 
     def with_steps(self, steps):
         """Takes the steps: what became of each, and how they are undone."""
@@ -528,9 +543,10 @@ class Session:
 
 def outcome_text(results):
     """What became of inserts, and how many states deletes and clears took out."""
-    counts = {word: sum(kind == 1 and result == word for kind, result in results) for word in ("new", "replaced", "stale", "clash")}
-    counts["deleted"] = sum(result for kind, result in results if kind != 1)
-    return "".join(f" {word} {number}" for word, number in counts.items())
+    counts = {"new": 0, "replaced": 0, "stale": 0, "clash": 0, "deleted": 0}
+    for kind, result in results:
+        counts["deleted" if kind != 1 else result] += result if kind != 1 else 1
+    return "".join([f" {word} {number}" for word, number in counts.items()])
 
 
 def step_form(kind, what):

@@ -156,7 +156,7 @@ def play_lines(job):
 def play(options):
     jobs = options.processes
     result = spread(play_example, [(options, number, jobs) for number in range(jobs)], jobs)
-    each, rounds = options.few((600, 4), (5_000, 60))
+    each, rounds = options.few((600, 4), (5_000, 20))
     result.add(spread(play_streams, [(options, number, each) for number in range(rounds)], jobs))
     result.add(spread(play_groups, [(options, number, options.few(4, 20)) for number in range(options.few(8, 60))], jobs))
     lines, sessions = options.few((2_000, 4), (5_000, 200))

@@ -9,7 +9,8 @@ Beside what a row is told with, `player.wrong` has what no image of a crash may 
 that were answered before the call that was cut, or as that with the change of that call too; and openings that were stopped and made again as
 the same, in an epoch that is greater by one for each.
 
-Equal bytes are opened once, however many rows ask for them. `player.images` counts what was asked for, as the program opens each anew.
+Equal bytes are opened once, however many rows but `images` ask for them, which open each. `player.images` counts what was asked for, as the
+program opens each anew.
 The row `cuts` isn't played.
 """
 import os
@@ -45,12 +46,20 @@ class Opened:
 
     def __init__(self, image):
         book = Book(Device(image))
-        self.half, self.gate_before = len(image) // 2, reading.read(image).gate
+        self.half, self.gate_before = book.half, book.gate_found
         self.epoch, self.gate, self.kept, self.device = book.held.epoch, book.place.gate, book.kept(), book.device
         self.stops, self.left, self.again = None, None, None
 
     def has_switched(self):
         return (self.gate_before < self.half) != (self.gate < self.half)
+
+
+def opened_anew(image):
+    """What an image is opened as, or the name of its refusal."""
+    try:
+        return Opened(image)
+    except Refusal as refusal:
+        return refusal_text(refusal)
 
 
 class Reopened:
@@ -100,8 +109,8 @@ def put(image, changes):
 class Player:
     """A device between two rows, the Book over it where it is open, and what was kept since: at the start, and behind each save."""
 
-    def __init__(self, folder=None):
-        self.folder, self.image, self.book, self.kept, self.words = folder, b"", None, [], chances.Words()
+    def __init__(self, folder=None, checksum=chances.checksum):
+        self.folder, self.image, self.book, self.kept, self.words, self.checksum = folder, b"", None, [], chances.Words(), checksum
         self.known, self.images, self.wrong = {}, 0, []
         # How many saves there were in all; and behind how many calls each was answered since the opening, or None where some weren't noted.
         self.saved, self.answered = 0, []
@@ -111,12 +120,9 @@ class Player:
         return len(self.known)
 
     def opened(self, image):
-        """What an image is opened as, or the name of its refusal."""
+        """What an image is opened as, or the name of its refusal, each image once."""
         if image not in self.known:
-            try:
-                self.known[image] = Opened(image)
-            except Refusal as refusal:
-                self.known[image] = refusal_text(refusal)
+            self.known[image] = opened_anew(image)
         return self.known[image]
 
     def saves(self, kept):
@@ -266,7 +272,7 @@ class Player:
 
     def random_lines(self, rest):
         seed, count = map(int, rest.split(" "))
-        chance, tally, book, others = chances.Chance(seed), chances.Tally(), self.book, 0
+        chance, tally, book, others = chances.Chance(seed), chances.Tally(self.checksum), self.book, 0
         self.words.ticket, kept = "1.1", book.kept()
         for _ in range(count):
             said = book.line(self.words.line(chance))
@@ -391,23 +397,17 @@ class Player:
     def streams(self, rest):
         """That each comes to the same in pieces is what is wanted: the plain reading knows no pieces."""
         seed, count = map(int, rest.split(" "))
-        chance, tally = chances.Chance(seed), chances.Tally()
+        chance, tally, book = chances.Chance(seed), chances.Tally(self.checksum), Book(Device(self.image))
         for _ in range(count):
             some = self.words.stream(chance)
-            text = self.stream_text(some)
-            chances.pieces_of(chance, some)
+            text = stream_text(Session(book.half, HISTORY, book.held.copied()), some)
+            chances.pass_pieces(chance, len(some))
             tally.count(text.partition(": ")[0], text)
         return ["", *tally.told(), f"  in pieces the same: {count}"]
 
-    def stream_text(self, some):
-        session = Session(len(self.image) // 2, HISTORY)
-        messages, fault = read_stream(some)
-        replies = "".join([session.alone(message) + ", " for message in messages])
-        return f"{len(messages)} messages, {STREAM_FAULTS[fault]}: {replies}{reply_text(session.reply(b'show states'))}"
-
     def random_images(self, rest):
         seed, count = map(int, rest.split(" "))
-        chance, tally = chances.Chance(seed), chances.Tally()
+        chance, tally = chances.Chance(seed), chances.Tally(self.checksum)
         for _ in range(count):
             kind, outcome = self.kind_and_outcome(chances.changed_image(chance, self.image))
             tally.count(kind, outcome)
@@ -415,7 +415,7 @@ class Player:
 
     def kind_and_outcome(self, image):
         self.images += 1
-        opened = self.opened(image)
+        opened = opened_anew(image)
         if isinstance(opened, str):
             return opened, opened
         kind = f"opened, gate {opened.gate}, saves {self.saves(opened.kept)}"
@@ -441,6 +441,13 @@ class Player:
         if self.book is None:
             return WHEN_CLOSED[word](self, rest) if word in WHEN_CLOSED else [""]
         return WHEN_OPEN[word](self, rest) if word in WHEN_OPEN else self.call(row)
+
+
+def stream_text(session, some):
+    """How many messages a stream has, and its fault; behind a colon the replies to them, and the states then."""
+    messages, fault = read_stream(some)
+    replies = "".join([session.alone(message) + ", " for message in messages])
+    return f"{len(messages)} messages, {STREAM_FAULTS[fault]}: {replies}{reply_text(session.show('states'))}"
 
 
 def is_played(row):

@@ -12,6 +12,7 @@ names, paths and numbers are allowed is as docs/LINES.md has it.
 It sees nothing of want of memory, of a device that fails, or of a file's name and length that the words ask for.
 """
 import hashlib
+import struct
 from typing import NamedTuple
 
 OPEN = 0xA5
@@ -19,8 +20,9 @@ LEAST_SIZE, MOST_SIZE = 256, 1_073_741_824
 # The bytes of a bank's header, of an opening's record with its gate and the gate behind it, of a rule without its label, and of what stands
 # behind a state's flow.
 HEADER, OPENING, RULE, ALL_ONES = 24, 12, 204, b"\xff" * 8
-# The versions that a bank may have. The newest is written; a rule has a label from the second on.
-VERSIONS, NEWEST, LABELS_FROM = (1, 2), 2, 2
+# The versions that a bank may have. The newest is written; a rule has a label from the second on, a snapshot a tick and a state an expiry
+# from the third.
+VERSIONS, NEWEST, LABELS_FROM, EXPIRY_FROM = (1, 2, 3), 3, 2, 3
 MOST_GENERATION = (1 << 63) - 1
 LAST_EPOCH = (1 << 32) - 1
 MOST_RULES, MOST_RULESETS, MOST_TABLES, MOST_ENTRIES, MOST_STATES = 1024, 1024, 1024, 65_536, 65_536
@@ -30,6 +32,12 @@ NAME_BYTES = frozenset(b"ABCDEFGHIJKLMNOPQRSTUVWXYZabcdefghijklmnopqrstuvwxyz012
 TCP, UDP = 6, 17
 BLOCK, PASS, ANCHOR = 0, 1, 2
 ANY, NETWORK, TABLE = 0, 1, 2
+# What has the same length everywhere, field by field: a bank's header, an entry, a state, a rule up to its label, one of its two hosts.
+HEADER_FIELDS = struct.Struct(">BB6sQI4s")
+ENTRY_FIELDS = struct.Struct(">BBBB16s")
+STATE_FIELDS = struct.Struct(">QIIBBBB16s16sHH8sB3sI16sQ")
+RULE_FIELDS = struct.Struct(">BBBBBB2s16s56s56s64sBB2s")
+HOST_FIELDS = struct.Struct(">BBBBHH16s32s")
 
 
 class Refusal(Exception):
@@ -55,16 +63,23 @@ class Reader:
     def __init__(self, some, version=NEWEST):
         self.some, self.version, self.place = some, version, 0
 
+    def go(self, count):
+        """Goes on by so many bytes, and gives the place before them."""
+        start, self.place = self.place, self.place + count
+        if self.place > len(self.some):
+            raise NoForm
+        return start
+
     def take(self, count):
-        demand(self.place + count <= len(self.some))
-        self.place += count
-        return self.some[self.place - count : self.place]
+        start = self.go(count)
+        return self.some[start : start + count]
 
     def number(self, width):
-        return int.from_bytes(self.take(width), "big")
+        start = self.go(width)
+        return int.from_bytes(self.some[start : start + width], "big")
 
-    def zeros(self, count):
-        demand(not any(self.take(count)))
+    def fields(self, form):
+        return form.unpack_from(self.some, self.go(form.size))
 
     def one_of(self, *allowed):
         byte = self.number(1)
@@ -83,7 +98,7 @@ class Bound(NamedTuple):
 
 
 class State(NamedTuple):
-    """What stands behind a state's name. `bound` is None for the default rule."""
+    """What stands behind a state's name. `bound` is None for the default rule, `expiry` 0 for never."""
 
     generation: int
     direction: int
@@ -94,18 +109,23 @@ class State(NamedTuple):
     source_port: int
     destination_port: int
     bound: Bound | None
+    expiry: int = 0
 
     def flow(self):
         """The same for each two states of one flow: that of the packets that come in."""
         ends = (self.source, self.source_port), (self.destination, self.destination_port)
         return (self.family, self.protocol, *(ends if self.direction == 1 else ends[::-1]))
 
+    def is_due(self, tick):
+        """Whether the tick has reached its expiry."""
+        return 0 < self.expiry <= tick
+
 
 class Held:
-    """What a disk holds: rules by path, entries by path and name, states by id and creator."""
+    """What a disk holds: the tick, rules by path, entries by path and name, states by id and creator."""
 
-    def __init__(self, epoch):
-        self.epoch, self.rulesets, self.tables, self.states, self.flows = epoch, {}, {}, {}, {}
+    def __init__(self, epoch, tick=0):
+        self.epoch, self.tick, self.rulesets, self.tables, self.states, self.flows = epoch, tick, {}, {}, {}, {}
 
     def put_rules(self, path, rules):
         put(self.rulesets, path, rules)
@@ -122,6 +142,12 @@ class Held:
         state = self.states.pop(name, None)
         if state is not None:
             del self.flows[state.flow()]
+
+    def copied(self):
+        """The same, of which nothing changes when this does."""
+        made = Held(self.epoch, self.tick)
+        made.rulesets, made.tables, made.states, made.flows = map(dict, (self.rulesets, self.tables, self.states, self.flows))
+        return made
 
     def checksum(self):
         """MD5 over the bytes of the main rules, with their labels."""
@@ -181,25 +207,23 @@ def filled(some):
 # Addresses, entries and states
 
 
-def address(some, family):
+def is_address(some, family):
     """16 bytes, of which an IPv4 address has the first four and zeros behind them."""
-    demand(family == 6 or not any(some[4:]))
-    return some
+    return family == 6 or some[4:] == bytes(12)
 
 
 def network(family, length, some):
     """An address whose bits behind the length are zeros."""
-    demand(length <= (32 if family == 4 else 128))
-    address(some, family)
+    demand(length <= (32 if family == 4 else 128) and is_address(some, family))
     demand(int.from_bytes(some, "big") & ((1 << 128 - length) - 1) == 0)
     return family, some, length
 
 
 def entry(reader):
     """20 bytes: family, length, 1 where it is negated, a zero, and the address. It gives the network, and whether it is negated."""
-    family, length, negated = reader.one_of(4, 6), reader.number(1), reader.one_of(0, 1)
-    reader.zeros(1)
-    return network(family, length, reader.take(16)), negated == 1
+    family, length, negated, zero, some = reader.fields(ENTRY_FIELDS)
+    demand(family in (4, 6) and negated in (0, 1) and zero == 0)
+    return network(family, length, some), negated == 1
 
 
 def entries(reader):
@@ -218,24 +242,23 @@ def rises(keys):
     return all(one < other for one, other in zip(keys, keys[1:]))
 
 
-def flow(reader):
+def flow(direction, family, protocol, zero, source, destination, *ports):
     """40 bytes of a record: direction, family, protocol, a zero, both addresses and both ports."""
-    direction, family, protocol = reader.one_of(1, 2), reader.one_of(4, 6), reader.number(1)
-    reader.zeros(1)
-    source, destination = (address(reader.take(16), family) for _ in range(2))
-    ports = reader.number(2), reader.number(2)
-    demand(protocol != 0 and (ports == (0, 0) or protocol in (TCP, UDP)))
+    demand(direction in (1, 2) and family in (4, 6) and protocol != 0 and zero == 0)
+    demand(is_address(source, family) and is_address(destination, family) and (ports == (0, 0) or protocol in (TCP, UDP)))
     return direction, family, protocol, source, destination, *ports
 
 
-def bound(reader):
-    """32 bytes: 0 for the default rule or 1 for a main rule, three zeros, its number, a checksum, eight zeros."""
-    kind = reader.one_of(0, 1)
-    reader.zeros(3)
-    number, checksum = reader.number(4), reader.take(16)
-    reader.zeros(8)
-    demand(kind == 1 or (number == 0 and not any(checksum)))
+def bound(kind, zeros, number, checksum):
+    """24 bytes: 0 for the default rule or 1 for a main rule, three zeros, its number, a checksum."""
+    demand(kind in (0, 1) and zeros == bytes(3))
+    demand(kind == 1 or (number == 0 and checksum == bytes(16)))
     return Bound(number, checksum) if kind == 1 else None
+
+
+def tick(reader):
+    """There is none before the third version: then it is 0."""
+    return reader.number(8) if reader.version >= EXPIRY_FROM else 0
 
 
 def state_name(reader):
@@ -243,10 +266,12 @@ def state_name(reader):
 
 
 def state(reader):
-    """96 bytes: id, creator, generation, the flow, eight bytes of all ones, and what it is bound to."""
-    name, generation, parts = state_name(reader), reader.number(4), flow(reader)
-    demand(reader.take(8) == ALL_ONES)
-    return name, State(generation, *parts, bound(reader))
+    """96 bytes: id, creator, generation, the flow, eight bytes of all ones, what it is bound to, and when it expires. In a version before the
+    third that is zeros."""
+    number, creator, generation, *some = reader.fields(STATE_FIELDS)
+    ones, expiry = some[8], some[13]
+    demand(ones == ALL_ONES and (expiry == 0 or reader.version >= EXPIRY_FROM))
+    return (number, creator), State(generation, *flow(*some[:8]), bound(*some[9:13]), expiry)
 
 
 # Rules
@@ -277,39 +302,36 @@ class Rule(NamedTuple):
     label: bytes
 
 
-def port_test(reader):
+def port_test(test, ports):
     """0 none; 1 to 6 by one port; 7 to 9 by two. What doesn't apply is 0."""
-    test, ports = reader.one_of(*range(10)), (reader.number(2), reader.number(2))
-    demand(not any(ports) if test == 0 else test >= 7 or ports[1] == 0)
-    return test, ports
+    demand(test <= 9 and (ports == (0, 0) if test == 0 else test >= 7 or ports[1] == 0))
 
 
-def host(reader, family):
+def host(some, family):
     """56 bytes: kind, negated, length, the test of a port, its two ports, the address, and the table's name in 32."""
-    kind, negated, length = reader.one_of(ANY, NETWORK, TABLE), reader.one_of(0, 1), reader.number(1)
-    test, ports = port_test(reader)
-    some, name = reader.take(16), filled(reader.take(32))
-    demand(kind != ANY or negated == 0)
-    demand(kind == NETWORK or (length == 0 and not any(some)))
+    kind, negated, length, test, *ports, address, name = HOST_FIELDS.unpack(some)
+    ports, name = tuple(ports), filled(name)
+    demand(kind in (ANY, NETWORK, TABLE) and negated in (0, 1) and (kind != ANY or negated == 0))
+    port_test(test, ports)
+    demand(kind == NETWORK or (length == 0 and address == bytes(16)))
     demand(is_name(name, MOST_NAME) if kind == TABLE else name == b"")
     if kind == NETWORK:
         demand(family != 0)
-        network(family, length, some)
-    return Host(kind, negated, length, test, ports, some, name)
+        network(family, length, address)
+    return Host(kind, negated, length, test, ports, address, name)
 
 
-def reference(reader, effect):
+def reference(some, wildcard, effect):
     """65 bytes: a path in 64, 1 where `/*` stood behind it. Only an anchor rule has one."""
-    name, wildcard = filled(reader.take(64)), reader.one_of(0, 1)
+    name = filled(some)
+    demand(wildcard in (0, 1))
     demand(is_path(name, MOST_REFERENCE - 2 * wildcard) if effect == ANCHOR else name == b"" and wildcard == 0)
-    return name, wildcard
+    return name
 
 
-def label(reader, effect):
+def label(reader, length, zeros, effect):
     """3 bytes: how long the label is that stands behind them, two zeros. No anchor rule has one, and no rule of the first version."""
-    length = reader.number(1)
-    reader.zeros(2)
-    demand(length == 0 or (effect != ANCHOR and reader.version >= LABELS_FROM))
+    demand(zeros == bytes(2) and (length == 0 or (effect != ANCHOR and reader.version >= LABELS_FROM)))
     some = reader.take(length)
     demand(length == 0 or is_name(some, MOST_LABEL))
     return some
@@ -325,16 +347,16 @@ def rule_of(some):
 
 def rule_from(reader):
     """204 bytes and those of the label."""
-    effect, direction = reader.one_of(BLOCK, PASS, ANCHOR), reader.one_of(0, 1, 2)
-    quick, keeps, family, protocol = reader.one_of(0, 1), reader.one_of(0, 1), reader.one_of(0, 4, 6), reader.number(1)
-    demand(keeps == 0 or effect == PASS)
-    reader.zeros(2)
-    interface = filled(reader.take(16))
+    (effect, direction, quick, keeps, family, protocol, zeros, interface, source, destination, referred, wildcard, length,
+     more_zeros) = reader.fields(RULE_FIELDS)
+    demand(effect in (BLOCK, PASS, ANCHOR) and direction <= 2 and quick <= 1 and keeps <= 1 and family in (0, 4, 6))
+    demand((keeps == 0 or effect == PASS) and zeros == bytes(2))
+    interface = filled(interface)
     demand(interface == b"" or is_name(interface, MOST_INTERFACE))
-    source, destination = host(reader, family), host(reader, family)
+    source, destination = host(source, family), host(destination, family)
     demand(protocol in (TCP, UDP) or source.test == destination.test == 0)
-    name, wildcard = reference(reader, effect)
-    return Rule(effect, direction, quick, keeps, family, protocol, interface, source, destination, name, wildcard, label(reader, effect))
+    name, named = reference(referred, wildcard, effect), label(reader, length, more_zeros, effect)
+    return Rule(effect, direction, quick, keeps, family, protocol, interface, source, destination, name, wildcard, named)
 
 
 def rule(reader):
@@ -354,9 +376,10 @@ def rules(reader):
 
 
 def read_snapshot(some, version=NEWEST):
-    """What was kept when the bank was begun. No ruleset and no table is empty, each stands in its order, and no state's name or flow twice."""
+    """What was kept when the bank was begun. No ruleset and no table is empty, each stands in its order, and no state's name or flow twice;
+    and no state is due."""
     reader = Reader(some, version)
-    held = Held(reader.number(4))
+    held = Held(reader.number(4), tick(reader))
     read_rulesets(reader, held)
     read_tables(reader, held)
     read_states(reader, held)
@@ -390,7 +413,7 @@ def read_states(reader, held):
     for _ in range(reader.number(4)):
         name, one = state(reader)
         names.append(name)
-        demand(one.flow() not in held.flows)
+        demand(one.flow() not in held.flows and not one.is_due(held.tick))
         held.put_state(name, one)
     demand(rises(names))
 
@@ -408,19 +431,15 @@ def entry_bytes(net, negated):
     return bytes([family, length, negated, 0]) + some
 
 
-def flow_bytes(one):
-    head = bytes([one.direction, one.family, one.protocol, 0])
-    return head + one.source + one.destination + number_bytes(one.source_port, 2) + number_bytes(one.destination_port, 2)
-
-
 def state_bytes(name, one):
-    bound_to = bytes([1, 0, 0, 0]) + number_bytes(one.bound.number) + one.bound.checksum if one.bound else bytes(24)
-    return number_bytes(name[0], 8) + number_bytes(name[1]) + number_bytes(one.generation) + flow_bytes(one) + ALL_ONES + bound_to + bytes(8)
+    flow_of = one.direction, one.family, one.protocol, 0, one.source, one.destination, one.source_port, one.destination_port
+    bound_to = (1, bytes(3), one.bound.number, one.bound.checksum) if one.bound else (0, bytes(3), 0, bytes(16))
+    return STATE_FIELDS.pack(*name, one.generation, *flow_of, ALL_ONES, *bound_to, one.expiry)
 
 
 def snapshot(held):
     """The bytes of a snapshot of what is held, in the newest version."""
-    some = [number_bytes(held.epoch), number_bytes(len(held.rulesets))]
+    some = [number_bytes(held.epoch), number_bytes(held.tick, 8), number_bytes(len(held.rulesets))]
     for key, forms in sorted(held.rulesets.items()):
         some += [text_with_length(key), number_bytes(len(forms)), *forms]
     some.append(number_bytes(len(held.tables)))
@@ -461,7 +480,7 @@ def has_form(payload, version):
 
 def change(reader):
     """The function that makes the change, and what it is called with."""
-    kind = reader.one_of(1, 2, 3, 4, 5, 6, 7)
+    kind = reader.one_of(1, 2, 3, 4, 5, 6, 7, *((8,) if reader.version >= EXPIRY_FROM else ()))
     if kind == 1:
         return commit, items(reader)
     if kind in (2, 3, 4):
@@ -470,6 +489,8 @@ def change(reader):
         return take_steps, [step(reader) for _ in range(reader.number(4))]
     if kind == 6:
         return remove, state_name(reader)
+    if kind == 8:
+        return expire, reader.number(8)
     return begin_epoch, reader.number(4)
 
 
@@ -544,6 +565,8 @@ def step(reader):
 
 
 def take_steps(held, steps):
+    """No state is inserted that is due, even if that would change nothing."""
+    demand(not any(kind == 1 and what[1].is_due(held.tick) for kind, what in steps), NoFit)
     for kind, what in steps:
         take_step(held, kind, what)
         demand(len(held.states) <= MOST_STATES, NoFit)
@@ -573,6 +596,16 @@ def insert(held, name, new):
 
 def remove(held, name):
     held.drop_state(name)
+
+
+def expire(held, tick):
+    """How many states are due at a tick, which doesn't go back, and are gone."""
+    demand(tick >= held.tick, NoFit)
+    held.tick = tick
+    gone = [name for name, one in held.states.items() if one.is_due(tick)]
+    for name in gone:
+        held.drop_state(name)
+    return len(gone)
 
 
 def begin_epoch(held, epoch):
@@ -612,27 +645,23 @@ def read(image):
 
 def counting(image, half):
     """The first place of the bank that counts: of those whose gate is open the one with the greater generation."""
-    starts = [start for start in (0, half) if image[start] == OPEN]
-    if not starts:
+    first, second = image[0] == OPEN, image[half] == OPEN
+    if not first and not second:
         raise Refusal("no bank")
-    generations = [int.from_bytes(image[start + 8 : start + 16], "big") for start in starts]
-    if len(starts) == 2 and generations[0] == generations[1]:
+    if not first or not second:
+        return 0 if first else half, False
+    generation, other = (int.from_bytes(image[start + 8 : start + 16], "big") for start in (0, half))
+    if generation == other:
         raise Refusal("corrupt at 0")
-    return starts[generations.index(max(generations))], len(starts) == 2
+    return 0 if generation > other else half, True
 
 
 def header(bank, start):
     """The version, the generation and the snapshot's length."""
-    reader = Reader(bank)
-    try:
-        reader.take(1)
-        version = reader.one_of(*VERSIONS)
-        reader.zeros(6)
-        generation, length = reader.number(8), reader.number(4)
-        reader.zeros(4)
-        demand(generation <= MOST_GENERATION and HEADER + length + 1 <= len(bank))
-    except NoForm:
-        raise Refusal(f"corrupt at {start}") from None
+    _, version, zeros, generation, length, more_zeros = HEADER_FIELDS.unpack_from(bank)
+    has_form = version in VERSIONS and zeros == bytes(6) and more_zeros == bytes(4)
+    if not has_form or generation > MOST_GENERATION or HEADER + length + 1 > len(bank):
+        raise Refusal(f"corrupt at {start}")
     return version, generation, length
 
 
@@ -676,7 +705,7 @@ def refused(image):
 def told(held):
     """What `pfd show` prints of what is held."""
     counts = [f"rulesets {len(held.rulesets)}", f"tables {len(held.tables)}", f"states {len(held.states)}"]
-    return [f"epoch {held.epoch}", f"sum {held.checksum().hex()}", *counts]
+    return [f"epoch {held.epoch}", f"sum {held.checksum().hex()}", *counts, f"tick {held.tick}"]
 
 
 def shown(image):

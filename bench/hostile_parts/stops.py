@@ -1,22 +1,23 @@
 """Scripts of changes at random, stopped at each call of their device, with fixed seeds: each image that a stop may leave is opened.
 
-Each script is rows for the program crates/pf_store_tests, on a device of 300 to 4,096 bytes, formatted or with a bank of version 1: openings,
-transactions, edits of tables, states that are tracked and killed, peers' messages, labels, groups. Behind each opening's lines the row `crashes`
-stops each call with seven fills of what wasn't synced, of which one is bytes at random, and rows `crash` put other bytes there, or leave a write
-cut. Behind the last, `stopped` stops each call of the openings of what a stop left, and each call of the openings of that. Then a device fails for
-good. Every sixth script also has the rows `torn` and `faults`: each call of an opening and some lines fails in turn, and a write leaves other
-bytes.
+Each script is rows for the program crates/pf_store_tests, on a device of 300 to 4,096 bytes, formatted or with a bank of version 1 or 2: openings,
+transactions, edits of tables, states that are tracked, some until a tick, and killed, ticks, peers' messages, labels, groups. Behind each opening's
+lines the row `crashes` stops each call with seven fills of what wasn't synced, of which one is bytes at random, and rows `crash` put other bytes
+there, or leave a write cut. Behind the last, `stopped` stops each call of the openings of what a stop left, and each call of the openings of that.
+Then a device fails for good. Every sixth script also has the rows `torn` and `faults`: each call of an opening and some lines fails in turn, and a
+write leaves other bytes.
 
 What is compared with what: every row's text as the program tells it, with the text that `player` works out by the plain reading, which doesn't
 know the program. So both open every image, the program each time that it comes, and the player equal bytes of one script once. The text of a
-row has the number of the save behind which what is opened was kept, whole with all rules, tables, states and the checksum of main; the epochs
-that openings give; and how many come to the same. Beside it the player checks that each image of a stop opens as what was kept behind all changes
-that had been answered, or behind the next one too; so it isn't enough that both come to the same.
+row has the number of the save behind which what is opened was kept, whole with all rules, tables, states, the checksum of main and the tick; the
+epochs that openings give; and how many come to the same. Beside it the player checks that each image of a stop opens as what was kept behind all
+changes that had been answered, or behind the next one too; so it isn't enough that both come to the same.
 
 What neither sees: anything kept of other rulesets than main and `web`, on which the scripts' changes are; a device that does otherwise than the
 one in memory, for which there is the part `files`; want of memory.
 """
 import os
+import re
 import shutil
 import subprocess
 
@@ -29,11 +30,13 @@ from .stored import FOLDER, told_rows
 from .streams import NO_RULES
 from .streams import Maker as MessageMaker
 
-# A bank of the first version with nothing in it.
-VERSION_1 = "put 0=a5 1=01 15=01 19=10"
+# Banks of the older versions with nothing in them.
+VERSION_1, VERSION_2 = "put 0=a5 1=01 15=01 19=10", "put 0=a5 1=02 15=01 19=10"
 LEAST_SIZE, MOST_SIZE = 300, 4096
 # How many scripts a run of the program plays, and of how many one has calls that fail.
 TOGETHER, FAILING = 4, 6
+# What a reply says of a tick, alone or in a group.
+EXPIRED = re.compile(r" expired (\d+)")
 # So many bytes are put where a crash may leave any.
 MOST_PUT = 48
 
@@ -105,8 +108,17 @@ class Maker(lines.Maker):
     def state_change(self):
         states = self.session.held.states
         if states and self.random.randrange(3) == 0:
-            return "kill {} {}".format(*self.random.choice(sorted(states)))
-        return self.one_of(f"track {self.state()} {self.packet()}", f"peer {self.message()}")
+            return self.one_of("kill {} {}".format(*self.random.choice(sorted(states))), f"expire {self.time()}")
+        tracks = [f"track {self.state()} {self.packet()}{self.until()}"] * (4 if b"" in self.session.held.rulesets else 1)
+        return self.one_of(*tracks, f"peer {self.message()}", f"expire {self.tick()}")
+
+    def time(self):
+        """A tick at which a state expires, or any."""
+        return self.random.choice([state.expiry for _, state in sorted(self.session.held.states.items()) if state.expiry] or [self.tick()])
+
+    def until(self):
+        later = self.session.held.tick + self.random.randrange(1, 5)
+        return f" until {self.one_of(later, later, later, self.tick())}" if self.random.randrange(3) else ""
 
     def packet(self):
         """Of a few flows."""
@@ -139,28 +151,34 @@ class Maker(lines.Maker):
 class Script:
     """The rows of a script, and what each has to come to."""
 
-    def __init__(self, random):
-        self.random, self.player, self.rows = random, Player(), []
-        # How many saves began the other bank.
-        self.switches = 0
+    def __init__(self, random, player=None):
+        self.random, self.player, self.rows = random, player or Player(), []
+        # How many saves began the other bank, how many of these left an older version, and how many states expired.
+        self.switches, self.newer, self.expired = 0, 0, 0
 
     def row(self, row):
         """Plays a row, so that the next one can depend on it. Gives whether it was saved."""
-        start, saved = self.start(), self.player.saved
+        before, saved = self.place(), self.player.saved
         told = self.player.play(row)
         self.rows.append((row, told))
         is_save = self.player.saved > saved
-        self.switches += is_save and self.start() != start
+        if is_save:
+            self.count(before, self.place(), told[0])
         return is_save
 
-    def start(self):
-        """Where the bank begins that counts."""
-        return self.player.book.place.start if self.player.book else None
+    def place(self):
+        """Of the bank that counts."""
+        return self.player.book.place if self.player.book else None
+
+    def count(self, before, after, told):
+        self.switches += after.start != before.start
+        self.newer += after.version != before.version
+        self.expired += sum(int(number) for number in EXPIRED.findall(told))
 
     def device(self):
         """The rows of a device of any size, with nothing on it but openings."""
-        size = self.random.randrange(LEAST_SIZE, self.random.choice((400, 700, 1300, MOST_SIZE)) + 1) // 2 * 2
-        rows = [f"zeros {size}", self.random.choice(("format", VERSION_1))]
+        size = self.random.randrange(LEAST_SIZE, self.random.choice((400, 1300, 2000, MOST_SIZE)) + 1) // 2 * 2
+        rows = [f"zeros {size}", self.random.choice(("format", VERSION_1, VERSION_2))]
         return rows + [f"openings {self.random.randrange(1, 30)}"] * self.random.randrange(2)
 
     def lines(self, count, saves=None):
@@ -176,9 +194,9 @@ class Script:
         """Some openings of one device with lines behind each, all of whose calls are stopped."""
         for row in self.device():
             self.row(row)
-        for session in range(self.random.randrange(1, 5)):
+        for _ in range(self.random.randrange(1, 5)):
             self.row("open")
-            if session == 0 and self.random.randrange(2):
+            if self.random.randrange(2):
                 self.keep_states()
             self.lines(self.random.randrange(5, 31))
             self.row("snapshot")
@@ -268,7 +286,7 @@ def count(result, number, made):
     player = made.player
     result.wrong += [f"script {number}: {text}" for text in player.wrong]
     result.counts.update(scripts=1, rows=len(made.rows), images=player.images, different=player.different(),
-                         saves=player.saved, switches=made.switches)
+                         saves=player.saved, switches=made.switches, newer=made.newer, expired=made.expired)
 
 
 def play(options):
@@ -282,5 +300,6 @@ def play(options):
     result = spread(play_scripts, jobs, options.processes)
     some = result.counts
     result.tell(f"{some['scripts']:,} scripts of {some['rows']:,} rows, with {some['saves']:,} saves, of which {some['switches']:,} switched")
+    result.tell(f"{some['newer']:,} of these left a bank of an older version; {some['expired']:,} states expired")
     result.tell(f"{some['images']:,} images were opened by the program; {some['different']:,} of them differ, and the plain reading opened these")
     return result

@@ -36,5 +36,5 @@ def play(_options):
             result.tell(f"not played: {row[:40]} ..")
     result.wrong += player.wrong
     count = sum(is_played(row) for row in rows)
-    result.tell(f"{count:,} rows, {player.images:,} images opened, of which {player.different():,} differ")
+    result.tell(f"{count:,} rows, {player.images:,} images opened; {player.different():,} of those that the rows `images` don't make differ")
     return result

@@ -12,6 +12,8 @@ from typing import NamedTuple
 from .reading import TCP, UDP
 
 PEER, LEAST, RECORD, NONE = 5, 20, 64, 0xFFFFFFFF
+# The fields of an insert's record, of a group's front, and of a state's name.
+INSERT_FIELDS, GROUP_FIELDS, NAME_FIELDS = struct.Struct(">QIIBBBB16s16sHHII"), struct.Struct(">BBH"), struct.Struct(">QI")
 MOST_MESSAGE, MOST_ON_A_LINE = 65_535, 2_045
 INSERT, DELETE, CLEAR = 1, 6, 0
 NO_RULES = bytes.fromhex("d41d8cd98f00b204e9800998ecf8427e")
@@ -47,21 +49,18 @@ class Message(NamedTuple):
 
 
 def read_insert(some):
-    head = struct.unpack(">QII", some[:16])
-    direction, family, protocol, zero = some[16:20]
-    source, destination = some[20:36], some[36:52]
-    ports, rule = struct.unpack(">HH", some[52:56]), struct.unpack(">II", some[56:64])
+    number, creator, generation, direction, family, protocol, zero, source, destination, port, other_port, rule, anchor = INSERT_FIELDS.unpack(some)
     allowed = direction in (1, 2) and family in (4, 6) and protocol != 0 and zero == 0
-    short = family == 6 or not any(source[4:] + destination[4:])
-    if not (allowed and short and (ports == (0, 0) or protocol in (TCP, UDP))):
+    short = family == 6 or source[4:] == destination[4:] == bytes(12)
+    if not (allowed and short and (port == other_port == 0 or protocol in (TCP, UDP))):
         raise PeerFault("record")
-    return Insert(head[:2], head[2], direction, family, protocol, source, destination, *ports, *rule)
+    return Insert((number, creator), generation, direction, family, protocol, source, destination, port, other_port, rule, anchor)
 
 
 def read_record(action, some):
     if action == INSERT:
         return INSERT, read_insert(some)
-    name = struct.unpack(">QI", some[:12])
+    name = NAME_FIELDS.unpack_from(some)
     return action, name if action == DELETE else name[1]
 
 
@@ -71,7 +70,7 @@ def read_groups(some):
     while place < len(some):
         if len(some) - place < 4:
             raise PeerFault("length")
-        action, zero, count = struct.unpack(">BBH", some[place : place + 4])
+        action, zero, count = GROUP_FIELDS.unpack_from(some, place)
         if action not in (INSERT, DELETE, CLEAR) or zero != 0:
             raise PeerFault("action")
         place += 4

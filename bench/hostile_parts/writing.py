@@ -26,7 +26,7 @@ def put_at(image, place, some):
 
 def formatted(size):
     image = bytearray(size)
-    put_at(image, 0, bank_bytes(1, bytes(16)))
+    put_at(image, 0, bank_bytes(1, bytes(24)))
     return bytes(image)
 
 
@@ -101,3 +101,7 @@ def steps_bytes(steps):
 
 def removal_bytes(name):
     return b"\6" + number_bytes(name[0], 8) + number_bytes(name[1])
+
+
+def tick_bytes(tick):
+    return b"\10" + number_bytes(tick, 8)
