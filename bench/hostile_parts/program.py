@@ -23,8 +23,7 @@ class Options(NamedTuple):
     seed: int
     is_quick: bool
     processes: int
-    saves: str | None = None
-    seers: str | None = None
+    built: dict[str, str] = {}
     store_tests: str = ""
 
     def few(self, quick, whole):

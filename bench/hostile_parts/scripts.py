@@ -1,8 +1,8 @@
 """The scripts that stand in `bench` for themselves: each allocation refused in turn, and kills by process id under load.
 
-They are called as a user calls them, with the program that was named, and their status says how it went. `bench/saves --refuse` and
-`bench/seers --refuse` play programs of their own, which are proved and built by `--keep` of these scripts: where none is named, that is told, and
-nothing is counted.
+They are called as a user calls them, with the program that was named, and their status says how it went. `bench/saves --refuse`,
+`bench/seers --refuse` and `bench/no-memory` play programs of their own, which are proved and built by `--keep` of these scripts: where none is named,
+that is told, and nothing is counted.
 """
 import os
 import subprocess
@@ -12,6 +12,8 @@ from .program import Result, spread
 BENCH = os.path.dirname(os.path.dirname(os.path.abspath(__file__)))
 QUICK = [("refuse-allocations", "The first session", "The most specific entry of a table"), ("kill-server", "3"), ("kill-peer", "3"), ("kill", "4")]
 WHOLE = [("refuse-allocations",), ("kill-server", "90"), ("kill-peer", "60"), ("kill", "50")]
+# Those that play programs of their own, and the words with which they do.
+BUILT = {"saves": ["--refuse"], "seers": ["--refuse"], "no-memory": []}
 
 
 def play_script(job):
@@ -29,11 +31,11 @@ def play_script(job):
 def refusals(options):
     """The scripts whose programs were named, and what is told of the others."""
     named, result = [], Result()
-    for name, program in (("saves", options.saves), ("seers", options.seers)):
-        if program:
-            named.append((name, "--refuse", "--program", program))
+    for name, words in BUILT.items():
+        if name in options.built:
+            named.append((name, *words, "--program", options.built[name]))
         else:
-            result.tell(f"bench/{name} --refuse: NOT RUN, as no built program was named by --{name}")
+            result.tell(" ".join([f"bench/{name}", *words]) + f": NOT RUN, as no built program was named by --{name}")
     return named, result
 
 
