@@ -1,4 +1,4 @@
-"""The scripts that stand in `bench` for themselves: each allocation refused in turn, and kills by process id under load.
+"""The scripts that stand in `bench` for themselves: each allocation refused in turn, kills by process id under load, and the dearest requests.
 
 They are called as a user calls them, with the program that was named, and their status says how it went. `bench/saves --refuse`,
 `bench/seers --refuse` and `bench/no-memory` play programs of their own, which are proved and built by `--keep` of these scripts: where none is named,
@@ -10,8 +10,9 @@ import subprocess
 from .program import Result, spread
 
 BENCH = os.path.dirname(os.path.dirname(os.path.abspath(__file__)))
-QUICK = [("refuse-allocations", "The first session", "The most specific entry of a table"), ("kill-server", "3"), ("kill-peer", "3"), ("kill", "4")]
-WHOLE = [("refuse-allocations",), ("kill-server", "90"), ("kill-peer", "60"), ("kill", "50")]
+QUICK = [("refuse-allocations", "The first session", "The most specific entry of a table"), ("kill-server", "3"), ("kill-peer", "3"), ("kill", "4"),
+         ("worst", "--quick")]
+WHOLE = [("refuse-allocations",), ("kill-server", "90"), ("kill-peer", "60"), ("kill", "50"), ("worst",)]
 # Those that play programs of their own, and the words with which they do.
 BUILT = {"saves": ["--refuse"], "seers": ["--refuse"], "no-memory": []}
 
