@@ -4,10 +4,11 @@ ghost use Rattle.pf_map.specs.{MapParts.{first_of, joined, FollowsFrom}, Pieces.
 
 use crate::entry::Held;
 use crate::key::{Key, Probe};
-use crate::part::{Page, Part, Single};
+use crate::level::Leaf;
+use crate::page::Page;
+use crate::part::{Part, Single};
 use crate::pieces::Pieces;
 use crate::slot::Slot;
-use crate::tree_map::Leaf;
 use std::alloc::{AllocError, Global};
 use std::marker::Model;
 use std::sync::Arc;

@@ -4,9 +4,10 @@ ghost use Rattle.pf_map.specs.MapParts.{joined};
 
 use crate::entry::Held;
 use crate::key::Key;
-use crate::part::{Page, Single};
+use crate::level::{Leaf, Middle};
+use crate::page::Page;
+use crate::part::Single;
 use crate::slot::Slot;
-use crate::tree_map::{Leaf, Middle};
 use std::marker::Model;
 
 /// The entries of a map that are left to come, in order: what is left of one page in each level. Contracts see it as the list.

@@ -4,9 +4,9 @@ ghost use Rattle.pf_map.specs.{Maps.{with_value, entry_at, at_or_before}, MapPar
 
 use crate::entry::Held;
 use crate::key::{Key, Probe};
-use crate::part::{Page, Part, Single};
+use crate::page::{Page, each_alone};
+use crate::part::{Part, Single};
 use crate::pieces::Pieces;
-use crate::raised::each_alone;
 use crate::slot::Slot;
 use std::alloc::{AllocError, Global};
 use std::marker::Model;
@@ -20,6 +20,12 @@ pub(crate) const PAGE_LIMIT: usize = 31;
 pub struct Level<K: Key, V: Drop, E: Held<K, V>, P: Part<K, V, E>> {
     slots: Arc<Vec<Slot<K, V, E, P>>>,
 }
+
+/// A page of entries.
+pub type Leaf<K, V, E> = Level<K, V, E, Single<K, V, E>>;
+
+/// A page of pages of entries.
+pub type Middle<K, V, E, L> = Level<K, V, E, L>;
 
 impl<K: Key, V: Drop, E: Held<K, V>, P: Part<K, V, E>> Drop for Level<K, V, E, P> {
     fn drop(self) {

@@ -9,10 +9,10 @@
 //! way to what it changes.
 //!
 //! `key` is what maps are ordered by; `entry` is what stands at a key, and `weight` what entries weigh together. A tree consists of parts
-//! (`part`), which a `level` holds in slots (`slot`); `pieces` is what becomes of a part that was changed, `raised` makes levels over parts
-//! that are there already, and `beside` keeps with a page what follows from its entries. `tree_map` is the tree and `entries` goes over
-//! it; `paged_map` and `index` stand on trees, the latter with `by_flow`, the entries under their second keys. `laws` has what follows
-//! from the definitions.
+//! (`part`), which a `level` holds in slots (`slot`), and a `page` is a part that holds entries; `pieces` is what becomes of a part that
+//! was changed, `raised` makes levels over parts that are there already, and `beside` keeps with a page what follows from its entries.
+//! `tree_map` is the tree and `entries` goes over it; `paged_map` and `index` stand on trees, the latter with `by_flow`, the entries under
+//! their second keys. `laws` has what follows from the definitions.
 #![tactic(auto)]
 
 mod beside;
@@ -23,6 +23,7 @@ mod index;
 mod key;
 pub mod laws;
 mod level;
+mod page;
 mod paged_map;
 mod part;
 mod pieces;

@@ -197,6 +197,13 @@ impl<K: Key, V: Content, W: Weigher<K, V>> PagedMap<K, V, W> {
         })
     }
 
+    /// How many entries it has. It looks at none of them.
+    pub fn len(&self) -> usize
+        ensures { result ≡ length self.now }
+    {
+        self.map.len()
+    }
+
     /// Whether it has more entries than this.
     pub fn is_more_than(&self, limit: usize) -> bool
         ensures { result ≡ nat_lt limit (length self.now) }

@@ -1,11 +1,10 @@
 //! Parts of maps.
-ghost use Rattle.std.specs.{Prelude.{◌≡◌, ◌<◌, T, length, map, List, [], ◌∷◌, Some, IfOk, IfSome}, FinMap.is_sorted, Option.option_map};
-ghost use Rattle.pf_map.specs.{Maps.{with_value, entry_at, at_or_before}, MapParts.{first_of, joined}, Pieces.all_of};
+ghost use Rattle.std.specs.{Prelude.{◌≡◌, T, List, [], ◌∷◌, Some, IfOk, IfSome}, FinMap.is_sorted, Option.option_map};
+ghost use Rattle.pf_map.specs.{Maps.{with_value, entry_at, at_or_before}, MapParts.{first_of}, Pieces.all_of};
 
 use crate::entry::Held;
 use crate::key::{Key, Probe};
 use crate::pieces::Pieces;
-use crate::slot::Slot;
 use std::alloc::{AllocError, Global};
 use std::cmp::Ordering;
 use std::marker::{Model, PhantomData};
@@ -53,19 +52,6 @@ pub trait Part<K: Key, V: Drop, E: Held<K, V>>: Drop {
         requires named { IfSome new (λ e. (E.pair e.now).0 ≡ Q.key sought.now) }
         requires sorted { T (is_sorted K.order (entries self)) }
         ensures { IfOk result (λ p. all_of entries p ≡ with_value K.order (entries self) (Q.key sought.now) (option_map (λ e. (E.pair e.now).1) new.entry)) };
-}
-
-/// A page of entries.
-pub trait Page<K: Key, V: Drop, E: Held<K, V>>: Part<K, V, E> {
-    /// The page of these entries, one at least. `AllocError`: nothing is made.
-    fn of_entries(alloc: Global, page: &[E]) -> Result<Self, AllocError>
-        requires { 0 < length page.now }
-        ensures { IfOk result (λ p. Self.entries p ≡ map E.pair page.now) };
-
-    /// Its entries.
-    fn slots(&self) -> &[Slot<K, V, E, Single<K, V, E>>]
-        ensures value { joined result.now ≡ Self.entries self.now }
-        ensures some { 0 < length result.now };
 }
 
 /// An entry as a part. Contracts see it as its pair.

@@ -5,23 +5,10 @@ ghost use Rattle.pf_map.specs.MapParts.{joined};
 use crate::entry::Held;
 use crate::key::Key;
 use crate::level::{Level, PAGE_LIMIT};
-use crate::part::{Page, Part, Single};
+use crate::page::Page;
+use crate::part::Part;
 use crate::slot::Slot;
 use std::alloc::{AllocError, Global};
-
-/// Each entry as a part of its own.
-pub(crate) fn each_alone<K: Key, V: Drop, E: Held<K, V>>(
-    alloc: Global,
-    entries: &[E],
-) -> Result<Vec<Slot<K, V, E, Single<K, V, E>>>, AllocError>
-    ensures { IfOk result (λ v. joined v.items ≡ map E.pair entries.now) }
-{
-    let mut slots = Vec::with_capacity(alloc, entries.len())?;
-    for entry in entries {
-        slots.push(Slot::new(Part::of_entry(alloc, entry)?))?;
-    }
-    Ok(slots)
-}
 
 /// These entries in pages, in order, each page but the last with as many as it may have. `AllocError`: nothing is made.
 pub(crate) fn leaves<K: Key, V: Drop, E: Held<K, V>, L: Page<K, V, E>>(

@@ -5,18 +5,13 @@ ghost use Rattle.pf_map.specs.{Maps.{with_value, without, entry_at, at_or_before
 use crate::entries::Entries;
 use crate::entry::Held;
 use crate::key::{Key, Probe};
-use crate::level::{Level, find_in, last_up_to_in, part_up_to, replaced_in};
-use crate::part::{Page, Part, Single};
+use crate::level::{Leaf, Level, Middle, find_in, last_up_to_in, part_up_to, replaced_in};
+use crate::page::Page;
+use crate::part::Part;
 use crate::raised::{leaves, middles};
 use crate::slot::Slot;
 use std::alloc::{AllocError, Global};
 use std::marker::Model;
-
-/// A page of entries.
-pub type Leaf<K, V, E> = Level<K, V, E, Single<K, V, E>>;
-
-/// A page of pages of entries.
-pub type Middle<K, V, E, L> = Level<K, V, E, L>;
 
 // The page above all others.
 type Top<K, V, E, L> = Level<K, V, E, Middle<K, V, E, L>>;
