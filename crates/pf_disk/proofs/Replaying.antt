@@ -1,6 +1,6 @@
 -- The calls of a `MemDisk`, one after the other.
 use Rattle.std.proofs.{Common.{◌≡◌, ℕ, zero, suc, ◌+◌, ◌<◌, Bool, true, false, ◌&&◌, cond, List, [], ◌∷◌, length, get_or, take, map, refl, sym, ◌∙◌, ap, arith}, lemmas.List.{take_more, map-append}}
-use Rattle.pf_disk.specs.declared.{memory.Call.Call, memory.Call.TheVariants.{Read, Write, Sync}}
+use Rattle.pf_disk.specs.declared.{call.Call.Call, call.Call.TheVariants.{Read, Write, Sync}}
 use Rattle.pf_disk.specs.{Kept.event_of, Calls.{Event, State, after, after_event, is_sync, is_sync_at, counting, fits_in, all_fit}}
 use Rattle.pf_disk.proofs.Calls.{after-push, size-after}
 

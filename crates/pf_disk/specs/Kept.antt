@@ -1,5 +1,5 @@
 -- A call as it is kept.
-use Rattle.pf_disk.specs.declared.{memory.Call.Call, memory.Call.TheVariants.{Read, Write, Sync}}
+use Rattle.pf_disk.specs.declared.{call.Call.Call, call.Call.TheVariants.{Read, Write, Sync}}
 use Rattle.pf_disk.specs.Calls.{Event, reading, writing, syncing}
 
 abbrev pub event_of : Call → Event

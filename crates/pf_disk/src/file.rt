@@ -3,8 +3,8 @@ ghost use Rattle.std.specs.Prelude.{◌≡◌, ◌+◌, ◌^◌, ◌<◌, ◌≤
 ghost use Rattle.pf_disk.specs.{Calls.{at_rest, after, all_fit, LeftSince}, Disk.{IsImage, IsSynced, AreIn, is_within, with_range, overwritten, Elapses, CountsFault}, Past.{now_counts, now_only}};
 ghost use Rattle.pf_disk.specs.declared.file.FileFault.TheVariants.{Memory};
 
+use crate::call::overwrite;
 use crate::history::History;
-use crate::memory::overwrite;
 use crate::{Disk, DiskFault};
 use std::alloc::{AllocError, Global};
 use std::fs::File;

@@ -2,7 +2,7 @@
 ghost use Rattle.std.specs.Prelude.{◌≡◌, ◌+◌, ◌-◌, ◌^◌, ◌<◌, ◌≤◌, ◌||◌, Bool, true, false, List, ℕ, length, map, IfOk, OnOk, if◌then◌else◌, slice_index, slice_index_or};
 ghost use Rattle.pf_disk.specs.{Disk.{overwritten, is_within}, Calls.{State, at_rest, after_event, after, fits_in, all_fit}, Kept.event_of, Filled.{fill_byte, FillsAll, IsFilled, Shows}};
 
-use crate::memory::{Call, overwrite};
+use crate::call::{Call, overwrite};
 use std::alloc::{AllocError, Global};
 
 /// The byte that opens a gate of the layers above. No other byte does.

@@ -2,17 +2,10 @@
 ghost use Rattle.std.specs.Prelude.{◌≡◌, ◌+◌, ◌^◌, ◌<◌, ◌≤◌, ◌++◌, [], ◌∷◌, true, ℕ, length, map, take, drop, IfOk, OnOk, OnErr, Ok};
 ghost use Rattle.pf_disk.specs.{Calls.{at_rest, after, all_fit, LeftSince, reading, writing, syncing}, Kept.event_of, Disk.{CountsFault, IsImage, IsSynced, AreIn, Elapses, is_within, with_range, overwritten}, Past.{now_counts, now_only}};
 
+use crate::call::{Call, overwrite};
 use crate::image::{Fill, Replay, filled, replayed};
 use crate::{Disk, DiskFault};
 use std::alloc::{AllocError, Global};
-
-/// A call that was made.
-#[derive(Drop)]
-pub(crate) enum Call {
-    Read,
-    Write { at: usize, bytes: Vec<u8> },
-    Sync,
-}
 
 /// A device in memory, which keeps all its calls, so that a crash during any of them can be looked at. They are numbered
 /// from 1. A call that can't be kept for lack of memory is a fault, changes nothing else and has no number.
@@ -223,11 +216,4 @@ impl Disk for MemDisk {
             Ok(()) => Ok(()),
         }
     }
-}
-
-pub(crate) fn overwrite(bytes: &mut Vec<u8>, at: usize, new: &[u8])
-    requires { at + length new.now ≤ length bytes.old.items }
-    ensures { bytes.new.items ≡ overwritten bytes.old.items at new.now }
-{
-    bytes[at..at + new.len()].copy_from_slice(new);
 }

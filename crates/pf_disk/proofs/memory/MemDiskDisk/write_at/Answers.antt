@@ -1,5 +1,5 @@
 use Rattle.std.proofs.Common.{◌≡◌, ◌+◌, ◌≤◌, ◌++◌, ◌∷◌, [], List, ℕ, refl, ap, ◌∙◌, length, map}
-use Rattle.pf_disk.specs.declared.{memory.MemDisk.MemDisk, memory.Call.Call}
+use Rattle.pf_disk.specs.declared.{memory.MemDisk.MemDisk, call.Call.Call}
 use Rattle.pf_disk.specs.{Disk.overwritten, Calls.{Event, writing}, Kept.event_of}
 use Rattle.pf_disk.proofs.Calls.{Wrote, wrote}
 use Rattle.pf_disk.proofs.memory.MemDiskDisk.write_at.Goals as goal
