@@ -1,10 +1,10 @@
 -- Paths within one another: which bytes the code compares, and that what is within a path is deeper.
-use Rattle.std.proofs.{Common.{◌≡◌, ◌≢◌, ℕ, ◌+◌, ◌==◌, ◌<◌, ◌≤◌, Bool, true, false, cond, List, [], ◌∷◌, ◌++◌, length, take, drop, Some, None, Option, refl, sym, ap, subst, ◌∙◌, append_assoc, arith}, Math.Seq.{take-append_seam, drop-append_seam}, lemmas.Bool.Decides.nat_tests, lemmas.List.{take-append-drop, append_cancel_left}, lemmas.List.Sums.{sum_by-append, sum_by-cons}, lemmas.Slice.Eq.bytes_eq-Decides}
+use Rattle.std.proofs.{Common.{◌≡◌, ◌≢◌, ℕ, ◌+◌, ◌==◌, ◌<◌, ◌≤◌, Bool, true, false, cond, List, [], ◌∷◌, ◌++◌, length, take, drop, Some, None, Option, refl, sym, ap, subst, ◌∙◌, append_assoc, arith}, Math.Seq.{take-append_seam, drop-append_seam}, lemmas.Bool.Decides.nat_tests, lemmas.List.{take-append-drop, append_cancel_left, length-append}, lemmas.List.Sums.{sum_by-append, sum_by-cons}, lemmas.Slice.Eq.bytes_eq-Decides}
 use Rattle.std.specs.{Prelude.{◌&&◌, ◌||◌, nat_lt, not, count_by, if◌then◌else◌}, List.list_any, Option.{is_none, option_or}}
-use Rattle.pf_addr.specs.declared.path.limits.TheConstants.{DEPTH_LIMIT}
+use Rattle.pf_addr.specs.declared.path.limits.TheConstants.{PATH_LIMIT, DEPTH_LIMIT}
 use Rattle.pf_form.specs.declared.form.fault.Kind.{Kind}
-use Rattle.pf_addr.specs.{Path.Paths.{is_slash, components, first_fault, depth_fault, path_fault}, Path.Nested.{depth, front, within, path_within, is_single, is_child}, Laws.Path.Nested.{NoDeeper, LeadsDeeper, ChildHasOneMore, EachIsAChild}}
-use Rattle.pf_addr.proofs.{PathTexts.count_components, PathsRead.{none_parts, none_of}}
+use Rattle.pf_addr.specs.{Path.Paths.{is_slash, components, first_fault, depth_fault, path_fault}, Path.Nested.{depth, front, within, path_within, is_single, is_child}, Path.References.{PlainReference, ending}, Path.ReferenceGrammar.IsReference, Laws.Path.Nested.{NoDeeper, LeadsDeeper, ChildHasOneMore, EachIsAChild}}
+use Rattle.pf_addr.proofs.{PathTexts.count_components, PathsRead.{none_parts, none_of, names_found}}
 
 -- ---- one component more
 
@@ -115,3 +115,11 @@ has_one_more p q is =
 
 pub each_is_child : EachIsAChild
 each_is_child p c is = child_is p (within p c) c refl ∙ is
+
+-- ---- from the main ruleset
+
+pub from_main : (r : PlainReference) → IsReference r → path_within [] r.names ≡ Some r.names
+unfolding path_within
+from_main r is =
+    let short : length r.names ≤ PATH_LIMIT = omega (arith, is.short, length-append r.names (if r.wildcard then ending else [])) in
+    rw (names_found PATH_LIMIT r.names r.names is.names short) refl

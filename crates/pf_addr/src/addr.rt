@@ -1,9 +1,10 @@
 //! Addresses.
 ghost use Rattle.std.specs.Prelude.{◌≡◌, IfOk, Ok};
-ghost use Rattle.pf_addr.specs.{Address.{family_of, width}, Grammar.SpellsAddr, Reading.addr_at};
+ghost use Rattle.pf_addr.specs.{Address.{family_of, width}, Grammar.SpellsAddr, Reading.{addr_at, address_at}};
 
 use crate::fault::AddrFault;
-use crate::reading::read_address;
+use crate::groups::read_v6;
+use crate::reading::{place_of, read_v4};
 
 /// How many bits an IPv4 address has.
 pub const V4_BITS: u8 = 32;
@@ -74,5 +75,20 @@ impl Addr {
         ensures exact { result ≡ addr_at text.now }
     {
         Addr::from_ascii(text.as_bytes())
+    }
+}
+
+/// Reads an address: V6 if the text has a colon, otherwise V4 with at least `fewest` parts; missing ones are zero.
+#[tactic(auto, unfolding(crate::specs::Reading::address_at))]
+pub(crate) fn read_address(fewest: usize, text: &[u8]) -> Result<Addr, AddrFault>
+    ensures { result ≡ address_at fewest text.now }
+{
+    if text.is_empty() {
+        return Err(AddrFault::Empty { at: 0 });
+    }
+    if place_of(b':', text).is_some() {
+        Ok(Addr::V6(read_v6(text)?))
+    } else {
+        Ok(Addr::V4(read_v4(fewest, 0, text)?))
     }
 }

@@ -2,9 +2,9 @@
 ghost use Rattle.std.specs.Prelude.{◌≡◌, ℕ, ◌-◌, ◌*◌, ◌/◌, ◌^◌, ◌≤◌, ◌<◌, length, IfOk, Ok};
 ghost use Rattle.pf_addr.specs.{Address.{PlainNet, contains, width, family_of, network_from, network_of}, Grammar.SpellsNet, Reading.{net_at, cut_at}, Spelling.first_addr};
 
-use crate::addr::{Addr, Family, V4_BITS, V6_BITS};
+use crate::addr::{Addr, Family, V4_BITS, V6_BITS, read_address};
 use crate::fault::AddrFault;
-use crate::reading::{place_of, read_address, read_prefix_len};
+use crate::reading::{place_of, read_prefix_len};
 use std::marker::Model;
 
 /// A network: the addresses of one family that begin with the same bits. The bits past the front are zero.

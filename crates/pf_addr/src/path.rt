@@ -11,6 +11,7 @@ mod path_form;
 mod path_text;
 mod reference;
 
+pub use keys::PathBytes;
 pub use limits::{COMPONENT_LIMIT, DEPTH_LIMIT, PATH_LIMIT, REFERENCE_LIMIT, TABLE_NAME_LIMIT};
 pub use name::{Name, TableName};
 pub(crate) use names::has_name_bytes;

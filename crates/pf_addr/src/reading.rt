@@ -1,12 +1,10 @@
-//! Reading addresses, and the numbers between the dots of an IPv4 address.
+//! Reading IPv4 addresses, the numbers between their dots, and prefix lengths.
 ghost use Rattle.std.specs.{Prelude.{◌≡◌, ◌+◌, ◌^◌, ◌<◌, ◌==◌, ◌-◌, [], ◌∷◌, length, set, IfSome}, Char.digit_value, List.position};
 ghost use Rattle.pf_addr.specs.declared.reading.TheConstants.{NUMBER_DIGITS};
-ghost use Rattle.pf_addr.specs.{Grammar.is_other, Collected.parts_kept, Reading.{small_number, part_at, part_fault, v4_at, address_at, length_at}};
+ghost use Rattle.pf_addr.specs.{Grammar.is_other, Collected.parts_kept, Reading.{small_number, part_at, part_fault, v4_at, length_at}};
 ghost use Rattle.pf_form.specs.Form.Numbers.{number_of};
 
-use crate::addr::Addr;
 use crate::fault::AddrFault;
-use crate::groups::read_v6;
 
 /// How many digits a part or a prefix length may have, including leading zeros.
 pub(crate) const NUMBER_DIGITS: usize = 3;
@@ -31,21 +29,6 @@ impl Parts {
             self.bytes[self.count] = byte;
         }
         self.count += 1;
-    }
-}
-
-/// Reads an address: V6 if the text has a colon, otherwise V4 with at least `fewest` parts; missing ones are zero.
-#[tactic(auto, unfolding(crate::specs::Reading::address_at))]
-pub(crate) fn read_address(fewest: usize, text: &[u8]) -> Result<Addr, AddrFault>
-    ensures { result ≡ address_at fewest text.now }
-{
-    if text.is_empty() {
-        return Err(AddrFault::Empty { at: 0 });
-    }
-    if place_of(b':', text).is_some() {
-        Ok(Addr::V6(read_v6(text)?))
-    } else {
-        Ok(Addr::V4(read_v4(fewest, 0, text)?))
     }
 }
 

@@ -5,7 +5,7 @@ ghost use Rattle.pf_addr.specs.Path.FirstBytes.{front_number, front_rises};
 
 use crate::path::name::Name;
 use crate::path::path::Path;
-use pf_map::Key;
+use pf_map::{Key, Probe};
 use std::cmp::Ordering;
 
 // The byte at a place; zero past the end.
@@ -48,6 +48,29 @@ impl Key for Path {
     ghost alike = { slice_cmp-IsAntisymmetric nat_cmp-IsAntisymmetric };
 
     ghost rises = { front_rises 8 };
+}
+
+/// What a path is looked for by where none is made, which is long to copy: the bytes that it has. Bytes that are no path's are never found.
+#[derive(Clone, Copy)]
+pub struct PathBytes<'a> {
+    pub bytes: &'a [u8],
+}
+
+impl<'a> Probe<Path> for PathBytes<'a> {
+    ghost key = { λ p. p.bytes.now };
+
+    fn order(&self, other: &Path) -> Ordering {
+        self.bytes.cmp(other.as_bytes())
+    }
+
+    #[tactic(auto, using(crate::proofs::PathTexts::same_bytes))]
+    fn same(&self, other: &Path) -> bool {
+        self.bytes == other.as_bytes()
+    }
+
+    fn hint(&self) -> u64 {
+        front_number(self.bytes)
+    }
 }
 
 impl<const LIMIT: usize> Key for Name<LIMIT> {

@@ -1,7 +1,8 @@
 //! References to rulesets.
-ghost use Rattle.std.specs.Prelude.{◌≡◌, ◌≤◌, length, None};
-ghost use Rattle.pf_addr.specs.{Path.References.{refers, unquoted, split_wildcard, reference_in, reference_of}, Path.ReferenceGrammar.IsReference};
+ghost use Rattle.std.specs.Prelude.{◌≡◌, ◌≤◌, length, None, Some};
+ghost use Rattle.pf_addr.specs.{Path.Paths.main, Path.Nested.path_within, Path.References.{refers, unquoted, split_wildcard, reference_in, reference_of}, Path.ReferenceGrammar.IsReference};
 
+use crate::path::keys::PathBytes;
 use crate::path::limits::REFERENCE_LIMIT;
 use crate::path::path_text::fault_in;
 use pf_form::form::Kind;
@@ -69,6 +70,15 @@ impl Reference {
         ensures kept { IsReference self.now }
     {
         &self.bytes[..self.len as usize]
+    }
+
+    /// The path that its names lead to from the main ruleset: the names alone (pf.conf(5), ANCHORS).
+    pub fn from_main(&self) -> PathBytes<'_>
+        ensures { path_within main self.now.names ≡ Some result.bytes.now }
+    {
+        PathBytes {
+            bytes: self.names(),
+        }
     }
 
     /// Whether it means the rulesets directly under its path, and not the one at it.
