@@ -7,8 +7,8 @@ use Rattle.pf_addr.specs.declared.addr.Family.{Family}
 use Rattle.pf_addr.proofs.ReferencesRead.{read_is_spelled}
 use Rattle.pf_rule.specs.{Value.Values.{IsInterfaceName, IsProtocol, has_ports}, Value.Ports.ports_fit, Host.Hosts.IsHost, Host.Ends.IsEnd, Packets.{PlainPacket, IsPacket}, Rules.{PlainRule, IsEffect, IsRule, HostFits, LabelFits}, PacketGrammar.{packet_with, of_one_family, packet}, RuleGrammar.{opening, effect_of, decides, label, rule_with, one_family, agreeing_with, agreeing, rule, rule_decided}}
 use Rattle.pf_rule.proofs.{ValueKept.{interface_kept, protocol_kept, label_kept, address_kept, port_kept, interface_is, protocol_is}, HostKept.ends_are}
-use Rattle.pf_rule.specs.declared.{rule.RuleStart.RuleStart, host.host.Host.Host, fault.Mistake.Mistake}
-use Rattle.pf_rule.specs.declared.rule.RuleStart.TheVariants as openings
+use Rattle.pf_rule.specs.declared.{rule_words.RuleStart.RuleStart, host.host.Host.Host, fault.Mistake.Mistake}
+use Rattle.pf_rule.specs.declared.rule_words.RuleStart.TheVariants as openings
 
 -- ---- a rule
 

@@ -4,8 +4,8 @@ use Rattle.std.proofs.Common.{refl}
 use Rattle.pf_addr.specs.{Path.References.{PlainReference, refers, reference_of}, Address.same_family, Reading.{part_at, pieces_at, v4_at, address_at}}
 use Rattle.pf_form.specs.Form.{Readers.if_there, Forms.{Form, word, nothing, key, or, pair, pair_by, making, is_decided}}
 use Rattle.pf_addr.specs.declared.addr.Family.{Family}
-use Rattle.pf_rule.specs.declared.{rule.Action.TheVariants.{Pass, Block}, rule.Effect.Effect, rule.Effect.TheVariants.{Decide, Evaluate}, rule.RuleStart.RuleStart, value.direction.Direction.Direction, host.host.Host.Host, fault.Mistake.Mistake, fault.Mistake.TheVariants.{MixedFamily, PortNeedsProto}}
-use Rattle.pf_rule.specs.declared.rule.RuleStart.TheVariants as openings
+use Rattle.pf_rule.specs.declared.{rule.Action.TheVariants.{Pass, Block}, rule.Effect.Effect, rule.Effect.TheVariants.{Decide, Evaluate}, rule_words.RuleStart.RuleStart, value.direction.Direction.Direction, host.host.Host.Host, fault.Mistake.Mistake, fault.Mistake.TheVariants.{MixedFamily, PortNeedsProto}}
+use Rattle.pf_rule.specs.declared.rule_words.RuleStart.TheVariants as openings
 use Rattle.pf_rule.specs.{Value.Values.a_label, Value.Tests.{direction, interface, family, protocol}, Value.Ports.{port, port_test, order_or_range, compared, ranged, range_end, ports_fit}, Host.Hosts.{a_negated_host, a_host, host, host_family}, Host.Ends.{End, end, destination, ends}, Rules.PlainRule}
 
 -- what an anchor rule names

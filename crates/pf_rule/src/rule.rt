@@ -6,7 +6,7 @@ ghost use Rattle.pf_rule.specs.{RuleGrammar.{rule, agreed, one_family, agreeing,
 use crate::fault::{Mistake, TextFault, tell};
 use crate::host::{Host, TableAnswers, read_ends};
 use crate::packet::Packet;
-use crate::rule_words::{read_label, read_opening, read_state};
+use crate::rule_words::{RuleStart, read_label, read_opening, read_state};
 use crate::value::{
     Direction, Interface, Label, PortTest, Protocol, is_wanted, ports_fit, read_direction,
     read_family, read_interface, read_protocol, takes_port,
@@ -33,17 +33,6 @@ pub enum Effect {
     Decide(Action),
     /// The rulesets that this names are evaluated in its place (`anchor`; pf.conf(5), ANCHORS). The rule itself decides nothing.
     Evaluate(Reference),
-}
-
-/// How a rule's text begins.
-#[derive(Clone, Copy)]
-pub(crate) enum RuleStart {
-    /// `pass`.
-    Pass,
-    /// `block`.
-    Block,
-    /// `anchor` and what it names.
-    Anchor(Reference),
 }
 
 /// What a rule says (pf.conf(5), PACKET FILTERING and PARAMETERS). Contracts see a [`Rule`] as these fields (`PlainRule`), each as they

@@ -1,12 +1,22 @@
-//! Reading the parts of a rule, each from the front of the remaining words.
+//! How a rule's text begins, and reading the parts of a rule, each from the front of the remaining words.
 ghost use Rattle.pf_form.specs.Form.Readers.{Moves};
 ghost use Rattle.pf_rule.specs.RuleGrammar.{a_reference, label, opening, state};
 
-use crate::rule::RuleStart;
 use crate::take_word;
 use crate::value::{Label, label_word};
 use pf_addr::path::Reference;
 use pf_form::form::{Stop, Words, expect, takes};
+
+/// How a rule's text begins.
+#[derive(Clone, Copy)]
+pub(crate) enum RuleStart {
+    /// `pass`.
+    Pass,
+    /// `block`.
+    Block,
+    /// `anchor` and what it names.
+    Anchor(Reference),
+}
 
 fn reference_word<'a>(words: &mut Words<'a>) -> Result<Reference, Stop>
     ensures { Moves a_reference result words.old.now words.new.now }

@@ -2,6 +2,7 @@
 //! whether its rules are the same.
 
 mod end_layout;
+mod field;
 mod form;
 mod host_form;
 mod laws;

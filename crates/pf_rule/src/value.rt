@@ -25,6 +25,7 @@ pub(crate) use port_words::read_port;
 pub use ports::{Comparison, PortRange, PortTest};
 pub(crate) use ports::{ports_fit, takes_port};
 pub use protocol::Protocol;
+pub use test_text::write_more_protocol;
 pub(crate) use test_text::{
     direction_text, family_text, write_interface, write_port, write_protocol,
 };

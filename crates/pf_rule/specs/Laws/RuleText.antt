@@ -6,8 +6,8 @@ use Rattle.pf_form.specs.declared.form.fault.Kind.{Kind}
 use Rattle.pf_addr.specs.Path.{References.{PlainReference, reference_of, reference_text, quoted}, ReferenceGrammar.IsReference}
 use Rattle.pf_form.specs.{Form.{Words.{Word, words_of}, Forms.{Spells, read_all}, Readers.if_there}, Laws.Form.Texts.only}
 use Rattle.pf_addr.proofs.{NamesRead.name_bytes, ReferencesRead.{spelled_is_read, quoted_bytes}}
-use Rattle.pf_rule.specs.declared.{rule.Effect.Effect, rule.Effect.TheVariants.{Decide, Evaluate}, rule.RuleStart.RuleStart, rule.Action.TheVariants.{Pass, Block}, host.host.Host.Host, host.host.Host.TheVariants.{Any, Net, Table}, fault.Mistake.Mistake}
-use Rattle.pf_rule.specs.declared.rule.RuleStart.TheVariants as openings
+use Rattle.pf_rule.specs.declared.{rule.Effect.Effect, rule.Effect.TheVariants.{Decide, Evaluate}, rule_words.RuleStart.RuleStart, rule.Action.TheVariants.{Pass, Block}, host.host.Host.Host, host.host.Host.TheVariants.{Any, Net, Table}, fault.Mistake.Mistake}
+use Rattle.pf_rule.specs.declared.rule_words.RuleStart.TheVariants as openings
 use Rattle.pf_rule.specs.declared.value.label.TheConstants.{LABEL_LIMIT}
 use Rattle.pf_rule.specs.{Host.Hosts.{IsHost, host_family}, Laws.Host.Ends.ends_written, Laws.Value.Labels.label_only, Value.Values.{IsLabel, label_of}, Rules.{PlainRule, IsEffect, IsRule, HostFits, LabelFits}, RuleGrammar.{opening, state, label, passes, decides, effect_of, Unlabelled, unlabelled_words, agreed, agreeing, rule, rule_decided}, RuleText.{effect_word, reference_words, quick_words, state_words, label_words, before_label, canonical, rule_text}, Value.Spacing.{is_word, words_of-join, join_bytes}, Value.Written.{Written, all_words, both}, Laws.Value.Tests.{direction_written, interface_written, family_written, protocol_written}}
 

@@ -1,8 +1,9 @@
 //! The forms of rules in bytes.
-ghost use Rattle.std.specs.Prelude.{◌≡◌, ◌≤◌, ◌∷◌, [], length, unwrap_or};
+ghost use Rattle.std.specs.Prelude.{◌≡◌, ◌∷◌, [], length, unwrap_or};
 ghost use Rattle.pf_form.specs.Bytes.Codes.{flag_byte};
 ghost use Rattle.pf_rule.specs.Sum.Forms.{filled, heading, effect_byte, keeps_state, direction_byte, family_byte, names, wildcard, label_bytes, rule_form};
 
+use crate::sum::field::filled;
 use crate::sum::host_form::{HOST_FORM, host_bytes};
 use crate::{Action, Direction, Effect, Rule};
 use pf_addr::Family;
@@ -144,15 +145,4 @@ fn label_length(rule: &Rule) -> u8
         Some(label) => label.as_bytes().len() as u8,
         None => 0,
     }
-}
-
-/// These bytes followed by zeros.
-#[tactic(auto, unfolding(crate::specs::Sum::Forms::filled))]
-pub(crate) fn filled<const WIDTH: usize>(bytes: &[u8]) -> [u8; WIDTH]
-    requires { length bytes.now ≤ WIDTH }
-    ensures { result ≡ filled WIDTH bytes.now }
-{
-    let mut field = [0; WIDTH];
-    field[..bytes.len()].copy_from_slice(bytes);
-    field
 }

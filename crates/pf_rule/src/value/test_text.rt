@@ -1,7 +1,7 @@
 //! The texts of a rule's tests, with a space before each word.
-ghost use Rattle.std.specs.Prelude.{◌≡◌, ◌++◌, codes, decimal};
+ghost use Rattle.std.specs.Prelude.{◌≡◌, ◌++◌, true, codes, decimal};
 ghost use Rattle.pf_addr.specs.Writing.{Continues};
-ghost use Rattle.pf_rule.specs.{Value.Spacing.spaced, Value.Tests.{direction_words, interface_words, family_words, protocol_words}, Value.Ports.{operator_word, port_words}};
+ghost use Rattle.pf_rule.specs.{Value.Spacing.{is_word, spaced}, Value.Tests.{direction_words, interface_words, family_words, protocol_word, protocol_words}, Value.Ports.{operator_word, port_words}};
 
 use crate::value::direction::Direction;
 use crate::value::interface::Interface;
@@ -50,7 +50,7 @@ pub fn write_interface<W: Write>(
     }
 }
 
-/// Writes a test of the protocol: its name, if it has one, or its number.
+/// Writes a test of the protocol.
 #[tactic(auto, using(crate::specs::Value::Spacing::continuing))]
 pub fn write_protocol<W: Write>(
     out: &mut W,
@@ -63,6 +63,19 @@ pub fn write_protocol<W: Write>(
         return write_more(out, so_far, b"");
     };
     let so_far = write_more(out, so_far, b" proto ");
+    write_more_protocol(out, so_far, protocol)
+}
+
+/// Writes a protocol after what was written so far: its name, if it has one, or its number. Its errors are those of [`write_more`].
+#[tactic(auto, using(crate::specs::Laws::Value::Tests::protocol_is_word))]
+pub fn write_more_protocol<W: Write>(
+    out: &mut W,
+    so_far: io::Result<()>,
+    protocol: Protocol,
+) -> io::Result<()>
+    ensures text { Continues so_far (W.contents out.old) result (W.contents out.new) (protocol_word protocol) }
+    ensures word { is_word (protocol_word protocol) ≡ true }
+{
     match protocol.number() {
         Protocol::ICMP => write_more(out, so_far, b"icmp"),
         Protocol::TCP => write_more(out, so_far, b"tcp"),

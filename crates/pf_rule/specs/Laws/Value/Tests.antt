@@ -48,10 +48,14 @@ protocol_read n number none is = grind (arith, nat_tests)
 protocol_good : (n : ℕ) → is_word (decimal n) ≡ true → is_word (protocol_word n) ≡ true
 protocol_good n is = grind (arith, nat_tests)
 
+-- what is written for a protocol is a word of a line
+pub protocol_is_word : (n : ℕ) → n < 256 → is_word (protocol_word n) ≡ true
+protocol_is_word n lt = protocol_good n (number_word 3 (decimal n) n (number_read n lt))
+
 pub protocol_written : (o : Option ℕ) → IfSome o IsProtocol → Written protocol o (protocol_words o)
 unfolding protocol
 protocol_written None is = record { spells = inr (refl, refl); words = refl }
 protocol_written (Some n) is =
     let number = number_read n is.1 in
     let read = protocol_read n number (unnamed (decimal n) n number) is in
-    record { spells = inl (protocol_word n ∷ [], (n, (protocol_word n, read, refl), refl), refl); words = rw (protocol_good n (number_word 3 (decimal n) n number)) refl }
+    record { spells = inl (protocol_word n ∷ [], (n, (protocol_word n, read, refl), refl), refl); words = rw (protocol_is_word n is.1) refl }
