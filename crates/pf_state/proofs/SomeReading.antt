@@ -1,7 +1,7 @@
 -- All bytes have a reading.
 use Rattle.std.proofs.{Common.{◌≡◌, ◌≢◌, ◌⊎◌, ◌+◌, ◌-◌, ◌*◌, ◌<◌, ◌≤◌, ◌==◌, ◌&&◌, ℕ, zero, suc, Bool, true, false, List, [], ◌∷◌, ◌++◌, length, take, drop, if◌then◌else◌, Result, Ok, Err, inl, inr, refl, sym, ap, subst, length-drop, arith}, lemmas.Bool.{cases_eq, cases_lt}, lemmas.Bool.Decides.nat_tests, lemmas.List.{take-append-drop, length-take-le}}
 use Rattle.std.specs.Prelude.{nat_lt}
-use Rattle.pf_state.specs.{declared.{peer.fault.PeerFault.PeerFault, peer.fault.PeerFault.TheVariants.BadVersion, peer.fault.PeerFault.TheVariants.BadLength, peer.fault.PeerFault.TheVariants.BadAction, peer.fault.OneFault.OneFault, peer.message.Group.Group, peer.message.Message.Message, peer.message.TheConstants.VERSION, peer.stream.TheConstants.MESSAGE_HEADER, peer.stream.MessageStart.MessageStart, peer.stream.MessageStart.TheVariants.Partial, peer.stream.MessageStart.TheVariants.Whole, peer.stream.MessageStart.TheVariants.Bad}, Peer.Groups.{group_at, content, is_action, size_at, ◌>>=◌, AreGroups, BreakBehind}, Peer.Messages.{IsWhole, IsJudged}, Peer.Streams.{Ending, Unfinished, Faulty, Reads, IsFront}, Peer.One.{IsOne, one_of}}
+use Rattle.pf_state.specs.{declared.{peer.fault.PeerFault.PeerFault, peer.fault.PeerFault.TheVariants.BadVersion, peer.fault.PeerFault.TheVariants.BadLength, peer.fault.PeerFault.TheVariants.BadAction, peer.fault.OneFault.OneFault, peer.message.Group.Group, peer.message.Message.Message, peer.fields.TheConstants.VERSION, peer.fields.TheConstants.MESSAGE_HEADER, peer.stream.MessageStart.MessageStart, peer.stream.MessageStart.TheVariants.Partial, peer.stream.MessageStart.TheVariants.Whole, peer.stream.MessageStart.TheVariants.Bad}, Peer.Groups.{group_at, content, is_action, size_at, ◌>>=◌, AreGroups, BreakBehind}, Peer.Messages.{IsWhole, IsJudged}, Peer.Streams.{Ending, Unfinished, Faulty, Reads, IsFront}, Peer.One.{IsOne, one_of}}
 use Rattle.pf_rule.specs.Bytes.{number_at, byte_at}
 
 -- ---- groups

@@ -1,7 +1,8 @@
 -- The keys by which flows are looked up: one key for both directions of a flow, and an order of keys in which a number mixed from all
 -- fields decides first.
-use Rattle.std.specs.{Prelude.{ℕ, ◌+◌, ◌*◌, ◌/◌, ◌%◌, ◌^◌, bit_xor}, Ordering.{ordering_then, nat_cmp}}
+use Rattle.std.specs.{Prelude.{◌≡◌, ℕ, ◌+◌, ◌*◌, ◌/◌, ◌%◌, ◌^◌, bit_xor}, Ordering.{ordering_then, nat_cmp}}
 use Rattle.std.specs.declared.cmp.Ordering.{Ordering}
+use Rattle.std.proofs.Common.{refl}
 use Rattle.pf_addr.specs.declared.{addr.Addr.Addr, addr.Addr.TheVariants.V4, addr.Addr.TheVariants.V6}
 use Rattle.pf_rule.specs.declared.{value.direction.Direction.Direction, value.direction.Direction.TheVariants.In, value.direction.Direction.TheVariants.Out}
 use Rattle.pf_state.specs.{declared.flow_key.FlowEnds.FlowEnds, Flows.PlainFlow}
@@ -50,6 +51,11 @@ key_of f = inward f.direction (ends_of f)
 -- the flow in this direction that has the key
 abbrev pub flow_by : Direction → FlowEnds → PlainFlow
 flow_by d k = flow_between d (inward d k)
+
+-- keys give their flows back
+pub key_back : (d : Direction) (k : FlowEnds) → key_of (flow_by d k) ≡ k
+key_back In k = refl
+key_back Out k = refl
 
 -- ---- their order
 

@@ -3,9 +3,8 @@ use Rattle.std.specs.{Prelude.{◌≡◌, ℕ, zero, suc, T}, Cmp.{IsTotalOrder,
 use Rattle.std.specs.declared.{cmp.Ordering.Ordering, cmp.Ordering.TheVariants.Less, cmp.Ordering.TheVariants.Equal, cmp.Ordering.TheVariants.Greater}
 use Rattle.std.proofs.Common.{refl, sym, ap, ◌∙◌, subst}
 use Rattle.pf_addr.specs.declared.{addr.Addr.Addr, addr.Addr.TheVariants.V4, addr.Addr.TheVariants.V6}
-use Rattle.pf_rule.specs.declared.{value.direction.Direction.Direction, value.direction.Direction.TheVariants.In, value.direction.Direction.TheVariants.Out}
 use Rattle.pf_map.specs.{Hints.{RisesWith, pairs_rise, numbers_rise}, Pairs.{pair_order, pairs_alike}}
-use Rattle.pf_state.specs.{declared.{dues.Due.Due, flow_key.FlowEnds.FlowEnds, state.StateName.StateName}, Dues.due_order, FlowKeys.{flow_by, key_of, family_rank, number_of, addr_order, ends_order, mixed, key_order}, States.name_order}
+use Rattle.pf_state.specs.{declared.{dues.Due.Due, flow_key.FlowEnds.FlowEnds, state.StateName.StateName}, Dues.due_order, FlowKeys.{family_rank, number_of, addr_order, ends_order, mixed, key_order}, States.name_order}
 
 -- ---- names
 
@@ -80,12 +79,6 @@ second_ties Greater s tied = absurd (subst (λ r. T (is_eq r)) (sym tied) tt)
 
 pub key_alike : IsAntisymmetric key_order
 key_alike a b tied = ends_alike a b (second_ties (nat_cmp (mixed a) (mixed b)) (ends_order a b) tied)
-
--- ---- keys give their flows back
-
-pub key_back : (d : Direction) (k : FlowEnds) → key_of (flow_by d k) ≡ k
-key_back In k = refl
-key_back Out k = refl
 
 -- ---- hints
 

@@ -23,8 +23,7 @@ impl Model for Flow {
 
     ghost Value = { PlainFlow };
 
-    ghost use Rattle.pf_state.specs.FlowKeys.{flow_by, key_of};
-    ghost use Rattle.pf_state.specs.Orders.{key_back};
+    ghost use Rattle.pf_state.specs.FlowKeys.{flow_by, key_back, key_of};
 
     ghost view = { λ f. flow_by f.direction f.key };
 

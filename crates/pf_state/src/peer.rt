@@ -20,6 +20,7 @@ mod stream;
 mod writing;
 
 pub use fault::{FeedError, OneFault, PeerFault};
+pub use fields::MESSAGE_HEADER;
 pub use laws::{
     fault_stays_the_same, insert_has_its_form, numbers_of_messages_are_these,
     one_message_has_one_answer, one_message_has_these_bytes, pieces_make_one_stream,
@@ -29,5 +30,4 @@ pub use message::{Group, MESSAGE_LIMIT, Message, Records};
 pub use one::read_one;
 pub use reader::{Fed, PeerReader};
 pub use record::{Clear, Delete, Insert, InsertFields, RECORD};
-pub use stream::MESSAGE_HEADER;
 pub use writing::write_peer;

@@ -6,7 +6,7 @@
 --       2     2 length of the whole message
 --       4    16 checksum
 use Rattle.std.specs.Prelude.{◌≡◌, ◌≤◌, ℕ, List, length, take, drop, Result, Ok, Err}
-use Rattle.pf_state.specs.{declared.{peer.fault.PeerFault.PeerFault, peer.message.Group.Group, peer.message.Message.Message, peer.message.TheConstants.VERSION, peer.stream.TheConstants.MESSAGE_HEADER}, Peer.Groups.{AreGroups, BreakBehind}}
+use Rattle.pf_state.specs.{declared.{peer.fault.PeerFault.PeerFault, peer.message.Group.Group, peer.message.Message.Message, peer.fields.TheConstants.VERSION, peer.fields.TheConstants.MESSAGE_HEADER}, Peer.Groups.{AreGroups, BreakBehind}}
 use Rattle.pf_rule.specs.Bytes.{byte_at, number_at}
 
 -- the bytes have the header of a message that is as long as they are

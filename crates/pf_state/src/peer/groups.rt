@@ -4,10 +4,9 @@ ghost use Rattle.pf_state.specs.{Peer.Groups.{records_of, group_at, content, Are
 ghost use Rattle.pf_state.specs.declared.peer.message.Group.{Group};
 
 use crate::peer::fault::{PeerFault, ReadError};
-use crate::peer::fields::u16_at;
+use crate::peer::fields::{MESSAGE_HEADER, u16_at};
 use crate::peer::message::{CLEAR, DELETE, Group, INSERT, Message, Records};
 use crate::peer::record::{RECORD, Record};
-use crate::peer::stream::MESSAGE_HEADER;
 use pf_form::bytes::Stop;
 use std::alloc::{AllocError, Global};
 

@@ -6,9 +6,9 @@ ghost use Rattle.pf_state.specs.Laws.Messages as example;
 ghost use Rattle.pf_state.specs.Peer.Records.{PlainInsert, IsInsert, insert_form, plain_insert, insert_in, insert_bytes};
 ghost use Rattle.pf_state.specs.{Peer.Messages.IsMessage, Peer.One.IsOne, Peer.Streams.{Ending, Faulty, Reads, Feeds}, Peer.Written.{message_bytes, CanBeWritten}};
 
-use crate::peer::message::{CLEAR, DELETE, INSERT, MESSAGE_LIMIT, VERSION};
+use crate::peer::fields::{MESSAGE_HEADER, VERSION};
+use crate::peer::message::{CLEAR, DELETE, INSERT, MESSAGE_LIMIT};
 use crate::peer::record::RECORD;
-use crate::peer::stream::MESSAGE_HEADER;
 
 /// The bytes so far have one reading: one list of messages, and one ending.
 #[tactic(auto, using(crate::proofs::OneReading::one_reading))]

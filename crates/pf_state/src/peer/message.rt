@@ -4,8 +4,6 @@ ghost use Rattle.std.specs.Prelude.{◌≡◌};
 use crate::peer::record::{Clear, Delete, Insert};
 use std::marker::Model;
 
-/// The first byte of each message.
-pub(crate) const VERSION: u8 = 5;
 /// The action of a group that inserts states.
 pub(crate) const INSERT: u8 = 1;
 /// The action of a group that deletes states.

@@ -3,9 +3,7 @@ ghost use Rattle.std.specs.Prelude.{◌≡◌, ◌++◌, length, Option, List, �
 ghost use Rattle.pf_state.specs.Peer.Records.{IsInsert, told_flow, Says};
 
 use crate::flow::Flow;
-use crate::peer::fields::{u32_at, u64_at};
-use crate::peer::message::VERSION;
-use crate::peer::writing::{push_u32, push_u64};
+use crate::peer::fields::{VERSION, push_u32, push_u64, u32_at, u64_at};
 use pf_addr::Addr;
 use pf_form::bytes::{Layout, Stop, decode};
 use pf_rule::value::{Direction, Protocol};

@@ -3,12 +3,10 @@ ghost use Rattle.std.specs.Prelude.{◌≡◌, IfOk};
 ghost use Rattle.pf_state.specs.{Peer.Outcomes.ending, Peer.Streams.{Reads, IsFront}};
 
 use crate::peer::fault::PeerFault;
+use crate::peer::fields::{MESSAGE_HEADER, VERSION};
 use crate::peer::groups::message_of;
-use crate::peer::message::{Message, VERSION};
+use crate::peer::message::Message;
 use std::alloc::{AllocError, Global};
-
-/// How many bytes the header of a message has.
-pub const MESSAGE_HEADER: usize = 20;
 
 /// What is at the start of a message.
 #[derive(Clone, Copy)]

@@ -3,9 +3,9 @@ ghost use Rattle.std.specs.Prelude.{◌≡◌, ◌++◌, ◌<◌, ◌≤◌, ◌
 ghost use Rattle.byteorder.specs.Endian.{big_bytes};
 ghost use Rattle.pf_state.specs.{Peer.Messages.IsMessage, Peer.Written.{message_bytes, message_length, groups_bytes, group_bytes, group_with, Each, IsGroup}};
 
-use crate::peer::message::{CLEAR, DELETE, Group, INSERT, MESSAGE_LIMIT, Message, VERSION};
+use crate::peer::fields::{MESSAGE_HEADER, VERSION};
+use crate::peer::message::{CLEAR, DELETE, Group, INSERT, MESSAGE_LIMIT, Message};
 use crate::peer::record::Record;
-use crate::peer::stream::MESSAGE_HEADER;
 use byteorder::{BigEndian, ByteOrder};
 use std::alloc::{AllocError, Global};
 
@@ -68,23 +68,5 @@ fn push_u16(out: &mut Vec<u8>, number: u16) -> Result<(), AllocError>
 {
     let mut bytes = [0; 2];
     BigEndian::write_u16(&mut bytes, number);
-    out.extend_from_slice(&bytes)
-}
-
-/// Appends a number in four bytes.
-pub(crate) fn push_u32(out: &mut Vec<u8>, number: u32) -> Result<(), AllocError>
-    ensures { OnOk result (out.new.items ≡ out.old.items ++ big_bytes 4 number) }
-{
-    let mut bytes = [0; 4];
-    BigEndian::write_u32(&mut bytes, number);
-    out.extend_from_slice(&bytes)
-}
-
-/// Appends a number in eight bytes.
-pub(crate) fn push_u64(out: &mut Vec<u8>, number: u64) -> Result<(), AllocError>
-    ensures { OnOk result (out.new.items ≡ out.old.items ++ big_bytes 8 number) }
-{
-    let mut bytes = [0; 8];
-    BigEndian::write_u64(&mut bytes, number);
     out.extend_from_slice(&bytes)
 }
