@@ -1,20 +1,17 @@
 //! What is active: rulesets and tables.
 ghost use Rattle.std.specs.{Prelude.{◌≡◌, ◌<◌, ◌^◌, ℕ, true, [], ◌∷◌, length, IfOk, nat_lt}, Option.{MatchOption, option_map}};
 ghost use Rattle.pf_rule.specs.Sum.Layouts.{has_labels};
-ghost use Rattle.pf_anchor.specs.{Forms.{allows_config, config_length, configured}, Tables.{placed_table, table_found, tables_at, named_table, IsTableMap}, Rulesets.{ruled, rules_at, children, IsMap}, Configurations.{nothing, with_rulesets, with_tables}, Limits.{ruleset_refusal, table_refusal}, Evaluation.judged};
+ghost use Rattle.pf_anchor.specs.{Forms.{allows_config, config_length, configured}, Tables.{placed_table, table_found, tables_at, named_table, IsTableMap}, Rulesets.{ruled, rules_at, children, IsMap}, Configurations.{nothing, with_rulesets, with_tables}, Limits.{ruleset_refusal, table_refusal}};
 ghost use Rattle.pf_addr.specs.Refusing.{Refuses};
 ghost use Rattle.pf_anchor.specs.declared.fault.ConfigFault.TheVariants.{Memory};
 
-use crate::evaluate::evaluate;
 use crate::fault::ConfigFault;
 use crate::limits::{RULESET_LIMIT, TABLE_COUNT_LIMIT};
 use crate::rule_list::RuleList;
 use crate::rulesets::{EachRuleset, Placed, Rulesets, in_columns};
 use crate::tables::{EachTable, Place, PlacedTable, Tables};
-use crate::verdict::RuleVerdict;
 use pf_addr::path::{Path, TableName};
-use pf_map::PagedMap;
-use pf_rule::Packet;
+use pf_map::{PagedMap, Probe};
 use pf_table::Table;
 use std::alloc::{AllocError, Global};
 use std::marker::Model;
@@ -218,9 +215,9 @@ impl Config {
     }
 
     /// The ruleset at a path, if it has rules.
-    pub(crate) fn placed_at(&self, path: &Path) -> Option<&Placed>
-        ensures rules { MatchOption result (rules_at path.now self.now.rulesets ≡ []) (λ p. p.now
-            ≡ ruled path.now (rules_at path.now self.now.rulesets)) }
+    pub(crate) fn placed_at<Q: Probe<Path>>(&self, path: &Q) -> Option<&Placed>
+        ensures rules { MatchOption result (rules_at (Q.key path.now) self.now.rulesets ≡ []) (λ p. p.now
+            ≡ ruled (Q.key path.now) (rules_at (Q.key path.now) self.now.rulesets)) }
         ensures map { IsMap self.now.rulesets }
     {
         self.rulesets.get(path)
@@ -248,6 +245,20 @@ impl Config {
         true
     }
 
+    /// How many rulesets there are. It looks at none of them.
+    pub fn ruleset_count(&self) -> usize
+        ensures { result ≡ length self.now.rulesets }
+    {
+        self.rulesets.len()
+    }
+
+    /// How many tables there are. It looks at none of them.
+    pub fn table_count(&self) -> usize
+        ensures { result ≡ length self.now.tables }
+    {
+        self.tables.len()
+    }
+
     /// The rulesets, in the order of their paths. It takes no memory.
     pub fn each_ruleset(&self) -> EachRuleset<'_>
         ensures { result ≡ self.now.rulesets }
@@ -260,24 +271,5 @@ impl Config {
         ensures { result ≡ self.now.tables }
     {
         self.tables.entries()
-    }
-
-    /// The verdict of the rules on a packet: the rule that decides by the main ruleset's evaluation (pf.conf(5), PACKET FILTERING and
-    /// ANCHORS), with its ruleset's path and its number there, or the default pass. It takes no memory.
-    #[tactic(auto, using(crate::proofs::Evaluations::default_judged))]
-    pub fn judge(&self, packet: &Packet) -> RuleVerdict
-        ensures { result ≡ judged self.now packet.now }
-    {
-        let Some(main) = self.placed_at(&Path::main()) else {
-            return RuleVerdict::Default;
-        };
-        match evaluate(self, main, packet).last() {
-            Some(found) => RuleVerdict::Rule {
-                path: found.placed.key().copied(),
-                number: found.number,
-                action: found.action,
-            },
-            None => RuleVerdict::Default,
-        }
     }
 }

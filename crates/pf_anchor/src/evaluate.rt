@@ -2,15 +2,37 @@
 ghost use Rattle.std.specs.Prelude.{◌≡◌, ◌<◌, ◌≤◌, ◌*◌, ℕ, filter, length, IfSome};
 ghost use Rattle.pf_addr.specs.Path.Nested.{is_child};
 ghost use Rattle.pf_lanes.specs.{Masks.is_set, Answered.{block_match, eight_from}, Probes.{PlainProbe, asked}};
-ghost use Rattle.pf_anchor.specs.{Rulesets.targets, Tables.tables_say, Blocks.{AreStops, GivesLast, NoneBetween}, Evaluation.{evaluation, effected, in_turn, matching, rules_at_path}};
+ghost use Rattle.pf_anchor.specs.{Rulesets.targets, Tables.tables_say, Blocks.{AreStops, GivesLast, NoneBetween}, Evaluation.{evaluation, effected, in_turn, judged, matching, rules_at_path}};
 
 use crate::config::Config;
 use crate::evaluated::{Evaluated, Match};
 use crate::named_tables::NamedTables;
 use crate::rulesets::Placed;
-use pf_addr::path::{Path, Reference};
+use crate::verdict::RuleVerdict;
+use pf_addr::path::{Path, PathBytes, Reference};
 use pf_lanes::{LANES, Probe, eight_of, first_and_last, is_set, match_one_by_one};
 use pf_rule::{Effect, Packet, Rule};
+
+impl Config {
+    /// The verdict of the rules on a packet: the rule that decides by the main ruleset's evaluation (pf.conf(5), PACKET FILTERING and
+    /// ANCHORS), with its ruleset's path and its number there, or the default pass. It takes no memory.
+    #[tactic(auto, using(crate::proofs::Evaluations::default_judged))]
+    pub fn judge(&self, packet: &Packet) -> RuleVerdict
+        ensures { result ≡ judged self.now packet.now }
+    {
+        let Some(main) = self.placed_at(&PathBytes { bytes: &[] }) else {
+            return RuleVerdict::Default;
+        };
+        match evaluate(self, main, packet).last() {
+            Some(found) => RuleVerdict::Rule {
+                path: found.placed.key().copied(),
+                number: found.number,
+                action: found.action,
+            },
+            None => RuleVerdict::Default,
+        }
+    }
+}
 
 // Which rules of a block match, with tables as the rules of their ruleset name them.
 #[inline(always)]
@@ -181,6 +203,27 @@ fn effected<'a>(
 // The rulesets that a rule of the ruleset at a path leads to, in turn.
 #[cycle(evaluate)]
 fn evaluate_targets<'a>(
+    config: &'a Config,
+    path: &Path,
+    reference: &Reference,
+    packet: &Packet,
+) -> Evaluated<Match<'a>>
+    ensures { result ≡ in_turn (evaluation config.now.rulesets (matching config.now.tables packet.now))
+        (targets config.now.rulesets path.now reference.now) }
+{
+    if !path.as_bytes().is_empty() || reference.is_wildcard() {
+        return evaluate_within(config, path, reference, packet);
+    }
+    // the names are the path, and none is made, which is long
+    match config.placed_at(&reference.from_main()) {
+        Some(placed) => evaluate(config, placed, packet),
+        None => Evaluated::Open(None),
+    }
+}
+
+// The same, by a path that is made of the ruleset's and the names.
+#[cycle(evaluate)]
+fn evaluate_within<'a>(
     config: &'a Config,
     path: &Path,
     reference: &Reference,

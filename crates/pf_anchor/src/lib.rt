@@ -8,8 +8,8 @@
 //! that they lead to. Read specs/Rulesets.antt and specs/Tables.antt (the maps) first, then specs/Evaluation.antt (what an evaluation
 //! finds) and specs/Laws/Evaluation.antt, which says it without the recursion.
 //!
-//! `config` is the type, and uses all other modules; `evaluate` is judging, over `config`, and uses `evaluated` (what was found so far) and
-//! `named_tables` (the table that a rule names). `rulesets`, `tables` and `rule_list` are what the maps hold, and use none of these.
+//! `config` is the type, over what the maps hold: `rulesets`, `tables` and `rule_list`, which don't use it. `evaluate` is judging, over
+//! `config`, and uses `evaluated` (what was found so far) and `named_tables` (the table that a rule names), which `config` doesn't.
 //! `verdict` is what an evaluation answers, `fault` why something isn't put at a path, and `laws` may name all.
 //!
 //! Proved: what each change leaves of both maps, how many bytes they take, and that `Config::judge` finds what the evaluation of

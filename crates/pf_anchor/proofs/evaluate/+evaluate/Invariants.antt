@@ -9,19 +9,22 @@ use Rattle.pf_anchor.proofs.evaluate.+evaluate.Given as goal
 
 -- what a ruleset leads to is deeper
 abbrev pub decreases-evaluate : goal.decreases-evaluate
-decreases-evaluate l = 4 * (DEPTH_LIMIT - depth l.placed.now.0) + 3
+decreases-evaluate l = 5 * (DEPTH_LIMIT - depth l.placed.now.0) + 4
 
 abbrev pub decreases-each_match : goal.decreases-each_match
-decreases-each_match l = 4 * (DEPTH_LIMIT - depth l.placed.now.0) + 2
+decreases-each_match l = 5 * (DEPTH_LIMIT - depth l.placed.now.0) + 3
 
 abbrev pub decreases-effected : goal.decreases-effected
-decreases-effected l = 4 * (DEPTH_LIMIT - depth l.placed.now.0) + 1
+decreases-effected l = 5 * (DEPTH_LIMIT - depth l.placed.now.0) + 2
 
 abbrev pub decreases-evaluate_targets : goal.decreases-evaluate_targets
-decreases-evaluate_targets l = 4 * (DEPTH_LIMIT - depth l.path.now)
+decreases-evaluate_targets l = 5 * (DEPTH_LIMIT - depth l.path.now) + 1
+
+abbrev pub decreases-evaluate_within : goal.decreases-evaluate_within
+decreases-evaluate_within l = 5 * (DEPTH_LIMIT - depth l.path.now)
 
 abbrev pub decreases-evaluate_children : goal.decreases-evaluate_children
-decreases-evaluate_children l = 4 * (DEPTH_LIMIT - depth l.path.now) + 1
+decreases-evaluate_children l = 5 * (DEPTH_LIMIT - depth l.path.now) + 1
 
 -- what the remaining rules give comes after the last match so far
 abbrev pub invariant-evaluate-loop-block : goal.invariant-evaluate-loop-block

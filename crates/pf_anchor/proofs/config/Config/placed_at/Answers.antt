@@ -8,9 +8,10 @@ use Rattle.pf_anchor.proofs.RulesetMaps.{ruleset_found}
 use Rattle.pf_anchor.proofs.config.Config.placed_at.Goals as goal
 
 pub returns-clause-rules : goal.returns-clause-rules
-returns-clause-rules c =
-    ruleset_found (λ e. e.now) c.get.result c.args.path.now (find path_order c.args.path.now c.args.self.now.rulesets)
-    (subst (λ (x : PlainConfig). option_map (λ e. e.now) c.get.result ≡ entry_at path_order c.args.path.now x.rulesets) c.self.view_is c.get.ensures.entry)
+returns-clause-rules g c =
+    let path = g.Q.Probe.key c.args.path.now in
+    ruleset_found (λ e. e.now) c.get.result path (find path_order path c.args.self.now.rulesets)
+    (subst (λ (x : PlainConfig). option_map (λ e. e.now) c.get.result ≡ entry_at path_order path x.rulesets) c.self.view_is c.get.ensures.entry)
 
 pub returns-clause-map : goal.returns-clause-map
-returns-clause-map c = subst (λ (x : PlainConfig). IsMap x.rulesets) c.self.view_is (list_map_is c.self.inside.rulesets c.get.ensures.map)
+returns-clause-map g c = subst (λ (x : PlainConfig). IsMap x.rulesets) c.self.view_is (list_map_is c.self.inside.rulesets c.get.ensures.map)
