@@ -19,12 +19,9 @@ pub record PlainDurable : Type 0 where
   pub config : PlainConfig
   pub states : List PlainState
 
-abbrev pub durable_with : ℕ → ℕ → PlainConfig → List PlainState → PlainDurable
-durable_with e t c ss = record { epoch = e; tick = t; config = c; states = ss }
-
 -- no rulesets, no tables and no states, at tick 0, in the opening with this epoch
 abbrev pub kept_nothing : ℕ → PlainDurable
-kept_nothing e = durable_with e 0 nothing []
+kept_nothing e = record { epoch = e; tick = 0; config = nothing; states = [] }
 
 -- the checksum of the main rules
 abbrev pub sum_of : PlainConfig → List ℕ
@@ -75,23 +72,23 @@ tables_in (item.Tables p named ∷ items) = placed p named ++ tables_in items
 
 -- with these entries in one table, or without the table if there are none
 abbrev pub with_entries : PlainDurable → List ℕ → List ℕ → List PlainEntry → PlainDurable
-with_entries d p name es = durable_with d.epoch d.tick (with_tables d.config (placed_table p name es ∷ [])) d.states
+with_entries d p name es = record d { config = with_tables d.config (placed_table p name es ∷ []) }
 
 -- with these states in place of its own
 abbrev pub with_states : PlainDurable → List PlainState → PlainDurable
-with_states d ss = durable_with d.epoch d.tick d.config ss
+with_states d ss = record d { states = ss }
 
 -- at another tick, with the states that stand at it
 abbrev pub at_tick : PlainDurable → ℕ → PlainDurable
-at_tick d tick = durable_with d.epoch tick d.config (without_due d.states tick)
+at_tick d tick = record d { tick = tick; states = without_due d.states tick }
 
 -- the same in another opening
 abbrev pub in_epoch : ℕ → PlainDurable → PlainDurable
-in_epoch epoch d = durable_with epoch d.tick d.config d.states
+in_epoch epoch d = record d { epoch = epoch }
 
 -- what is kept after a change: exactly the named rulesets and tables are replaced, all else stays
 abbrev pub applied : PlainDurable → PlainChange → PlainDurable
-applied d (commits items) = durable_with d.epoch d.tick (with_tables (with_rulesets d.config (rulesets_in items)) (tables_in items)) d.states
+applied d (commits items) = record d { config = with_tables (with_rulesets d.config (rulesets_in items)) (tables_in items) }
 applied d (adds p name xs) = with_entries d p name (added (entries_at d p name) xs)
 applied d (deletes p name xs) = with_entries d p name (deleted (entries_at d p name) xs)
 applied d (sets p name xs) = with_entries d p name (replaced xs)

@@ -10,7 +10,7 @@ use Rattle.std.specs.{Prelude.{ℕ, ◌==◌, ◌&&◌, ◌||◌, Bool, map, if�
 use Rattle.pf_form.specs.Bytes.Forms.{Shape, nat, both, list, Value, Form, nothing, number, pair, that, length_of}
 use Rattle.pf_anchor.specs.Forms.{RulesShape, rulesets_form, plain_ruled, ruled_in, PlacedShape, kept_tables_form, plain_tabled, tabled_in, configured, allows_config}
 use Rattle.pf_state.specs.{Layouts.States.{StateShape, has_expiry, states_form, plain_states, state_in, all_allowed}, States.stands}
-use Rattle.pf_core.specs.Durable.Changes.{PlainDurable, durable_with}
+use Rattle.pf_core.specs.Durable.Changes.{PlainDurable}
 
 abbrev pub DurableShape : Shape
 DurableShape = both nat (both nat (both (list RulesShape) (both (list PlacedShape) (list StateShape))))
@@ -31,7 +31,12 @@ abbrev pub plain_durable : PlainDurable → Value DurableShape
 plain_durable d = (d.epoch, (d.tick, (map plain_ruled d.config.rulesets, (map plain_tabled d.config.tables, plain_states d.states))))
 
 abbrev pub durable_in : Value DurableShape → PlainDurable
-durable_in v = durable_with v.0 v.1.0 (configured (map ruled_in v.1.1.0) (map tabled_in v.1.1.1.0)) (map state_in v.1.1.1.1)
+durable_in v = record {
+  epoch = v.0;
+  tick = v.1.0;
+  config = configured (map ruled_in v.1.1.0) (map tabled_in v.1.1.1.0);
+  states = map state_in v.1.1.1.1;
+}
 
 -- whether a version allows the tick and the states: one without expiries allows no tick but 0, and no state with an expiry
 abbrev pub allows_ticks : ℕ → PlainDurable → Bool

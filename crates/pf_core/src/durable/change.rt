@@ -134,7 +134,8 @@ impl Change {
         }
     }
 
-    /// A tick, which takes out the states that are due.
+    /// A tick, which takes out the states that are due. `Durable::apply` refuses it with `BadTick` exactly if it is less than the present
+    /// one, so the same once more isn't refused, and with `Memory` when out of memory. It has no other refusal.
     pub fn expire(tick: u64) -> Change
         ensures { result ≡ expires tick }
     {

@@ -7,7 +7,7 @@ ghost use Rattle.pf_state.specs.{Layouts.States.has_expiry, States.all_stand, St
 ghost use Rattle.pf_ticket.specs.Replies.{twice_behind};
 ghost use Rattle.pf_core.specs.declared.durable.refusal.ChangeRefusal.TheVariants.{Twice, BadTick, Memory};
 ghost use Rattle.pf_core.specs.Durable.Forms.{allows, durable_length};
-ghost use Rattle.pf_core.specs.Durable.Changes.{is_in_order, name_of, durable_with, kept_nothing, commits, adds, deletes, sets, acts, expires, rulesets_in, replaces_main, placed, tables_in, entries_at, sum_of, main_sum, with_entries, with_states, at_tick, in_epoch, room_for_table, fits, applied, changed, verdict};
+ghost use Rattle.pf_core.specs.Durable.Changes.{is_in_order, name_of, kept_nothing, commits, adds, deletes, sets, acts, expires, rulesets_in, replaces_main, placed, tables_in, entries_at, sum_of, main_sum, with_entries, with_states, at_tick, in_epoch, room_for_table, fits, applied, changed, verdict};
 
 use crate::durable::change::{Change, ChangeKind, Item, names_of};
 use crate::durable::refusal::ChangeRefusal;
@@ -41,11 +41,11 @@ impl Model for Durable {
     ghost use Rattle.std.specs.Prelude.{◌≡◌, true};
     ghost use Rattle.std.specs.Arc.{arc_value};
     ghost use Rattle.pf_state.specs.States.{all_stand};
-    ghost use Rattle.pf_core.specs.Durable.Changes.{PlainDurable, durable_with, sum_of};
+    ghost use Rattle.pf_core.specs.Durable.Changes.{PlainDurable, sum_of};
 
     ghost Value = { PlainDurable };
 
-    ghost view = { λ d. durable_with d.epoch d.tick (arc_value d.config) (arc_value d.states) };
+    ghost view = { λ d. record { epoch = d.epoch; tick = d.tick; config = arc_value d.config; states = arc_value d.states } };
 
     ghost invariant = { λ d. (d.sum ≡ sum_of (arc_value d.config)) × (all_stand d.tick (arc_value d.states) ≡ true) };
 }
@@ -125,13 +125,7 @@ impl Durable {
     pub fn empty(alloc: Global, epoch: u32) -> Result<Durable, AllocError>
         ensures { IfOk result (λ d. d ≡ kept_nothing epoch) }
     {
-        Ok(Durable {
-            epoch,
-            tick: 0,
-            config: shared(alloc, Config::empty())?,
-            states: shared(alloc, StateTable::empty())?,
-            sum: ruleset_sum(&[]),
-        })
+        Durable::of(alloc, epoch, 0, Config::empty(), StateTable::empty())
     }
 
     /// These rulesets and tables, and these states, of which none is due, at this tick in the opening with this epoch. `AllocError`: nothing
@@ -144,7 +138,7 @@ impl Durable {
         states: StateTable,
     ) -> Result<Durable, AllocError>
         requires { all_stand tick states ≡ true }
-        ensures { IfOk result (λ d. d ≡ durable_with opening tick config states) }
+        ensures { IfOk result (λ d. d ≡ record { epoch = opening; tick = tick; config = config; states = states }) }
     {
         Ok(Durable {
             epoch: opening,
@@ -155,6 +149,19 @@ impl Durable {
         })
     }
 
+    // The same, all of it shared.
+    fn shared(&self) -> Result<Durable, AllocError>
+        ensures { IfOk result (λ d. d ≡ self.now) }
+    {
+        Ok(Durable {
+            epoch: self.epoch,
+            tick: self.tick,
+            config: Arc::try_clone(&self.config)?,
+            states: Arc::try_clone(&self.states)?,
+            sum: self.sum,
+        })
+    }
+
     /// The epoch of the opening.
     pub fn epoch(&self) -> u32
         ensures { result ≡ self.now.epoch }
@@ -162,7 +169,7 @@ impl Durable {
         self.epoch
     }
 
-    /// The tick.
+    /// The tick: 0 at first, and a number without a unit, since what a tick lasts is its users' choice. It never goes back.
     pub fn tick(&self) -> u64
         ensures { result ≡ self.now.tick }
     {
@@ -363,11 +370,9 @@ impl Durable {
         let tables = tables_in(alloc, items)?;
         let config = self.config.with_rulesets(alloc, rulesets.as_slice())?;
         Ok(Durable {
-            epoch: self.epoch,
-            tick: self.tick,
             sum: self.sum_after(rulesets.as_slice(), &config)?,
             config: shared(alloc, config.with_tables(alloc, tables.as_slice())?)?,
-            states: Arc::try_clone(&self.states)?,
+            ..self.shared()?
         })
     }
 
@@ -383,11 +388,8 @@ impl Durable {
     {
         let tables = [PlacedTable::new(alloc, (path.copied(), *name), table)?];
         Ok(Durable {
-            epoch: self.epoch,
-            tick: self.tick,
             config: shared(alloc, self.config.with_tables(alloc, &tables)?)?,
-            states: Arc::try_clone(&self.states)?,
-            sum: self.sum,
+            ..self.shared()?
         })
     }
 
@@ -448,11 +450,8 @@ impl Durable {
         ensures { IfOk result (λ d. d ≡ with_states self.now states) }
     {
         Ok(Durable {
-            epoch: self.epoch,
-            tick: self.tick,
-            config: Arc::try_clone(&self.config)?,
             states: shared(alloc, states)?,
-            sum: self.sum,
+            ..self.shared()?
         })
     }
 
@@ -475,11 +474,9 @@ impl Durable {
         let mut states = self.states.shared()?;
         let expired = states.expire(alloc, tick)?;
         let left = Durable {
-            epoch: self.epoch,
             tick,
-            config: Arc::try_clone(&self.config)?,
             states: shared(alloc, states)?,
-            sum: self.sum,
+            ..self.shared()?
         };
         Ok((left, expired))
     }
@@ -490,10 +487,7 @@ impl Durable {
     {
         Ok(Durable {
             epoch: next,
-            tick: self.tick,
-            config: Arc::try_clone(&self.config)?,
-            states: Arc::try_clone(&self.states)?,
-            sum: self.sum,
+            ..self.shared()?
         })
     }
 
