@@ -1,8 +1,8 @@
 -- What has no newline: digits, paths, and the texts of rules.
-use Rattle.std.proofs.{Common.{◌≡◌, inl, inr, ℕ, suc, ◌+◌, ◌^◌, ◌<◌, ◌==◌, Bool, true, false, cond, List, [], ◌∷◌, ◌++◌, decimal, refl, ap, subst, ◌∙◌, arith}, lemmas.Bool.ne_eqb, lemmas.Bool.Decides.nat_tests, lemmas.Fmt.decimal_is_IsNumeral, lemmas.List.Elements.{All-head, All-tail}, lemmas.List.Sums.AllPass-from_list_all}
+use Rattle.std.proofs.{Common.{◌≡◌, inl, inr, ℕ, suc, ◌+◌, ◌^◌, ◌<◌, ◌==◌, Bool, true, false, cond, List, [], ◌∷◌, ◌++◌, length, decimal, refl, ap, subst, ◌∙◌, arith}, lemmas.Bool.{and_parts, ne_eqb}, lemmas.Bool.Decides.nat_tests, lemmas.Fmt.decimal_is_IsNumeral, lemmas.List.Elements.{All-head, All-tail}, lemmas.List.Sums.AllPass-from_list_all}
 use Rattle.std.specs.{Prelude.{nat_lt, All}, List.{AllByRecursion, list_all, join_with_byte}, Char.digit_value, Str.Parse.AllDigits}
 use Rattle.pf_addr.specs.{Path.Names.is_name_byte, Path.Paths.is_path, Path.PathGrammar.{IsComponent, IsNames}, Laws.Path.Paths.{ReadsWhatIsSpelled, ReadsWhatIsWritten}, Laws.Spelling.{IsNetWord, IsNetByte}}
-use Rattle.pf_rule.specs.{Rules.{PlainRule, IsRule}, RuleText.rule_text, Laws.RuleText.rule_text_bytes}
+use Rattle.pf_rule.specs.{Rules.{PlainRule, IsRule}, RuleText.rule_text, Value.Spacing.is_word, Laws.RuleText.rule_text_bytes}
 use Rattle.pf_line.specs.Reply.TextLines.{newlines}
 
 pub newlines-append : (a b : List ℕ) → newlines (a ++ b) ≡ newlines a + newlines b
@@ -61,6 +61,11 @@ path_plain spelled again (b ∷ bs) e = elim (spelled (b ∷ bs) (b ∷ bs) (aga
 
 pub rule_plain : (r : PlainRule) → IsRule r → newlines (rule_text r) ≡ 0
 rule_plain r h = no_newline (λ b. nat_lt 31 b ≡ true) (λ e. cc) (rule_text r) (AllPass-from_list_all (nat_lt 31) (rule_text r) (rule_text_bytes r h))
+
+-- a word of a rule's text
+pub word_plain : (w : List ℕ) → is_word w ≡ true → newlines w ≡ 0
+word_plain w is =
+    no_newline (λ b. nat_lt 32 b ≡ true) (λ e. cc) w (AllPass-from_list_all (nat_lt 32) w (and_parts (nat_lt 0 (length w)) (list_all (nat_lt 32) w) is).1)
 
 -- ---- networks
 

@@ -8,7 +8,7 @@ ghost use Rattle.pf_line.specs.{Reply.TextLines.{newlines, GoesOn, WroteLines}, 
 use crate::reply::entry::write_network;
 use crate::reply::part::{end_line, write_number, write_numbered, write_part};
 use pf_addr::{Addr, Net};
-use pf_rule::value::{Direction, Protocol};
+use pf_rule::value::{Direction, Protocol, write_more_protocol};
 use pf_state::peer::PeerFault;
 use pf_state::{Bound, Counts, Flow, State, StateName};
 use std::io::{self, Write};
@@ -102,7 +102,8 @@ fn way(direction: Direction) -> &'static [u8]
     }
 }
 
-/// Writes a protocol's name, or its number if it has none.
+/// Writes a protocol.
+#[tactic(auto, using(crate::proofs::Newlines::word_plain))]
 fn write_protocol<W: Write>(
     out: &mut W,
     so_far: io::Result<()>,
@@ -110,13 +111,7 @@ fn write_protocol<W: Write>(
 ) -> io::Result<()>
     ensures { GoesOn so_far (W.contents out.old) result (W.contents out.new) (protocol_word protocol) }
 {
-    match protocol.number() {
-        Protocol::ICMP => write_part(out, so_far, b"icmp"),
-        Protocol::TCP => write_part(out, so_far, b"tcp"),
-        Protocol::UDP => write_part(out, so_far, b"udp"),
-        Protocol::ICMP6 => write_part(out, so_far, b"icmp6"),
-        number => write_number(out, so_far, number as u64),
-    }
+    write_more_protocol(out, so_far, protocol)
 }
 
 #[tactic(auto, using(crate::proofs::Writers::goes_on))]
