@@ -8,7 +8,7 @@ use Rattle.pf_core.specs.declared.step.ReadyStep.TheVariants as made
 use Rattle.pf_core.specs.{Commands.{step_by, may_be_grouped, bad_number, group_words, mentioned}, Durable.Changes.{PlainDurable, PlainChange, after, voided_by, fits}, Laws.Wanted.{left_is, wants_what_fits}, Nexts.{PlainNext, next_with}, Cores.{PlainCore, core_with, left_behind, answered, stepped, plain, IsMadeFrom}, Worlds.{CurrentOpening, log_of, durable_of, flat, step_in, reply_to, changes_of, amid, changes_due, replies_due}}
 use Rattle.pf_core.proofs.Courses.{IsOfGroup, told, wanted, refused, step-amid, unhalted-in, step-there, left-there, log-amid}
 use Rattle.pf_store.specs.{Groups.{can_be_wanted, is_group, made_all}, Stores.{FollowInTurn}}
-use Rattle.pf_store.specs.declared.groups.change.Recorded.TheVariants as recorded
+use Rattle.pf_store.specs.declared.groups.recorded.Recorded.TheVariants as recorded
 use Rattle.pf_store.proofs.Leading.{follow_push, left_by_made}
 use Rattle.pf_book.specs.{Books.left_together, Courses.{IsCalm, ready_of, found_by, left_to}}
 use Rattle.pf_book.proofs.Wanting.{wanted-can, with_tickets}

@@ -3,7 +3,7 @@ use Rattle.std.proofs.{Common.{◌≡◌, ◌<◌, ◌≤◌, ℕ, Bool, true, f
 use Rattle.std.specs.{Prelude.{not, nat_le, ◌==◌, ◌&&◌}, List.list_all}
 use Rattle.pf_core.specs.{Durable.Changes.{PlainDurable, PlainChange, applied, after}, WorldBooks.WorldBook, Worlds.{flat, is_fault}, declared.{group.TheConstants.GROUP_LIMIT, reply.Refusal.Refusal, reply.Refusal.TheVariants.{HistoryFull, Full}}}
 use Rattle.pf_store.specs.{Groups.{have_form, has_form, is_group, made_all}, Lengths.payload_length, Rooms.group_fits, Stores.{FindsRoom, HasRoom}}
-use Rattle.pf_store.specs.declared.groups.change.Recorded.TheVariants as recorded
+use Rattle.pf_store.specs.declared.groups.recorded.Recorded.TheVariants as recorded
 use Rattle.pf_store.proofs.RoomForGroups.{group-fits}
 use Rattle.pf_book.specs.Books.{HasNoRoom, IsUnkept}
 

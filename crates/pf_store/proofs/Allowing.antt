@@ -12,7 +12,7 @@ use Rattle.pf_core.specs.Durable.Forms.{allows as allows_durable}
 use Rattle.pf_core.specs.declared.durable.change.Item.{Item}
 use Rattle.pf_core.specs.declared.durable.change.Item.TheVariants as item
 use Rattle.pf_snap.specs.declared.header.TheConstants.{NEWEST}
-use Rattle.pf_store.specs.declared.groups.change.Recorded.{Recorded, TheVariants.Made as made}
+use Rattle.pf_store.specs.declared.groups.recorded.Recorded.{Recorded, TheVariants.Made as made}
 use Rattle.pf_store.specs.{Durables.IsDurable, Groups.{ChangeShape, ItemShape, expire_form, change_form, group_form, item_form, item_in, items_form, plain_record, record_in, allows_item, allows_record, allows_group, made_all, IsRecorded}}
 
 -- ---- a rule

@@ -7,7 +7,7 @@ use Rattle.pf_addr.specs.{NetForms.family, Path.PathForms.{path_form, table_name
 use Rattle.pf_form.specs.{Bytes.Codes.below, declared.bytes.fault.Fault.TheVariants.Bad}
 use Rattle.pf_anchor.specs.{declared.limits.TheConstants.{RULESET_LIMIT, TABLE_COUNT_LIMIT}, Rulesets.{PlainPlaced, IsMap}, Tables.{PlainPlacedTable, table_order, IsTableMap}}
 use Rattle.pf_anchor.proofs.TableMaps.{table_order_total}
-use Rattle.pf_core.specs.Durable.Changes.{PlainDurable, durable_with, kept_nothing}
+use Rattle.pf_core.specs.Durable.Changes.{PlainDurable, kept_nothing}
 use Rattle.pf_rule.specs.Sum.{Layouts.plain_rule}
 use Rattle.pf_state.specs.{Layouts.States.{StateShape, has_expiry, states_form, plain_states, state_in}, States.{PlainState, stands, all_stand}}
 use Rattle.pf_state.proofs.LayoutsBack.{states_back}
@@ -212,7 +212,7 @@ tables_told [] = refl
 tables_told (t ∷ ts) = λ i. (t.0, entries_told t.1 i) ∷ tables_told ts i
 
 pub durable_told : (d : PlainDurable) → map ruled_in (map plain_ruled d.config.rulesets) ≡ d.config.rulesets → durable_in (plain_durable d) ≡ d
-durable_told d rulesets = λ i. durable_with d.epoch d.tick (configured (rulesets i) (tables_told d.config.tables i)) (states_back d.states i)
+durable_told d rulesets = λ i. record d { config = configured (rulesets i) (tables_told d.config.tables i); states = states_back d.states i }
 
 -- ---- what has bytes
 
@@ -289,7 +289,8 @@ module _ (version : ℕ) (b0 b1 b2 b3 b4 rest : List ℕ) (epoch tick : ℕ) (rs
   read : reads (parts version (has_expiry version)) b0 ≡ Ok ((epoch, (tick, (map plain_ruled rs, (map plain_tabled ts, plain_states ss)))), rest)
   read = parts_read version (has_expiry version) b0 b1 b2 b3 b4 rest epoch tick (map plain_ruled rs) (map plain_tabled ts) (plain_states ss) first second third fourth fifth
 
-  pub durable_read : all_stand tick ss ≡ true → reads (durable_form version) b0 ≡ Ok (plain_durable (durable_with epoch tick (configured rs ts) ss), rest)
+  pub durable_read : all_stand tick ss ≡ true
+      → reads (durable_form version) b0 ≡ Ok (plain_durable (record { epoch = epoch; tick = tick; config = configured rs ts; states = ss }), rest)
   unfolding durable_form
   durable_read standing =
       that_read none_is_due (parts version (has_expiry version)) b0 rest (epoch, (tick, (map plain_ruled rs, (map plain_tabled ts, plain_states ss)))) read (none_due tick ss ∙ standing)

@@ -8,7 +8,7 @@ use Rattle.pf_store.specs.declared.groups.fault.GroupFault.{GroupFault}
 use Rattle.pf_store.specs.declared.groups.fault.GroupFault.TheVariants.{NoForm}
 use Rattle.pf_snap.specs.Banks.{Content}
 use Rattle.pf_core.specs.Durable.Changes.{PlainDurable, PlainChange, after, applied}
-use Rattle.pf_store.specs.declared.groups.change.Recorded.{Recorded}
+use Rattle.pf_store.specs.declared.groups.recorded.Recorded.{Recorded}
 use Rattle.pf_store.specs.{Groups.{IsRecorded, made_all}, Stores.{FollowInTurn, Follows, left_by, left_by_all, Leads, Makes}}
 use Rattle.pf_store.proofs.{Durables.one_durable, RecordedForms.one_group}
 

@@ -12,7 +12,7 @@ use Rattle.pf_core.specs.Durable.{Changes.{PlainDurable, rulesets_in}, Forms.{al
 use Rattle.pf_core.specs.declared.durable.change.Item.{Item}
 use Rattle.pf_core.specs.declared.durable.change.Item.TheVariants as item
 use Rattle.pf_snap.specs.{Banks.Content, declared.header.TheConstants.BANK_HEADER}
-use Rattle.pf_store.specs.declared.{groups.change.Recorded.Recorded, limits.TheConstants.ROOM_TO_OPEN}
+use Rattle.pf_store.specs.declared.{groups.recorded.Recorded.Recorded, limits.TheConstants.ROOM_TO_OPEN}
 use Rattle.pf_store.specs.{Groups.{ChangeShape, change_form, group_form, item_in, items_form, plain_record, record_in, allows_item}, Stores.{IsRoomy, left_by, left_by_all, Leads, Makes}}
 use Rattle.pf_store.proofs.{Allowing.{items_allowed, durable_allowed}, Sized.{newest_long, older_long}}
 

@@ -8,7 +8,7 @@ use Rattle.pf_table.specs.{Entries.PlainEntry, EntryForms.{entry_of}, Laws.Entry
 use Rattle.pf_ticket.specs.NamedTables.{PlainDefinedTable}
 use Rattle.pf_core.specs.Durable.Changes.{PlainChange, expires}
 use Rattle.pf_core.specs.declared.group.TheConstants.{GROUP_LIMIT}
-use Rattle.pf_store.specs.declared.groups.change.Recorded.{Recorded, TheVariants.Made as made, TheVariants.Opens as opens}
+use Rattle.pf_store.specs.declared.groups.recorded.Recorded.{Recorded, TheVariants.Made as made, TheVariants.Opens as opens}
 use Rattle.pf_anchor.specs.Forms.{plain_entries, entries_in, plain_named, named_in}
 use Rattle.pf_store.specs.Groups.{ChangeShape, ItemShape, change_form, edit_form, expire_form, items_form, item_form, tables_form, defined_form, group_form, item_in, plain_record, record_in, is_commit, is_group, made_all, has_item_form, has_form, have_form, IsRecorded}
 

@@ -7,7 +7,7 @@ use Rattle.pf_table.specs.Entries.{PlainEntry}
 use Rattle.pf_store.specs.{Groups.{can_be_wanted, change_form, has_form, is_group, made_all}, Lengths.{edit_length, payload_length, recorded_length, snapshot_length, step_length, total}, Rooms.group_fits, Stores.{FindsRoom, HasRoom}}
 use Rattle.pf_store.proofs.Sized.{edit_long, steps_long}
 use Rattle.pf_snap.specs.declared.header.TheConstants.{BANK_HEADER}
-use Rattle.pf_store.specs.declared.groups.change.Recorded.TheVariants as recorded
+use Rattle.pf_store.specs.declared.groups.recorded.Recorded.TheVariants as recorded
 
 and-parts : (a b : Bool) → (a && b) ≡ true → (a ≡ true) × (b ≡ true)
 and-parts true b is = (refl, is)

@@ -9,7 +9,7 @@ use Rattle.pf_rule.specs.Sum.Reading.{rule_of}
 use Rattle.pf_state.specs.Layouts.{States.name_in, Steps.step_in}
 use Rattle.pf_table.specs.{EntryForms.entry_of, Tables.AreEntries}
 use Rattle.pf_snap.specs.Banks.{Content}
-use Rattle.pf_store.specs.declared.groups.change.Recorded.{Recorded}
+use Rattle.pf_store.specs.declared.groups.recorded.Recorded.{Recorded}
 use Rattle.pf_store.proofs.DurablesWithin.{durable_within, entries_few}
 use Rattle.pf_anchor.specs.Forms.{NamedShape, named_form, named_in, rule_list_form, rules_form}
 use Rattle.pf_store.specs.{Groups.{ChangeShape, ItemShape, change_form, defined_form, group_form, item_form, item_in, items_form, plain_record, record_in, tables_form, IsRecorded}, Stores.{FollowInTurn, Follows, left_by, left_by_all, Leads, Makes}}

@@ -4,7 +4,7 @@ use Rattle.pf_addr.specs.declared.addr.Family.TheVariants.{V4}
 use Rattle.pf_form.specs.Bytes.Forms.{Spells}
 use Rattle.pf_anchor.specs.{declared.limits.TheConstants.{RULESET_LIMIT, TABLE_COUNT_LIMIT}, Tables.placed_table, Forms.{at_most, configured}}
 use Rattle.pf_state.specs.Layouts.States.{has_expiry}
-use Rattle.pf_core.specs.Durable.{Changes.{PlainDurable, durable_with}, Forms.{allows, durable_form, plain_durable, durable_in}}
+use Rattle.pf_core.specs.Durable.{Changes.{PlainDurable, kept_nothing}, Forms.{allows, durable_form, plain_durable, durable_in}}
 
 -- What is kept has bytes if it has no more rulesets and tables than allowed. Its types guarantee all else that the form requires.
 abbrev pub durable_has_form : PlainDurable → Bool
@@ -23,7 +23,7 @@ pub record IsDurable (version : ℕ) (d : PlainDurable) (bytes : List ℕ) : Typ
 
 -- main's table `t` of 10.0.0.0/8, with epoch 0
 abbrev pub example_kept : PlainDurable
-example_kept = durable_with 0 0 (configured [] (placed_table [] (codes "t") ((record { family = V4; len = 8; front = 10 }, false) ∷ []) ∷ [])) []
+example_kept = record (kept_nothing 0) { config = configured [] (placed_table [] (codes "t") ((record { family = V4; len = 8; front = 10 }, false) ∷ []) ∷ []) }
 
 -- the numbers of rulesets and tables; the table's path, its name, the number of its entries and the entry; then the number of states
 abbrev pub example_rest : List ℕ

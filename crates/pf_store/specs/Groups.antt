@@ -20,7 +20,7 @@ use Rattle.pf_anchor.specs.Forms.{at_most, RulesShape, rules_form, plain_ruled, 
 use Rattle.pf_journal.specs.{Journal.IsOf, declared.journal.Record.Record}
 use Rattle.pf_core.specs.{declared.durable.change.Item.Item, Durable.Changes.{PlainChange, commits, adds, deletes, sets, acts, removes, expires}}
 use Rattle.pf_core.specs.declared.durable.change.Item.TheVariants as item
-use Rattle.pf_store.specs.declared.groups.change.Recorded.{Recorded, TheVariants.Made as made, TheVariants.Opens as opens}
+use Rattle.pf_store.specs.declared.groups.recorded.Recorded.{Recorded, TheVariants.Made as made, TheVariants.Opens as opens}
 use Rattle.pf_state.specs.Layouts.{States.{NameShape, name_form, plain_name, name_in, has_expiry}, Steps.{StepShape, step_form, plain_step, step_in, allows_steps}}
 use Rattle.pf_table.specs.EntryForms.{EntryShape, entry}
 use Rattle.pf_ticket.specs.declared.limits.TheConstants.{ENTRY_LIMIT, OFFERED_TABLE_LIMIT}

@@ -7,7 +7,7 @@ use Rattle.pf_snap.specs.Banks as snap
 use Rattle.pf_snap.specs.declared.fault.LookFault.TheVariants as looking
 use Rattle.pf_core.specs.{Durable.Changes.{PlainDurable}, Worlds.{last_epoch, raised}}
 use Rattle.pf_store.specs.{Durables.IsDurable, Groups.IsRecorded, Lengths.snapshot_length, Stores.{FollowInTurn, Holds, HoldsEither, IsRoomy, Leads, Makes}}
-use Rattle.pf_store.specs.declared.{groups.change.Recorded.Recorded, store.fault.OpenFault.OpenFault, store.fault.OpenFault.TheVariants.{BadSize, NoBank, Corrupt, Memory, Fault, EpochsExhausted, Full, Places}}
+use Rattle.pf_store.specs.declared.{groups.recorded.Recorded.Recorded, store.fault.OpenFault.OpenFault, store.fault.OpenFault.TheVariants.{BadSize, NoBank, Corrupt, Memory, Fault, EpochsExhausted, Full, Places}}
 use Rattle.pf_store.specs.declared.limits.TheConstants.{OPENING_RECORD}
 
 -- The snapshot of the bank at place `at`, of this version, is of nothing that can be kept.

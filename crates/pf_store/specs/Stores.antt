@@ -3,8 +3,8 @@ use Rattle.std.specs.Prelude.{◌≡◌, ◌⊎◌, ◌≤◌, ℕ, ◌+◌, tru
 use Rattle.pf_snap.specs.{Banks.Content, declared.header.TheConstants.{BANK_HEADER}}
 use Rattle.pf_snap.specs.Banks as snap
 use Rattle.pf_core.specs.Durable.{Changes.{PlainDurable, PlainChange, in_epoch, applied, fits}}
-use Rattle.pf_store.specs.{Durables.IsDurable, Groups.{IsRecorded, have_form, made_all}, Lengths.{snapshot_length, payload_length}, declared.groups.change.Recorded.Recorded}
-use Rattle.pf_store.specs.declared.groups.change.Recorded.TheVariants as recorded
+use Rattle.pf_store.specs.{Durables.IsDurable, Groups.{IsRecorded, have_form, made_all}, Lengths.{snapshot_length, payload_length}, declared.groups.recorded.Recorded.Recorded}
+use Rattle.pf_store.specs.declared.groups.recorded.Recorded.TheVariants as recorded
 use Rattle.pf_store.specs.declared.limits.TheConstants.{AROUND, ROOM_KEPT, ROOM_TO_OPEN}
 
 -- ---- what is held

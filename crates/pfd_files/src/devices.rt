@@ -1,15 +1,13 @@
 //! What the program does with a disk, whatever kind of disk it is.
-ghost use Rattle.std.specs.Prelude.{◌≡◌, ◌≤◌, ◌<◌, ◌^◌, ◌↔◌, ◌+◌, if◌then◌else◌, ℕ, List, length, IfErr, IfOk, IsErrOf, OnOk};
+ghost use Rattle.std.specs.Prelude.{◌≡◌, ◌<◌, ◌^◌, ◌↔◌, ◌+◌, if◌then◌else◌, ℕ, List, length, IfErr, IfOk, IsErrOf, OnOk};
 ghost use Rattle.pf_addr.specs.Writing.{Continues, Writes};
 ghost use Rattle.pf_disk.specs.Disk.{IsImage};
-ghost use Rattle.pf_anchor.specs.declared.limits.TheConstants.{RULESET_LIMIT, TABLE_COUNT_LIMIT};
 ghost use Rattle.pf_core.specs.Durable.Changes.{kept_nothing};
 ghost use Rattle.pf_store.specs.{Banks.IsSize, Stores.Holds};
 ghost use Rattle.pfd_files.specs.Showing.{IsShown, is_device_fault, number_line, shown_text, sum_line};
 
 use crate::fault::Fault;
 use pf_addr::{write_more, write_more_number};
-use pf_anchor::Config;
 use pf_core::{Answer, Durable, Reply};
 use pf_disk::Disk;
 use pf_line::write_reply;
@@ -51,43 +49,19 @@ pub fn show_on<D: Disk, W: Write>(alloc: Global, disk: &mut D, writer: &mut W) -
 }
 
 fn write_shown<W: Write>(out: &mut W, durable: &Durable) -> io::Result<()>
-    requires rulesets { length durable.now.config.rulesets ≤ RULESET_LIMIT }
-    requires tables { length durable.now.config.tables ≤ TABLE_COUNT_LIMIT }
     ensures { Writes result (W.contents out.old) (W.contents out.new) (shown_text durable.now) }
 {
-    let rulesets = number_of_rulesets(durable.config());
-    let tables = number_of_tables(durable.config());
+    let rulesets = durable.config().ruleset_count();
+    let tables = durable.config().table_count();
     let so_far = write_number(out, Ok(()), b"epoch ", durable.epoch() as u64);
     let so_far = write_sum(out, so_far, durable.sum());
-    let so_far = write_number(out, so_far, b"rulesets ", rulesets);
-    let so_far = write_number(out, so_far, b"tables ", tables);
+    let so_far = write_number(out, so_far, b"rulesets ", rulesets as u64);
+    let so_far = write_number(out, so_far, b"tables ", tables as u64);
     let so_far = write_number(out, so_far, b"states ", durable.states().len() as u64);
     match write_number(out, so_far, b"tick ", durable.tick()) {
         Ok(()) => out.flush(),
         Err(error) => Err(error),
     }
-}
-
-fn number_of_rulesets(config: &Config) -> u64
-    requires { length config.now.rulesets ≤ RULESET_LIMIT }
-    ensures { result ≡ length config.now.rulesets }
-{
-    let mut number = 0;
-    for ruleset in config.each_ruleset() {
-        number += 1;
-    }
-    number
-}
-
-fn number_of_tables(config: &Config) -> u64
-    requires { length config.now.tables ≤ TABLE_COUNT_LIMIT }
-    ensures { result ≡ length config.now.tables }
-{
-    let mut number = 0;
-    for table in config.each_table() {
-        number += 1;
-    }
-    number
 }
 
 // Each of these writes a line after what was written so far, unless that failed already.

@@ -7,6 +7,7 @@ ghost use Rattle.pf_state.specs.Layouts.States.{has_expiry};
 ghost use Rattle.pf_store.specs.Groups.{EditShape, edit_form, expire_form, change_form, plain_record, has_form, allows_record};
 
 use crate::groups::items::{have_form, items_are_allowed_in, push_items, read_items};
+use crate::groups::recorded::Recorded;
 use crate::groups::tables::{push_entries, read_entries};
 use crate::groups::telling::tells;
 use pf_addr::path::{Path, TableName};
@@ -40,15 +41,6 @@ const REMOVE: u8 = 6;
 pub(crate) const OPEN: u8 = 7;
 
 const EXPIRE: u8 = 8;
-
-/// A change or an opening, as a record keeps it.
-#[derive(Drop)]
-pub enum Recorded {
-    /// A change of what is kept.
-    Made(Change),
-    /// An opening of the device, with its epoch.
-    Opens(u32),
-}
 
 impl Layout for Recorded {
     ghost use Rattle.std.specs.Prelude.{true};

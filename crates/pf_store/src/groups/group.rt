@@ -5,10 +5,9 @@ ghost use Rattle.pf_store.specs.declared.limits.TheConstants.{AROUND, OPENING_RE
 ghost use Rattle.pf_store.specs.{Groups.{change_form, group_form, have_form, have_form_in, has_form, allows_record, allows_group, is_group, made_all, plain_record, record_in, IsRecorded, IsRecordOf}, Lengths.payload_length};
 
 use crate::groups::as_change::AsChange;
-use crate::groups::change::{
-    OPEN, Recorded, has_change_form, is_allowed_in, push_change, push_record,
-};
+use crate::groups::change::{OPEN, has_change_form, is_allowed_in, push_change, push_record};
 use crate::groups::fault::GroupFault;
+use crate::groups::recorded::Recorded;
 use crate::groups::telling::{tell_change, tells};
 use pf_core::GROUP_LIMIT;
 use pf_form::bytes::{

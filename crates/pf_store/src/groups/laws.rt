@@ -1,6 +1,6 @@
 //! Laws of what is recorded. Each function does nothing; its clauses are what is proved.
 ghost use Rattle.std.specs.Prelude.{◌≡◌, true, List, ℕ, length};
-ghost use Rattle.pf_store.specs.declared.groups.change.Recorded.{Recorded};
+ghost use Rattle.pf_store.specs.declared.groups.recorded.Recorded.{Recorded};
 ghost use Rattle.pf_store.specs.{Groups.{have_form_in, IsRecorded}, Lengths.payload_length};
 
 /// In each version a payload is that of at most one group. That group has a form in that version, and the payload is as long as the kinds

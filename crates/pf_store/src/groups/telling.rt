@@ -3,7 +3,7 @@ ghost use Rattle.std.specs.Prelude.{◌≡◌, map};
 ghost use Rattle.pf_rule.specs.Sum.{Layouts.plain_rule, Reading.rule_of};
 ghost use Rattle.pf_store.specs.Groups.{plain_item, item_in, plain_record, record_in};
 
-use crate::groups::change::Recorded;
+use crate::groups::recorded::Recorded;
 use pf_core::{Change, ChangeKind, Item};
 use pf_rule::Rule;
 

@@ -93,18 +93,6 @@ pub(crate) fn read_rulesets<'a>(
     Ok(placed_in(alloc, rows)?)
 }
 
-// How many there are.
-fn count_of(config: &Config) -> u32
-    requires { length config.now.rulesets ≤ RULESET_LIMIT }
-    ensures { result ≡ length config.now.rulesets }
-{
-    let mut count = 0;
-    for placed in config.each_ruleset() {
-        count += 1;
-    }
-    count
-}
-
 // That the rulesets are a map: the contract of `rules_at` says so.
 fn tell_map(config: &Config)
     ensures { IsMap config.now.rulesets }
@@ -125,7 +113,7 @@ pub(crate) fn push_rulesets(
     ensures fits { OnOk result (Fits (rulesets_form version) (map plain_ruled config.now.rulesets)) }
 {
     tell_map(config);
-    push_u32(out, count_of(config))?;
+    push_u32(out, config.ruleset_count() as u32)?;
     for placed in config.each_ruleset() {
         push_rules(out, version, placed)?;
     }

@@ -97,18 +97,6 @@ pub(crate) fn read_tables<'a>(
     Ok(placed_in(alloc, rows)?)
 }
 
-// How many there are.
-fn count_of(config: &Config) -> u32
-    requires { length config.now.tables ≤ TABLE_COUNT_LIMIT }
-    ensures { result ≡ length config.now.tables }
-{
-    let mut count = 0;
-    for placed in config.each_table() {
-        count += 1;
-    }
-    count
-}
-
 // That the tables are a map: the contract of `table_at` says so. Without tables there is no place to ask for, and none is needed.
 fn tell_map(config: &Config)
     ensures { IsTableMap config.now.tables }
@@ -139,7 +127,7 @@ pub(crate) fn push_tables(out: &mut Vec<u8>, version: u8, config: &Config) -> Re
     ensures fits { OnOk result (Fits kept_tables_form (map plain_tabled config.now.tables)) }
 {
     tell_map(config);
-    push_u32(out, count_of(config))?;
+    push_u32(out, config.table_count() as u32)?;
     for placed in config.each_table() {
         push_placed(out, version, placed)?;
     }

@@ -4,7 +4,7 @@ ghost use Rattle.pf_disk.specs.Disk.{EachMoment};
 ghost use Rattle.pf_journal.specs.Journal.{IsOf};
 ghost use Rattle.pf_snap.specs.{Banks.bank_size, Faults.is_switch_fault, Ready.IsReady};
 ghost use Rattle.pf_core.specs.Durable.Changes.{PlainDurable};
-ghost use Rattle.pf_store.specs.declared.groups.change.Recorded.{Recorded};
+ghost use Rattle.pf_store.specs.declared.groups.recorded.Recorded.{Recorded};
 ghost use Rattle.pf_store.specs.{Durables.durable_has_form, Groups.IsRecordOf, Lengths.snapshot_length, Snapshots.IsBankOf, StoreFaults.is_add_fault, StoreKept.HaveKept, Openings.{IsAsLongAs, IsNoLaterThan}, Stores.{FollowInTurn, left_by_all, Holds, HoldsEither}};
 ghost use Rattle.pf_snap.specs.declared.header.TheConstants.{NEWEST};
 

@@ -8,7 +8,7 @@ ghost use Rattle.pf_store.specs.declared.store.fault.SaveFault.TheVariants as sa
 ghost use Rattle.pf_store.specs.declared.store.fault.OpenFault.TheVariants as opening;
 ghost use Rattle.pf_snap.specs.declared.header.TheConstants.{NEWEST};
 ghost use Rattle.pf_store.specs.declared.limits.TheConstants.{AROUND, OPENING_RECORD};
-ghost use Rattle.pf_store.specs.declared.groups.change.Recorded.TheVariants as recorded;
+ghost use Rattle.pf_store.specs.declared.groups.recorded.Recorded.TheVariants as recorded;
 ghost use Rattle.pf_store.specs.{Groups.{allows_group, can_be_wanted, is_group, made_all, IsRecordOf}, Lengths.payload_length, Stores.{FollowInTurn, left_by_all, Holds, HoldsEither, FindsRoom, HasRoom}, StoreKept.{Stands, HaveKept}, StoreFaults.{is_save_fault, TellsRoom, is_fault}, Openings.{HasRoomHere, IsUnopened, IsFull, IsOfOpening, IsAsLongAs, IsNoLaterThan, LeavesRoom, generation_of, version_of}};
 
 use crate::groups::{AsChange, record_group, record_opening};

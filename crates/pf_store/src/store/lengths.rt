@@ -1,7 +1,7 @@
 //! How many bytes a snapshot of what is kept would have, and a group's payload. It looks at items and steps, at no rule or entry, of a
 //! state at most at its expiry, and takes no memory. Each `behind_` function takes the bytes of something off a room: `None` if there are too few.
 ghost use Rattle.std.specs.Prelude.{◌≡◌, true, ◌↔◌, ◌+◌, ◌<◌, ◌≤◌, map, IsTrue, MatchOption};
-ghost use Rattle.pf_store.specs.declared.groups.change.Recorded.TheVariants as recorded;
+ghost use Rattle.pf_store.specs.declared.groups.recorded.Recorded.TheVariants as recorded;
 ghost use Rattle.pf_store.specs.{Groups.{allows_group, made_all}, Lengths.{named_length, item_length, edit_length, step_length, total, snapshot_length, recorded_length, payload_length}, Stores.{FindsRoom}};
 
 use crate::groups::{AsChange, changes_are_allowed_in, have_form};

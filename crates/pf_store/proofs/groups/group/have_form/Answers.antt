@@ -1,7 +1,7 @@
 use Rattle.std.proofs.Common.{◌≡◌, ◌&&◌, Bool, true, sym, ◌∙◌}
 use Rattle.std.specs.List.{list_all}
 use Rattle.pf_store.specs.Groups.{has_form, is_group}
-use Rattle.pf_store.specs.declared.groups.change.Recorded.TheVariants.{Made as made}
+use Rattle.pf_store.specs.declared.groups.recorded.Recorded.TheVariants.{Made as made}
 use Rattle.pf_store.proofs.RecordedForms.{formed_as}
 use Rattle.pf_store.proofs.groups.group.have_form.Goals as goal
 

@@ -1,7 +1,7 @@
 use Rattle.std.proofs.Common.{◌++◌, length, drop}
 use Rattle.pf_form.specs.Bytes.BasicForms.{number_bytes}
 use Rattle.pf_store.specs.Groups.{change_form, plain_record}
-use Rattle.pf_store.specs.declared.groups.change.Recorded.TheVariants.{Made as made}
+use Rattle.pf_store.specs.declared.groups.recorded.Recorded.TheVariants.{Made as made}
 use Rattle.pf_state.proofs.Pushing.{Pushing}
 use Rattle.pf_store.proofs.groups.group.push_changes.Given as goal
 

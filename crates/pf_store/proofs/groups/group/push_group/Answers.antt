@@ -3,7 +3,7 @@ use Rattle.std.proofs.lemmas.Bool.{and_parts}
 use Rattle.std.specs.{Prelude.{Result, OnOk}, List.list_all}
 use Rattle.pf_form.specs.{Bytes.Forms.{Fits, Value, list, onto, writes}, Laws.Bytes.Onto.onto_is}
 use Rattle.pf_store.specs.Groups.{ChangeShape, group_form, has_form, is_group, made_all, plain_record}
-use Rattle.pf_store.specs.declared.groups.change.Recorded.TheVariants.{Made as made}
+use Rattle.pf_store.specs.declared.groups.recorded.Recorded.TheVariants.{Made as made}
 use Rattle.pf_store.proofs.{Allowing.allowed_as, RecordedForms.{as_made, formed_as, spelled}}
 use Rattle.pf_store.proofs.groups.group.push_group.Goals as goal
 

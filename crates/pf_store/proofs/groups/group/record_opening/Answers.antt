@@ -1,6 +1,6 @@
 use Rattle.std.proofs.Common.{◌≡◌, ◌+◌, ℕ, List, [], ◌∷◌, ◌++◌, refl, ◌∙◌, ap, arith, append_assoc}
 use Rattle.pf_form.specs.Bytes.BasicForms.{number_bytes}
-use Rattle.pf_store.specs.declared.groups.change.Recorded.TheVariants.{Opens}
+use Rattle.pf_store.specs.declared.groups.recorded.Recorded.TheVariants.{Opens}
 use Rattle.pf_store.proofs.{Recording.{pushed_long, recorded_by}, Sized.{opening_long}, RecordedForms.{opening_pushed}}
 use Rattle.pf_store.proofs.groups.group.record_opening.Goals as goal
 

@@ -2,7 +2,7 @@ use Rattle.std.proofs.Common.{◌≡◌, ◌+◌, ◌≤◌, ℕ, Bool, true, fa
 use Rattle.std.specs.Prelude.{length, if◌then◌else◌}
 use Rattle.pf_disk.specs.Disk.{is_within}
 use Rattle.pf_snap.specs.{Banks.with_payload, declared.header.TheConstants.NEWEST}
-use Rattle.pf_store.specs.{declared.groups.change.Recorded.Recorded, Groups.IsRecorded, Stores.left_by_all}
+use Rattle.pf_store.specs.{declared.groups.recorded.Recorded.Recorded, Groups.IsRecorded, Stores.left_by_all}
 use Rattle.pf_store.proofs.Saving.{before, both_generations, both_lengths, have_held, have_more, moved, recorded_here, recorded_there, run_generations, run_lengths, turned_and_moved, unmoved, unmoved_generations, unmoved_lengths}
 use Rattle.pf_store.proofs.store.adding.add_to.Goals as goal
 

@@ -4,7 +4,7 @@ use Rattle.pf_disk.proofs.Images.{only_read}
 use Rattle.pf_snap.specs.Banks as snap
 use Rattle.pf_core.specs.{Durable.Changes.PlainDurable, Worlds.raised}
 use Rattle.pf_store.specs.{Openings.{IsAsLongAs, IsNoLaterThan, IsUnopened}, Stores.{Holds, HoldsEither}}
-use Rattle.pf_store.specs.declared.groups.change.Recorded.TheVariants.{Opens as opens}
+use Rattle.pf_store.specs.declared.groups.recorded.Recorded.TheVariants.{Opens as opens}
 use Rattle.pf_store.proofs.Refusing.{held_in_want}
 use Rattle.pf_store.proofs.Saving.{before, by_generation, by_version, have_held, is_full, no_later, no_room_here, room_here, stores, tells_full, unmoved, unmoved_generations, unmoved_lengths}
 use Rattle.pf_store.proofs.store.keeping.raise_on.Goals as goal
