@@ -1,4 +1,4 @@
-"""Proves and builds a program of bench/ over the crates that it stands on, in a folder of its own."""
+"""Proves and builds a program of bench/ over the crates that it stands on, in a folder of its own, and compiles small libraries in C."""
 import os
 import shutil
 import subprocess
@@ -44,3 +44,10 @@ def built(where, name, needs, sources=MAIN, rows=""):
     if not os.path.isfile(program):
         sys.exit(ran.stdout)
     return program
+
+
+def compiled(source, folder):
+    """The path of a library of a file of bench/ in C, which is left in this folder. A program can load it before all others."""
+    library = os.path.join(folder, os.path.splitext(os.path.basename(source))[0] + ".so")
+    subprocess.run(["cc", "-O2", "-shared", "-fPIC", "-o", library, os.path.join(ROOT, "bench", source)], check=True)
+    return library

@@ -16,7 +16,8 @@ The checksum is taken by a small library (checksum.c), which is compared with th
 import ctypes
 import hashlib
 import os
-import subprocess
+
+from building import compiled
 
 from .chances import CHECKSUM, Chance, changed_image, checksum, pass_pieces
 from .examples import text_of
@@ -31,7 +32,6 @@ from .stops import VERSION_1, VERSION_2, Script, told_by
 from .stored import CRATE, FOLDER, told_rows
 from .streams import NO_RULES, Maker
 
-HERE = os.path.dirname(os.path.abspath(__file__))
 # So many streams and images a run of the program plays, on so many devices.
 TOGETHER, DEVICES, BASES = 20_000, 5, 10
 # How many of a base's images are of it as it is; and how many other shapes of it share the rest.
@@ -44,13 +44,6 @@ PASS_ALL = hashlib.md5(rule_bytes(rule(Words(["pass", "all"])))).digest()
 
 
 # The checksum
-
-
-def built(folder):
-    """The small library."""
-    library = os.path.join(folder, "checksum.so")
-    subprocess.run(["cc", "-O2", "-shared", "-fPIC", "-o", library, os.path.join(HERE, "checksum.c")], check=True)
-    return library
 
 
 def quick_checksum(library):
@@ -261,7 +254,7 @@ def play(options):
         result.wrong.append(f"{options.store_tests} isn't built: `rt run pf_store_tests` proves and builds it, and --store-tests names another place")
         return result
     with new_folder() as folder:
-        library = built(folder)
+        library = compiled("hostile_parts/checksum.c", folder)
         result = compare_checksums(library)
         jobs = [(options, word, number, library) for number in range(options.few(20, 500)) for word in ("streams", "images")]
         result.add(spread(play_run, jobs, options.processes))

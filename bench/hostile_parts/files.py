@@ -14,6 +14,8 @@ import os
 import subprocess
 import threading
 
+from building import compiled
+
 from . import reading, writing
 from .images import compare_run
 from .lines import QUESTIONS, same
@@ -21,7 +23,6 @@ from .model import Session
 from .program import Result, Server, bytes_of, chance, formatted, new_folder, ran, spread, write
 from .streams import EXAMPLE, Maker, read_stream
 
-HERE = os.path.dirname(os.path.abspath(__file__))
 FAILING = ("write", "half", "none", "full", "sync", "lost", "read")
 HARMLESS = ("short", "signal", "few")
 KILLING = ("die", "cut", "drop", "tear")
@@ -253,15 +254,9 @@ def with_groups(random):
     return 8192, ["tset - t 10.0.0.0/8", streams[0], "tadd - t 10.1.0.0/16", streams[1], EXAMPLE * 2, streams[2], "tkill - t"]
 
 
-def built(folder):
-    shim = os.path.join(folder, "break.so")
-    subprocess.run(["cc", "-O1", "-shared", "-fPIC", "-o", shim, os.path.join(HERE, "break.c")], check=True)
-    return shim
-
-
 def play(options):
     with new_folder() as folder:
-        shim = built(folder)
+        shim = compiled("hostile_parts/break.c", folder)
         scripts = [("run", "a small file", SMALL), ("serve", "groups", with_groups(chance(options.seed, "groups")))]
         scripts += [("run", "a file of version 1", OLDER), ("run", "a file of version 2", EXPIRING)]
         if not options.is_quick:
