@@ -1,7 +1,7 @@
 -- Which connections a listener serves, and under which numbers.
 use Rattle.std.specs.{Prelude.{◌≡◌, ◌≢◌, ℕ, ◌+◌, Bool, true, false, not, ◌&&◌, ◌||◌, ◌==◌, ◌⊎◌, nat_lt, min, Option, Some, None, Result, Ok, Err}, IoError.error_kind}
 use Rattle.std.specs.declared.{io.Error.Error, io.ErrorKind.TheVariants.ConnectionAborted}
-use Rattle.pfd.specs.declared.accepting.{Acceptor.Acceptor, Taken.Taken, Taken.TheVariants.{Serve, Again, Stop}}
+use Rattle.pfd.specs.declared.accepting.{Acceptor.Acceptor, Taken.Taken, Taken.TheVariants.{Serve, Again, End}}
 
 -- before the first accept
 abbrev pub new_acceptor : ℕ → Acceptor
@@ -25,7 +25,7 @@ abbrev pub IsTaken : {C : Type 0} → Result C Error → Acceptor → Acceptor �
 IsTaken (Ok connection) old new taken = (new ≡ next_session old) × (taken ≡ Serve connection new.accepted)
 IsTaken (Err error) old new taken =
     ((error_kind error ≡ ConnectionAborted) × (new ≡ old) × (taken ≡ Again))
-    ⊎ ((error_kind error ≢ ConnectionAborted) × (new ≡ failed old) × (taken ≡ Stop))
+    ⊎ ((error_kind error ≢ ConnectionAborted) × (new ≡ failed old) × (taken ≡ End))
 
 -- The next connection has the next number, where one more is accepted; there is none where no more are, or where an accept failed.
 abbrev pub FindsNext : {C : Type 0} → Acceptor → Acceptor → Option (C × ℕ) → Type 0

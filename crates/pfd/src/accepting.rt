@@ -20,7 +20,7 @@ pub(crate) enum Taken<C> {
     /// Accept again: the client gave the connection up before it was accepted.
     Again,
     /// Accept no more: the accept failed.
-    Stop,
+    End,
 }
 
 /// How many connections were accepted, of how many (0: without end), and whether an accept failed.
@@ -70,7 +70,7 @@ impl Acceptor {
                     Taken::Again
                 } else {
                     self.has_failed = true;
-                    Taken::Stop
+                    Taken::End
                 }
             }
         }
@@ -88,7 +88,7 @@ impl Acceptor {
             match self.take(listener.accept()) {
                 Taken::Serve(connection, session) => return Some((connection, session)),
                 Taken::Again => {}
-                Taken::Stop => return None,
+                Taken::End => return None,
             }
         }
         // 2^64 clients gave up: no machine comes here
