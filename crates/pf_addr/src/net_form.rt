@@ -6,7 +6,7 @@ ghost use Rattle.pf_form.specs.Bytes.{Forms.onto, Readers.Reads};
 use crate::addr::{Addr, Family};
 use crate::net::Net;
 use pf_form::bytes::{
-    Fault, Rest, Stop, expect, push_bytes, push_u32, push_u128, read_u8, read_u32, read_u128,
+    Fault, Rest, Undecoded, expect, push_bytes, push_u32, push_u128, read_u8, read_u32, read_u128,
 };
 use std::alloc::AllocError;
 
@@ -24,21 +24,21 @@ impl Family {
 
 /// Reads a family from one byte, 4 or 6. Fails if no byte is left, and at any other byte.
 #[tactic(auto, unfolding(crate::specs::NetForms::family))]
-pub fn read_family<'a>(from: &mut Rest<'a>) -> Result<Family, Stop>
+pub fn read_family<'a>(from: &mut Rest<'a>) -> Result<Family, Undecoded>
     ensures { Reads family_byte family result from.old.now from.new.now }
 {
     let left = from.len();
     match read_u8(from)? {
         4 => Ok(Family::V4),
         6 => Ok(Family::V6),
-        _ => Err(Stop::Fault(Fault::Bad(left))),
+        _ => Err(Undecoded::Fault(Fault::Bad(left))),
     }
 }
 
 /// Reads an address of this family from 16 bytes, big-endian; an IPv4 address is in the first four, followed by zeros.
 ///
 /// Fails if fewer bytes are left, and at the first byte after an IPv4 address that isn't zero.
-pub fn read_addr<'a>(family: Family, from: &mut Rest<'a>) -> Result<Addr, Stop>
+pub fn read_addr<'a>(family: Family, from: &mut Rest<'a>) -> Result<Addr, Undecoded>
     ensures read { Reads number_in (address_in (family_byte family)) result from.old.now from.new.now }
     ensures family { IfOk result (λ a. family_of a ≡ family) }
 {

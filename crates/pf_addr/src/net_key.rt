@@ -4,7 +4,7 @@ ghost use Rattle.pf_addr.specs.{NetOrder.{net_order, net_hint}, Laws.NetOrder.{n
 
 use crate::addr::Addr;
 use crate::net::Net;
-use pf_map::Key;
+use pf_key::Key;
 use std::cmp::Ordering;
 
 // The hints of V6 networks start here: after those of V4 networks, with room for the first 63 bits of an address.

@@ -1,6 +1,6 @@
 -- Labels of rules: how long they are together, and which versions allow them.
 use Rattle.std.proofs.{Common.{◌≡◌, ◌+◌, ◌*◌, ◌<◌, ◌≤◌, ◌||◌, ◌==◌, ℕ, Bool, true, false, List, [], ◌∷◌, ◌++◌, length, take, get_or, Option, Some, None, refl, sym, ap, ◌∙◌, arith}, lemmas.Bool.{and_parts, eqb-true}, lemmas.List.{take_more, Sums.sum_by-cons, Elements.{All-head, All-tail}}}
-use Rattle.std.specs.{Prelude.{All, is_none, unwrap_or}, List.sum_by}
+use Rattle.std.specs.{Prelude.{All, is_none, unwrap_or}}
 use Rattle.pf_rule.specs.{declared.rule.Effect.{Effect, TheVariants.Decide, TheVariants.Evaluate}, Rules.{PlainRule, LabelFits, IsRule}, Sum.{Forms.label_bytes, Layouts.{has_labels, allows}}}
 use Rattle.pf_anchor.specs.Forms.{allows_rules, labels_length}
 

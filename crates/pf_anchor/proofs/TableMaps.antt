@@ -3,7 +3,8 @@ use Rattle.std.proofs.{Common.{◌≡◌, ◌≢◌, ◌⊎◌, inl, inr, ℕ, �
 use Rattle.std.specs.{declared.{cmp.Ordering.Ordering, cmp.Ordering.TheVariants.Less, cmp.Ordering.TheVariants.Equal, cmp.Ordering.TheVariants.Greater}, Prelude.fold, Cmp.IsTotalOrder, FinMap.{IsAntisymmetric, slice_cmp-IsAntisymmetric, nat_cmp-IsAntisymmetric}, Option.{option_map_or, option_or}, Ordering.eq_by_cmp}
 use Rattle.pf_addr.specs.declared.addr.Addr.{Addr}
 use Rattle.pf_table.specs.{Entries.PlainEntry, Tables.table_holds}
-use Rattle.pf_map.specs.{ListMaps.{list_in, unless_empty}, Pairs.pairs_alike}
+use Rattle.pf_key.specs.Keys.{pairs_alike}
+use Rattle.pf_map.specs.ListMaps.{list_in, unless_empty}
 use Rattle.pf_map.proofs.{Maps.replaces_the_key, ListMaps.{lists_replaced, list_maps_stay, one_list_map, lists_grow}}
 use Rattle.pf_addr.specs.{Path.Names.name_order, Path.Paths.{main, path_order}}
 use Rattle.pf_rule.specs.declared.host.host.Host.TheVariants.{Table}

@@ -4,7 +4,8 @@ use Rattle.std.specs.{Prelude.{ℕ, Bool, false, List, Option, filter}, FinMap.f
 use Rattle.std.specs.declared.cmp.Ordering.{Ordering}
 use Rattle.pf_addr.specs.declared.addr.Addr.{Addr}
 use Rattle.pf_table.specs.{Entries.PlainEntry, Tables.table_holds}
-use Rattle.pf_map.specs.{Pairs.pair_order, ListMaps.{list_at, with_list, IsListMap}}
+use Rattle.pf_key.specs.Keys.{pair_order}
+use Rattle.pf_map.specs.ListMaps.{list_at, with_list, IsListMap}
 use Rattle.pf_addr.specs.{Path.Names.name_order, Path.Paths.{main, path_order, same_path}}
 
 -- where a table is: its path and its name

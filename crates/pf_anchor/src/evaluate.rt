@@ -212,10 +212,10 @@ fn evaluate_targets<'a>(
         (targets config.now.rulesets path.now reference.now) }
 {
     if !path.as_bytes().is_empty() || reference.is_wildcard() {
-        return evaluate_within(config, path, reference, packet);
+        return evaluate_joined(config, path, reference, packet);
     }
-    // the names are the path, and none is made, which is long
-    match config.placed_at(&reference.from_main()) {
+    // the names are the path's bytes; no path is made, since one is long to copy
+    match config.placed_at(&reference.path_from_main()) {
         Some(placed) => evaluate(config, placed, packet),
         None => Evaluated::Open(None),
     }
@@ -223,7 +223,7 @@ fn evaluate_targets<'a>(
 
 // The same, by a path that is made of the ruleset's and the names.
 #[cycle(evaluate)]
-fn evaluate_within<'a>(
+fn evaluate_joined<'a>(
     config: &'a Config,
     path: &Path,
     reference: &Reference,

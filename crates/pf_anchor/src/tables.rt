@@ -4,7 +4,8 @@ ghost use Rattle.pf_form.specs.Bytes.Forms.{length_of};
 ghost use Rattle.pf_anchor.specs.Forms.{named_form, plain_named};
 
 use pf_addr::path::{Path, TableName};
-use pf_map::{Entries, Key, KeyValue, PagedMap, Probe, Weigher};
+use pf_key::{Key, Probe};
+use pf_map::{Entries, KeyValue, PagedMap, Weigher};
 use pf_table::Table;
 use std::cmp::Ordering;
 

@@ -57,6 +57,13 @@ pub record IsOpened {D : Type 0} (seen : D → List ℕ) (unsynced : D → ℕ �
   pub within : IsWithin d
   pub epoch : IsRaised d
 
+-- what the type of a named opening keeps (its invariant): the device holds what the name says, and its history has no change
+pub record IsBegun {D : Type 0} (seen : D → List ℕ) (unsynced : D → ℕ → Bool) (base : PlainDurable) (store : PlainStore D) (d : PlainDurable) (tip start : PlainFront) : Type 0 where
+  pub opened : IsOpened seen unsynced store d
+  pub base_is : d ≡ base
+  pub tip_is : tip ≡ all_acked []
+  pub start_is : start ≡ all_acked []
+
 -- ---- a Book
 
 -- a list cut into groups of these sizes, one after the other

@@ -5,7 +5,7 @@ ghost use Rattle.pf_disk.specs.Disk.{EachMoment, IsImage};
 ghost use Rattle.pf_core.specs.declared.reply.Refusal.TheVariants as told;
 ghost use Rattle.pf_core.specs.{Calls.call, Commands.may_change, Durable.Changes.{PlainDurable, applied, after, fits, verdict}, WorldBooks.{IsAt, IsFolded, StandsFor, Leads}, Cores.left_by, Worlds.{CurrentOpening, idle, calling, begun, upshot, Event, called, opened, is_fault, flat, raised, last_epoch, down, state_after, IsWorld, LegalReply, shown_by}};
 ghost use Rattle.pf_store.specs.{Groups.{can_be_wanted, is_group, made_all}, Stores.{FindsRoom, FollowInTurn, HoldsEither}};
-ghost use Rattle.pf_view.specs.Seers.{IsNewSeer};
+ghost use Rattle.pf_view.specs.Seers.{IsNewSeer, IsNewShower};
 ghost use Rattle.pf_book.specs.Receipts.{IsGiven, IsReached};
 ghost use Rattle.pf_book.specs.Books.{world_book, HoldsLeft, HasRoom, HasNoRoom, left_together, IsMore, IsUnkept, IsUnshown, IsMade, IsTold, Stays, IsOpenable, StaysOpenable, StaysUnlessKept, shows_all, change_in, log_in, is_fault_reply, is_fault_result, IsNumbered, IsJudged, IsNamed, setting_of, judging};
 
@@ -13,7 +13,7 @@ mod groups;
 mod receipts;
 
 use crate::chapter::Chapter;
-use crate::opening::Opening;
+use crate::opening::{NamedOpening, Opening};
 use crate::saving::{Copies, note_all, prepare, put_all, share};
 use crate::showing::offer_rest;
 use pf_core::{
@@ -24,16 +24,16 @@ use pf_disk::Disk;
 use pf_past::{Front, Tip};
 use pf_rule::Packet;
 use pf_store::{OpenFault, SaveFault, Store};
-use pf_view::{Seer, Shower, ViewFault, views};
+use pf_view::{Publisher, Seer, Shower, ViewFault, views};
 use std::alloc::{AllocError, Global};
 use std::marker::Model;
 use std::slice::from_ref;
 use std::sync::{Arc, Wait};
 
-/// What an opening gave, and each change since: saved on the device before it is answered, and shown to the packet workers. By
-/// its handle `R` it waits for workers that are judging. Contracts see it as a `PlainBook`.
+/// What an opening gave, and each change since: saved on the device before it is answered, and shown to the packet workers by the
+/// publisher `S`. The crate's [`Book`](crate::Book) is one over a [`Shower`]. Contracts see it as a `PlainBook`.
 #[derive(Drop)]
-pub struct Book<D: Disk + Drop, J: Chapter, R: Wait + Drop> {
+pub struct Book<D: Disk + Drop, J: Chapter, S: Publisher<J> + Drop> {
     alloc: Global,
     store: Store<D>,
     core: Core,
@@ -45,13 +45,13 @@ pub struct Book<D: Disk + Drop, J: Chapter, R: Wait + Drop> {
     acked: usize,
     offered: usize,
     limit: usize,
-    shower: Shower<J, R>,
+    shower: S,
     tip: Tip<J>,
     // the acknowledged part of the history
     front: Front<J>,
 }
 
-impl<D: Disk + Drop, J: Chapter, R: Wait + Drop> Model for Book<D, J, R> {
+impl<D: Disk + Drop, J: Chapter, S: Publisher<J> + Drop> Model for Book<D, J, S> {
     ghost use Rattle.std.specs.Prelude.{map};
     ghost use Rattle.std.specs.Arc.{arc_value};
     ghost use Rattle.pf_book.specs.Books.{PlainBook, parts_of, book_of, IsBook};
@@ -59,10 +59,10 @@ impl<D: Disk + Drop, J: Chapter, R: Wait + Drop> Model for Book<D, J, R> {
     ghost Value = { PlainBook D };
 
     ghost view = { λ b. book_of (parts_of b.store J.base b.core (arc_value b.durable) (map arc_value b.log.items) b.sizes.items b.acked b.offered b.limit
-        b.shower b.tip b.front) };
+        (S.plain b.shower) b.tip b.front) };
 
     ghost invariant = { λ b. IsBook D.seen D.unsynced (parts_of b.store J.base b.core (arc_value b.durable) (map arc_value b.log.items) b.sizes.items b.acked
-        b.offered b.limit b.shower b.tip b.front) };
+        b.offered b.limit (S.plain b.shower) b.tip b.front) };
 }
 
 // Why no history begins: out of memory, or no place for what it would show.
@@ -85,7 +85,7 @@ fn may_change(command: &Command) -> bool
     }
 }
 
-impl<D: Disk + Drop, J: Chapter, R: Wait + Drop> Book<D, J, R> {
+impl<D: Disk + Drop, J: Chapter, R: Wait + Drop> Book<D, J, Shower<J, R>> {
     /// Begins the history of an opening, with no change yet and `history_limit` at most, and makes `seers` seers, one for each worker.
     /// `J` names the opening.
     ///
@@ -97,7 +97,7 @@ impl<D: Disk + Drop, J: Chapter, R: Wait + Drop> Book<D, J, R> {
         opening: Opening<D>,
         history_limit: usize,
         seers: usize,
-    ) -> Result<(Book<D, J, R>, Vec<Seer<J>>), (OpenFault, D)>
+    ) -> Result<(Book<D, J, Shower<J, R>>, Vec<Seer<J>>), (OpenFault, D)>
         requires name { IsNamed J.base J.history J.setting opening history_limit }
         requires low { 1 ≤ history_limit }
         requires high { history_limit ≤ 1_048_576 }
@@ -117,38 +117,68 @@ impl<D: Disk + Drop, J: Chapter, R: Wait + Drop> Book<D, J, R> {
         ensures reached { IfOk result (λ r. IsReached J.base J.setting (world_book r.0)) }
         ensures folded { IfOk result (λ r. IsFolded (world_book r.0)) }
     {
-        let Opening {
+        let named = opening.named::<J>()?;
+        match views::<J, R>(rt, alloc, named.base(), named.start(), seers) {
+            Ok((shower, all)) => {
+                let book = Book::over(alloc, named, history_limit, shower)?;
+                Ok((book, all))
+            }
+            Err(fault) => Err((unshown(fault), named.into_disk())),
+        }
+    }
+}
+
+impl<D: Disk + Drop, J: Chapter, S: Publisher<J> + Drop> Book<D, J, S> {
+    /// Begins the history of an opening, with no change yet and `history_limit` at most, over a new publisher of this history.
+    ///
+    /// `Err` hands the device back, which holds what the opening gave. The fault is `Memory`.
+    pub fn over(
+        alloc: Global,
+        opening: NamedOpening<D, J>,
+        history_limit: usize,
+        shower: S,
+    ) -> Result<Book<D, J, S>, (OpenFault, D)>
+        requires name { IsNamed J.base J.history J.setting opening history_limit }
+        requires low { 1 ≤ history_limit }
+        requires high { history_limit ≤ 1_048_576 }
+        requires new { IsNewShower (S.plain shower) }
+        ensures at { IfOk result (λ b. IsAt (begun (setting_of opening history_limit) opening.given) (world_book b)) }
+        ensures device { IfOk result (λ b. b.disk ≡ opening.disk) }
+        ensures size { IfOk result (λ b. b.size ≡ opening.size) }
+        ensures generation { IfOk result (λ b. b.generation ≡ opening.generation) }
+        ensures device_err { IfErr result (λ e. e.1 ≡ opening.disk) }
+        ensures refused { IfErr result (λ e. IsUnshown e.0) }
+
+        // If the device held what some world leaves, but for the epoch, the Book stands for that world with an opening at its end.
+        ensures worlds { IfOk result (λ b. (first d : PlainDurable) (world : List Event) → IsWorld first world → state_after (down first) world ≡ down d
+            → d.epoch < last_epoch → opening.given ≡ raised d
+            → StandsFor first (world_book b) (world ++ opened (setting_of opening history_limit) ∷ [])) }
+        ensures reached { IfOk result (λ b. IsReached J.base J.setting (world_book b)) }
+        ensures folded { IfOk result (λ b. IsFolded (world_book b)) }
+    {
+        let NamedOpening {
             durable,
             store,
-            history,
+            tip,
+            start,
         } = opening;
-        let Some(tip) = history.named::<J>() else {
-            return Err((OpenFault::Places, store.into_disk()));
-        };
         let Ok(shared) = Arc::try_clone(&durable) else {
             return Err((OpenFault::Memory, store.into_disk()));
         };
-        let front = tip.front();
-        match views::<J, R>(rt, alloc, &durable, &front, seers) {
-            Ok((shower, all)) => {
-                let book = Book {
-                    alloc,
-                    store,
-                    core: Core::new(alloc, shared),
-                    durable,
-                    log: Vec::new(alloc),
-                    sizes: Vec::new(alloc),
-                    acked: 0,
-                    offered: 0,
-                    limit: history_limit,
-                    shower,
-                    tip,
-                    front,
-                };
-                Ok((book, all))
-            }
-            Err(fault) => Err((unshown(fault), store.into_disk())),
-        }
+        Ok(Book {
+            alloc,
+            store,
+            core: Core::new(alloc, shared),
+            durable,
+            log: Vec::new(alloc),
+            sizes: Vec::new(alloc),
+            acked: 0,
+            offered: 0,
+            limit: history_limit,
+            shower,
+            tip,
+            front: start,
+        })
     }
 
     // Whether the history and the device have room for changes as one group, which leaves `next`. It makes no call of the device.

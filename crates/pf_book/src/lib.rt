@@ -3,14 +3,15 @@
 //! The crate joins `pf_core`, which says the one step that a command may get, `pf_store`, which saves a change, `pf_past`, which notes it
 //! in the history, and `pf_view`, which shows it. It knows no text, no bytes of a change and no rule. The modules:
 //!
-//! - `opening`: [`Opening`], a device that was opened.
-//! - `book`: [`Book`], the history of an opening, which answers commands, one by one or in groups.
+//! - `opening`: [`Opening`], a device that was opened, and [`NamedOpening`], the same under its name.
+//! - `book`: the history of an opening, which answers commands, one by one or in groups, over any [`Publisher`]. [`Book`] is the one over
+//!   a [`Shower`].
 //! - `showing`, `saving`, `course`: used by `book`: what is shown of a history, the memory that a save needs, and what the commands of a
 //!   group come to one after the other.
 //! - `chapter`: [`Chapter`], the name of an opening, as a type.
 //! - `receipt`: [`Receipt`], what a caller gets with a reply.
 //! - `worker`: what a worker does with a receipt: [`learn_from`] and [`judge_after`].
-//! - `shared`: [`Shared`], a Book under a lock.
+//! - `shared`: a Book under a lock. [`Shared`] is the one over a [`Shower`].
 //! - `laws`: what follows for receipts, and for openings after crashes.
 //!
 //! Read `specs/Books.antt` first: what contracts see of a Book; then `specs/Receipts.antt` and `specs/Groups.antt`. Contracts say what a
@@ -27,25 +28,29 @@
 //! [`Store`] for its `peek`.
 #![tactic(auto)]
 
-mod book;
+pub mod book;
 mod chapter;
 mod course;
 pub mod laws;
 mod opening;
 mod receipt;
 mod saving;
-mod shared;
+pub mod shared;
 mod showing;
 mod worker;
 
-pub use book::Book;
 pub use chapter::Chapter;
-pub use opening::Opening;
+pub use opening::{NamedOpening, Opening};
 pub use pf_core::Reply;
 pub use pf_disk::{Disk, FileDisk, FileFault, FuseDisk, MemDisk};
 pub use pf_past::{Front, Naming};
 pub use pf_store::{OpenFault, Store, format};
-pub use pf_view::{Gone, Seer, Token};
+pub use pf_view::{Gone, Publisher, Seer, Shower, Token};
 pub use receipt::Receipt;
-pub use shared::Shared;
 pub use worker::{judge_after, learn_from};
+
+/// A Book over a [`Shower`], which by its handle `R` waits for workers that are judging.
+pub type Book<D, J, R> = book::Book<D, J, Shower<J, R>>;
+
+/// Such a Book under a lock.
+pub type Shared<D, J, R> = shared::Shared<D, J, Shower<J, R>>;

@@ -1,13 +1,15 @@
 //! A device that was opened.
-ghost use Rattle.std.specs.Prelude.{◌≡◌, ◌+◌, ◌^◌, ◌<◌, ◌≤◌, false, ℕ, List, length, IfOk, IfErr, if◌then◌else◌};
+ghost use Rattle.std.specs.Prelude.{◌≡◌, ◌+◌, ◌^◌, ◌<◌, ◌≤◌, [], false, ℕ, List, length, IfOk, IfErr, if◌then◌else◌};
+ghost use Rattle.std.specs.Arc.{arc_value};
 ghost use Rattle.pf_disk.specs.Disk.{EachMoment, IsImage};
 ghost use Rattle.pf_core.specs.{Durable.Changes.PlainDurable, Laws.Durable.IsWithin, Worlds.{last_epoch, raised}};
-ghost use Rattle.pf_store.specs.declared.store.fault.OpenFault.TheVariants.{BadSize, Memory};
+ghost use Rattle.pf_store.specs.declared.store.fault.OpenFault.TheVariants.{BadSize, Memory, Places};
+ghost use Rattle.pf_past.specs.Pasts.{all_acked};
 ghost use Rattle.pf_store.specs.{Banks.bank_size, Stores.{Holds}, StoreFaults.is_fault, Openings.{IsFull, IsNoLaterThan, IsOfOpening, IsUnopened, generation_of}};
 
 use pf_core::Durable;
 use pf_disk::Disk;
-use pf_past::NewHistory;
+use pf_past::{Front, Naming, NewHistory, Tip};
 use pf_store::{OpenFault, Store};
 use std::alloc::Global;
 use std::marker::Model;
@@ -81,6 +83,32 @@ impl<D: Disk> Opening<D> {
         }
     }
 
+    /// The opening under its name. A Book over a publisher is made of it, and before that the publisher. `Err` hands the device back, with
+    /// `Places`: nobody may add to the history, which no run is known to meet.
+    pub fn named<J: Naming>(self) -> Result<NamedOpening<D, J>, (OpenFault, D)>
+        requires base { self.given ≡ J.base }
+        requires history { self.history ≡ J.history }
+        ensures same { IfOk result (λ o. o ≡ self) }
+        ensures device_err { IfErr result (λ e. e.1 ≡ self.disk) }
+        ensures refused { IfErr result (λ e. e.0 ≡ Places) }
+    {
+        let Opening {
+            durable,
+            store,
+            history,
+        } = self;
+        let Some(tip) = history.named::<J>() else {
+            return Err((OpenFault::Places, store.into_disk()));
+        };
+        let start = tip.front();
+        Ok(NamedOpening {
+            durable,
+            store,
+            tip,
+            start,
+        })
+    }
+
     /// What the device holds.
     pub fn durable(&self) -> &Durable
         ensures { result.now ≡ self.now.given }
@@ -96,6 +124,56 @@ impl<D: Disk> Opening<D> {
             durable: _,
             store,
             history: _,
+        } = self;
+        store.into_disk()
+    }
+}
+
+/// An opening under its name `J`, whose history has no change yet. Contracts see it as a `PlainOpening`.
+#[derive(Drop)]
+pub struct NamedOpening<D: Disk, J: Naming> {
+    pub(crate) durable: Arc<Durable>,
+    pub(crate) store: Store<D>,
+    pub(crate) tip: Tip<J>,
+    pub(crate) start: Front<J>,
+}
+
+impl<D: Disk, J: Naming> Model for NamedOpening<D, J> {
+    ghost use Rattle.std.specs.Arc.{arc_value};
+    ghost use Rattle.pf_book.specs.Books.{PlainOpening, opening_of, IsBegun};
+
+    ghost Value = { PlainOpening D };
+
+    ghost view = { λ o. opening_of o.store (arc_value o.durable) J.history };
+
+    ghost invariant = { λ o. IsBegun D.seen D.unsynced J.base o.store (arc_value o.durable) o.tip o.start };
+}
+
+impl<D: Disk, J: Naming> NamedOpening<D, J> {
+    /// What the device holds, shared: the base of what is published.
+    pub fn base(&self) -> &Arc<Durable>
+        ensures given { arc_value result.now ≡ self.now.given }
+        ensures named { arc_value result.now ≡ J.base }
+    {
+        &self.durable
+    }
+
+    /// The start of its history.
+    pub fn start(&self) -> &Front<J>
+        ensures { result.now ≡ all_acked [] }
+    {
+        &self.start
+    }
+
+    /// Gives the device back as it is.
+    pub fn into_disk(self) -> D
+        ensures { result ≡ self.disk }
+    {
+        let NamedOpening {
+            durable: _,
+            store,
+            tip: _,
+            start: _,
         } = self;
         store.into_disk()
     }

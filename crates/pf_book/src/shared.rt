@@ -9,16 +9,17 @@ use crate::chapter::Chapter;
 use crate::receipt::Receipt;
 use pf_core::{Command, Refusal, Reply};
 use pf_disk::Disk;
+use pf_view::Publisher;
 use std::marker::Model;
 use std::sync::{Mutex, Wait};
 
 // What is under the lock: a Book that stands for some world of this opening.
 #[derive(Drop)]
-struct Locked<D: Disk + Drop, J: Chapter, R: Wait + Drop> {
-    book: Book<D, J, R>,
+struct Locked<D: Disk + Drop, J: Chapter, S: Publisher<J> + Drop> {
+    book: Book<D, J, S>,
 }
 
-impl<D: Disk + Drop, J: Chapter, R: Wait + Drop> Model for Locked<D, J, R> {
+impl<D: Disk + Drop, J: Chapter, S: Publisher<J> + Drop> Model for Locked<D, J, S> {
     ghost use Rattle.pf_book.specs.{Books.{PlainBook, world_book}, Receipts.IsReached};
 
     ghost Value = { PlainBook D };
@@ -28,7 +29,7 @@ impl<D: Disk + Drop, J: Chapter, R: Wait + Drop> Model for Locked<D, J, R> {
     ghost invariant = { λ d. IsReached J.base J.setting (world_book d.book) };
 }
 
-impl<D: Disk + Drop, J: Chapter, R: Wait + Drop> Locked<D, J, R> {
+impl<D: Disk + Drop, J: Chapter, S: Publisher<J> + Drop> Locked<D, J, S> {
     // One call. At each moment of it an image of the device holds what some crash within it leaves of the opening.
     fn run(&mut self, command: &Command, last: Option<&Receipt<J>>) -> (Reply, Receipt<J>)
         ensures answered { IsAnswered J.base J.setting command.now result.0 result.1 (option_copied last.entry) }
@@ -64,15 +65,16 @@ impl<D: Disk + Drop, J: Chapter, R: Wait + Drop> Locked<D, J, R> {
     }
 }
 
-/// A Book under a lock, which any thread may call.
+/// A Book under a lock, which any thread may call, and what publishes its changes. The crate's [`Shared`](crate::Shared) is one over a
+/// [`Shower`](pf_view::Shower).
 #[derive(Drop)]
-pub struct Shared<D: Disk + Drop, J: Chapter, R: Wait + Drop> {
-    locked: Mutex<Locked<D, J, R>>,
+pub struct Shared<D: Disk + Drop, J: Chapter, S: Publisher<J> + Drop> {
+    locked: Mutex<Locked<D, J, S>>,
 }
 
-impl<D: Disk + Drop, J: Chapter, R: Wait + Drop> Shared<D, J, R> {
+impl<D: Disk + Drop, J: Chapter, S: Publisher<J> + Drop> Shared<D, J, S> {
     /// Shares a Book that stands for some world of its opening, as a new one does. It takes no memory.
-    pub fn new(book: Book<D, J, R>) -> Shared<D, J, R>
+    pub fn new(book: Book<D, J, S>) -> Shared<D, J, S>
         requires { IsReached J.base J.setting (world_book book) }
     {
         Shared {
@@ -118,7 +120,7 @@ impl<D: Disk + Drop, J: Chapter, R: Wait + Drop> Shared<D, J, R> {
     /// The Book, once all callers have ended. It confirms each receipt of this opening, and each image of its device holds what a crash
     /// leaves of the opening, as after each call of `Book::run`: with the next generation at most, and with room for an opening if what the
     /// last one gave leaves it.
-    pub fn close(self) -> Book<D, J, R>
+    pub fn close(self) -> Book<D, J, S>
         ensures reached { IsReached J.base J.setting (world_book result) }
         ensures images { (h : CurrentOpening) → IsAt h (world_book result) → (c : List ℕ)
             → IsImage (D.seen result.disk) (D.unsynced result.disk) c → HoldsLeft h idle c }

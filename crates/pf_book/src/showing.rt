@@ -6,9 +6,9 @@ ghost use Rattle.pf_past.specs.Pasts.{all_acked};
 
 use pf_core::{Change, Durable};
 use pf_past::{Front, Naming};
-use pf_view::Shower;
+use pf_view::Publisher;
 use std::alloc::{AllocError, Global};
-use std::sync::{Arc, Wait};
+use std::sync::Arc;
 
 /// The same changes, shared. `AllocError`: one of them can't have another owner, or out of memory.
 pub(crate) fn shared(alloc: Global, changes: &[Arc<Change>]) -> Result<Vec<Arc<Change>>, AllocError>
@@ -23,8 +23,8 @@ pub(crate) fn shared(alloc: Global, changes: &[Arc<Change>]) -> Result<Vec<Arc<C
 
 /// Offers the changes that were acknowledged and not offered yet, with what all acknowledged changes leave and the front that they are.
 /// Returns whether all that was acknowledged is offered now: it isn't when out of memory.
-pub(crate) fn offer_rest<J: Naming, R: Wait + Drop>(
-    shower: &mut Shower<J, R>,
+pub(crate) fn offer_rest<J: Naming, S: Publisher<J>>(
+    shower: &mut S,
     alloc: Global,
     log: &[Arc<Change>],
     offered: usize,
@@ -33,11 +33,11 @@ pub(crate) fn offer_rest<J: Naming, R: Wait + Drop>(
     front: &Front<J>,
 ) -> bool
     requires within { (offered ≤ acked) × (acked ≤ length log.now) }
-    requires offered { shower.old.offered ≡ take offered (map arc_value log.now) }
+    requires offered { (S.plain shower.old).offered ≡ take offered (map arc_value log.now) }
     requires chain { arc_value durable.now ≡ after J.base (take acked (map arc_value log.now)) }
     requires front { front.now ≡ all_acked (take acked (map arc_value log.now)) }
-    ensures offered { MatchBool result (shower.new.offered ≡ take acked (map arc_value log.now)) (shower.new.offered ≡ shower.old.offered) }
-    ensures shown { shower.new.shown ≡ shower.old.shown }
+    ensures offered { MatchBool result ((S.plain shower.new).offered ≡ take acked (map arc_value log.now)) ((S.plain shower.new).offered ≡ (S.plain shower.old).offered) }
+    ensures shown { (S.plain shower.new).shown ≡ (S.plain shower.old).shown }
 {
     if offered == acked {
         return true;

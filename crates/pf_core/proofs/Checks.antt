@@ -19,8 +19,9 @@ none-fails is h =
     ap (λ (n : ℕ). cond (nat_lt n (length is)) (Some n) None) (all-pass is h) ∙ ap (λ (b : Bool). cond b (Some (length is)) None) past
 
 -- no ruleset is named twice, and each item is in order
-pub named_once : (is : List Item) (u : Unit {0}) → Ok u ≡ refused_at (λ i. Twice i) (twice_behind [] (map name_of is)) → list_all is_in_order is ≡ true → named_again is ≡ None
-named_once is u h all = by (twice_behind [] (map name_of is)) h where
-  by : (o : Option ℕ) → Ok u ≡ refused_at (λ i. Twice i) o → option_or o (position (λ (i : Item). not (is_in_order i)) is) ≡ None
-  by None h = none-fails is all
-  by (Some i) h = absurd (cc (h))
+pub named_none : (is : List Item) → twice_behind [] (map name_of is) ≡ None → list_all is_in_order is ≡ true → named_again is ≡ None
+named_none is once all = ap (λ (o : Option ℕ). option_or o (position (λ (i : Item). not (is_in_order i)) is)) once ∙ none-fails is all
+
+pub unrefused : (u : Unit {0}) (o : Option ℕ) → Ok u ≡ refused_at (λ i. Twice i) o → o ≡ None
+unrefused u None h = refl
+unrefused u (Some i) h = absurd (cc (h))

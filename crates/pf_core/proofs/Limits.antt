@@ -1,12 +1,10 @@
 -- In each opening that a world ends in, each ticket was given once, and all limits hold.
 use Rattle.std.proofs.{Common.{T, ◌&&◌, ◌||◌, ◌⊎◌, ◌≡◌, ℕ, ◌+◌, ◌≤◌, Bool, true, false, cond, List, [], ◌∷◌, length, refl, sym, ap, ◌∙◌, subst, inl, inr, Option, None, Result, Ok, Err, arith, zero, suc, ◌++◌, take}, Math.Seq.{take-nil, take-length}, lemmas.List.{append-nil, length-append}, lemmas.List.Sums.fold_push}
 use Rattle.std.specs.{Prelude.{map, flat_map, fold}, FinMap.is_sorted, List.list_all}
-use Rattle.pf_addr.specs.{Path.Names.name_order, Refusing.{refused_at, both_passed}}
-use Rattle.pf_ticket.specs.declared.refusal.TicketRefusal.TheVariants.{Busy}
-use Rattle.pf_ticket.specs.{Replies.{bad_count, twice_in, twice_behind, busy_in, list_check}, declared.{name.RulesetName.RulesetName, ticket.Ticket.Ticket, name.RulesetKind.RulesetKind, name.RulesetKind.TheVariants.Filter, name.RulesetKind.TheVariants.Table, entry.RulesetTicket.RulesetTicket}, Laws.Tickets.{IsFew, IsWithin as AreTicketsWithin, AreOnce}, Mentions.after as moved_by, Names.{tickets_from, ticket}, Tickets.{Loaded, PlainTickets, offered_as, loaded, content}}
-use Rattle.pf_core.specs.declared.durable.refusal.ChangeRefusal.TheVariants.{Twice as Again}
-use Rattle.pf_core.specs.{Durable.Changes.{name_of, is_in_order, PlainDurable, PlainChange, applied, after}, History.tickets_in, Laws.Worlds.{CommitsNameOnce, given_by, tickets_since, GivesEachOnce, KeepsTheLimits, failed_by, failed_since}, Laws.Wanted.{names-items, wants}, declared.{command.Command.Command, command.HistoryCommand.HistoryCommand, reply.Answer.Answer, reply.Outcome.Outcome, reply.Refusal.Refusal, reply.Reply.Reply, reply.Reply.TheVariants.Answer as Answered, reply.Reply.TheVariants.Applied, reply.Reply.TheVariants.Stored, reply.Reply.TheVariants.Refused, step.Step.Step, step.Step.TheVariants.Done, step.Step.TheVariants.Wants, step.Step.TheVariants.OfHistory}, Calls.{call, mentions_of, mentions_of_group, replies_in, Call}, Commands.{item_of, items, step_by, may_change, mentioned}, Laws.Durable.IsWithin, Worlds.{CurrentOpening, log_of, durable_of, is_halted, step_in, told_of_history, room_for, or_refused, due_at, due, StandsIn, LegalReply, LegalReplies, State, up, down, raised, Upshot, Doing, idle, calling, grouping, Event, called, called_group, entered, learned, crashed, opened, refused_opening, flat, group_in, kept_groups, acked_by, is_fault, pending_by, acked_by_group, pending_by_group, grouped, changes_due, group_all, heard, heard_group, sighted, next, LegalCall, LegalGroup, IsLegal, state_after, IsLegalFrom, IsWorld}}
-use Rattle.pf_core.proofs.{Checks.named_once, Courses.{durable-amid, length-with, course-within, IsTaken, taken-or-not, accepted, group-told, unkept-group}, Groups.{IsKept, IsNotKept, kept-or-not, either, room-of}, Stepping.{AreTold, none-told, answered-told, left-told, applied-told, unhalted, change-within}, LongerWorlds.{flat-push, refused-unkept}, Switching.not-twice}
+use Rattle.pf_addr.specs.Path.Names.{name_order}
+use Rattle.pf_ticket.specs.{declared.{ticket.Ticket.Ticket, name.RulesetKind.RulesetKind, name.RulesetKind.TheVariants.Filter, name.RulesetKind.TheVariants.Table, entry.RulesetTicket.RulesetTicket}, Laws.Tickets.{IsFew, IsWithin as AreTicketsWithin, AreOnce}, Mentions.after as moved_by, Names.{tickets_from, ticket}, Tickets.{Loaded, PlainTickets, offered_as, loaded, content}}
+use Rattle.pf_core.specs.{Durable.Changes.{is_in_order, PlainDurable, PlainChange, applied, after}, History.tickets_in, Laws.Worlds.{CommitsNameOnce, given_by, tickets_since, GivesEachOnce, KeepsTheLimits, failed_by, failed_since}, Laws.Wanted.wants, declared.{command.Command.Command, command.HistoryCommand.HistoryCommand, reply.Answer.Answer, reply.Outcome.Outcome, reply.Refusal.Refusal, reply.Reply.Reply, reply.Reply.TheVariants.Answer as Answered, reply.Reply.TheVariants.Applied, reply.Reply.TheVariants.Stored, reply.Reply.TheVariants.Refused, step.Step.Step, step.Step.TheVariants.Done, step.Step.TheVariants.Wants, step.Step.TheVariants.OfHistory}, Calls.{call, mentions_of, mentions_of_group, replies_in, Call}, Commands.{item_of, items, step_by, may_change, mentioned}, Laws.Durable.IsWithin, Worlds.{CurrentOpening, log_of, durable_of, is_halted, step_in, told_of_history, room_for, or_refused, due_at, due, StandsIn, LegalReply, LegalReplies, State, up, down, raised, Upshot, Doing, idle, calling, grouping, Event, called, called_group, entered, learned, crashed, opened, refused_opening, flat, group_in, kept_groups, acked_by, is_fault, pending_by, acked_by_group, pending_by_group, grouped, changes_due, group_all, heard, heard_group, sighted, next, LegalCall, LegalGroup, IsLegal, state_after, IsLegalFrom, IsWorld}}
+use Rattle.pf_core.proofs.{Checks.named_none, Courses.{durable-amid, length-with, course-within, IsTaken, taken-or-not, accepted, group-told, unkept-group}, Groups.{IsKept, IsNotKept, kept-or-not, either, room-of}, Stepping.{AreTold, none-told, answered-told, left-told, applied-told, unhalted, change-within}, LongerWorlds.{flat-push, refused-unkept}, Switching.named-alone}
 use Rattle.pf_ticket.proofs.{TicketLimits.keeps_the_limits as tickets_keep, Twice.gives_each_once as once_given}
 
 -- ---- by the reply
@@ -358,6 +356,4 @@ items-ordered t (e ∷ es) all = ap (λ (b : Bool). b && list_all is_in_order (i
 
 pub commits_name_once : CommitsNameOnce
 commits_name_once first world h legal comes entries good =
-    let twice : twice_in entries ≡ None = not-twice (bad_count (length entries)) (twice_in entries) (both_passed (list_check entries) (refused_at (λ i. Busy i) (busy_in h.tickets entries)) tt good).first in
-    let once : twice_behind [] (map name_of (items (content h.tickets) entries)) ≡ None = ap (λ (ns : List RulesetName). twice_behind [] ns) (names-items h.tickets entries) ∙ twice in
-    named_once (items (content h.tickets) entries) tt (sym (ap (λ (o : Option ℕ). refused_at (λ i. Again i) o) once)) (items-ordered h.tickets entries (holds-after first world h legal comes).tickets.within)
+    named_none (items (content h.tickets) entries) (named-alone h.tickets entries good) (items-ordered h.tickets entries (holds-after first world h legal comes).tickets.within)

@@ -9,7 +9,7 @@ use Rattle.pf_ticket.proofs.TicketLimits.{begins_give, keeps_the_limits as ticke
 use Rattle.pf_rule.specs.Packets.{PlainPacket}
 use Rattle.pf_anchor.specs.declared.verdict.RuleVerdict.{RuleVerdict}
 use Rattle.pf_state.specs.{declared.{state.Bound.Bound, state.StateName.StateName}, Flows.flow_of, States.{PlainState, held_at}, Steps.{counts, due_count}}
-use Rattle.pf_state.specs.declared.step.Step.TheVariants as step
+use Rattle.pf_state.specs.declared.step.StateStep.TheVariants as step
 use Rattle.pf_core.specs.declared.reply.Answer.TheVariants as answer
 use Rattle.pf_core.specs.declared.reply.Outcome.TheVariants as outcome
 use Rattle.pf_anchor.specs.Tables.{PlainPlacedTable}

@@ -1,15 +1,15 @@
 -- What a commit leaves of each ruleset, and any call of those that it doesn't name.
 use Rattle.std.proofs.{Common.{◌≡◌, ℕ, T, Bool, true, false, cond, ◌&&◌, ◌||◌, List, [], ◌∷◌, ◌++◌, length, refl, sym, ap, ◌∙◌, Option, Some, None, Ok, Err, subst}, lemmas.Bool.{or_parts, and_parts, cond_both}, lemmas.Cmp.{eq_by_cmp_equiv, nat_list_cmp_total}, lemmas.List.map-id, lemmas.Simd.map-map}
-use Rattle.std.specs.{Prelude.{fold, unwrap_or}, declared.{cmp.Ordering.Ordering, cmp.Ordering.TheVariants.Less, cmp.Ordering.TheVariants.Equal, cmp.Ordering.TheVariants.Greater}, FinMap.{find, is_sorted, slice_cmp-IsAntisymmetric, nat_cmp-IsAntisymmetric}, FinMap.Entries.below_all, List.list_all, Ordering.{is_eq, is_lt, eq_by_cmp}}
+use Rattle.std.specs.{Prelude.{fold, map, unwrap_or}, declared.{cmp.Ordering.Ordering, cmp.Ordering.TheVariants.Less, cmp.Ordering.TheVariants.Equal, cmp.Ordering.TheVariants.Greater}, FinMap.{find, is_sorted, slice_cmp-IsAntisymmetric, nat_cmp-IsAntisymmetric}, FinMap.Entries.below_all, List.list_all, Ordering.{is_eq, is_lt, eq_by_cmp}}
 use Rattle.pf_rule.specs.Rules.{PlainRule}
 use Rattle.pf_addr.specs.{Refusing.{refused_at, both_passed}, Path.Names.name_order, Path.Paths.same_path}
 use Rattle.pf_table.specs.Entries.{PlainEntry}
 use Rattle.pf_map.specs.ListMaps.{list_by}
 use Rattle.pf_anchor.specs.{Laws.Configurations.rules_by, Rulesets.{PlainPlaced, rules_at, with_rules}, Tables.{TableKey, PlainPlacedTable, table_order, with_table}}
 use Rattle.pf_anchor.proofs.{RulesetMaps.replaced_in_turn, TableMaps.tables_replaced}
-use Rattle.pf_ticket.specs.{declared.{entry.RulesetTicket.RulesetTicket, name.RulesetKind.RulesetKind, name.RulesetKind.TheVariants.Filter, name.RulesetKind.TheVariants.Table, name.RulesetName.RulesetName, refusal.TicketRefusal.TheVariants.BadCount, refusal.TicketRefusal.TheVariants.Twice, refusal.TicketRefusal.TheVariants.Busy}, Laws.Names.{paths_alike, name_is}, Names.{same_kind, same_name, is_named, names_of, filter_at, table_ruleset_at, IsDistinct}, Replies.{bad_count, twice_in, busy_in, list_check, commit_check}, Mentions.{Mention, switched, switches, dropped, named_in, after}, NamedTables.PlainDefinedTable, Tickets.{Loaded, PlainTickets, offered_as, loaded, offer_at, ticket_in, valid_ticket, content}}
+use Rattle.pf_ticket.specs.{declared.{entry.RulesetTicket.RulesetTicket, name.RulesetKind.RulesetKind, name.RulesetKind.TheVariants.Filter, name.RulesetKind.TheVariants.Table, name.RulesetName.RulesetName, refusal.TicketRefusal.TheVariants.BadCount, refusal.TicketRefusal.TheVariants.Twice, refusal.TicketRefusal.TheVariants.Busy}, Laws.Names.{paths_alike, name_is}, Names.{same_kind, same_name, is_named, names_of, filter_at, table_ruleset_at, IsDistinct}, Replies.{bad_count, twice_behind, twice_in, busy_in, list_check, commit_check}, Mentions.{Mention, switched, switches, dropped, named_in, after}, NamedTables.PlainDefinedTable, Tickets.{Loaded, PlainTickets, offered_as, loaded, offer_at, ticket_in, valid_ticket, content}}
 use Rattle.pf_ticket.proofs.{Moves.{leaves_the_others as mentions_leave, commit_takes_out, gives-named}, Twice.otherwise_once}
-use Rattle.pf_core.specs.{declared.{durable.change.Item.Item, command.Command.TheVariants.Transact, command.Command.TheVariants.Edit, command.Command.TheVariants.States as OfStates, command.Command.TheVariants.Ask, command.Command.TheVariants.History, command.Transaction.TheVariants.Begin, command.Transaction.TheVariants.Add, command.Transaction.TheVariants.Define, command.Transaction.TheVariants.Commit, command.Transaction.TheVariants.Rollback}, Commands.{item_of, items, mentioned, is_accepted}, Durable.Changes.{PlainDurable, PlainChange, commits, rulesets_in, placed, tables_in, entries_at, applied}, Laws.Commands.{tables_offered, AreTablesSwitched, AreSwitched, SwitchesAll, LeaveTheOtherKind, KeepsNoneValid, MentionsTheNamed, LeavesTheOthers, RefusedMentionNothing}, Laws.Wanted.{IsCommitted, wants_commit}}
+use Rattle.pf_core.specs.{declared.{durable.change.Item.Item, command.Command.TheVariants.Transact, command.Command.TheVariants.Edit, command.Command.TheVariants.States as OfStates, command.Command.TheVariants.Ask, command.Command.TheVariants.History, command.Transaction.TheVariants.Begin, command.Transaction.TheVariants.Add, command.Transaction.TheVariants.Define, command.Transaction.TheVariants.Commit, command.Transaction.TheVariants.Rollback}, Commands.{item_of, items, mentioned, is_accepted}, Durable.Changes.{PlainDurable, PlainChange, name_of, commits, rulesets_in, placed, tables_in, entries_at, applied}, Laws.Commands.{tables_offered, AreTablesSwitched, AreSwitched, SwitchesAll, LeaveTheOtherKind, KeepsNoneValid, MentionsTheNamed, LeavesTheOthers, RefusedMentionNothing}, Laws.Wanted.{IsCommitted, names-items, wants_commit}}
 use Rattle.pf_core.proofs.Edited.{same-keys, equal-is}
 
 first_holds : (a b : Bool) → T (a && b) → T a
@@ -139,6 +139,12 @@ pub not-twice : (b : Bool) (place : Option ℕ) → cond b (Err BadCount) (refus
 not-twice true place h = absurd (cc (h))
 not-twice false None h = refl
 not-twice false (Some i) h = absurd (cc (h))
+
+-- a commit whose tickets are valid names no ruleset twice
+pub named-alone : (t : PlainTickets) (entries : List RulesetTicket) → commit_check t entries ≡ Ok tt → twice_behind [] (map name_of (items (content t) entries)) ≡ None
+named-alone t entries good =
+    ap (λ (ns : List RulesetName). twice_behind [] ns) (names-items t entries)
+    ∙ not-twice (bad_count (length entries)) (twice_in entries) ((both_passed (list_check entries) (refused_at (λ i. Busy i) (busy_in t entries)) tt good).first)
 
 named-once : (t : PlainTickets) (entries : List RulesetTicket) → commit_check t entries ≡ Ok tt → IsDistinct (names_of entries)
 named-once t entries good = otherwise_once entries (not-twice (bad_count (length entries)) (twice_in entries) ((both_passed (list_check entries) (refused_at (λ i. Busy i) (busy_in t entries)) tt good).first))

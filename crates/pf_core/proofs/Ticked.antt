@@ -5,7 +5,7 @@ use Rattle.pf_addr.specs.Refusing.{not_refused}
 use Rattle.pf_form.specs.Bytes.Forms.{length_of}
 use Rattle.pf_rule.specs.Sum.Layouts.{has_labels}
 use Rattle.pf_anchor.specs.{Forms.config_length}
-use Rattle.pf_state.specs.{declared.{state.StateName.StateName, step.Step.Step}, Layouts.States.{has_expiry, states_form, plain_states}, States.{PlainState, all_stand}, Steps.{after, any_inserts_due, without_state, without_due}}
+use Rattle.pf_state.specs.{declared.{state.StateName.StateName, step.StateStep.StateStep}, Layouts.States.{has_expiry, states_form, plain_states}, States.{PlainState, all_stand}, Steps.{after, any_inserts_due, without_state, without_due}}
 use Rattle.pf_state.proofs.Ticks.{left_stand, stand_after, stand_without}
 use Rattle.pf_core.specs.{declared.durable.refusal.ChangeRefusal.TheVariants.BadTick, Durable.{Changes.{PlainDurable, PlainChange, commits, adds, deletes, sets, acts, removes, expires, applied, after as changed_by, fits}, Forms.{tick_form, durable_form, durable_length}}, Laws.Durable.TickStaysOrRises}
 
@@ -23,7 +23,7 @@ pub durable_long : (version : ℕ) (d : PlainDurable) (config states : ℕ) → 
 unfolding durable_form
 durable_long version d config states has kept held = omega (arith, tick_long (has_expiry version) d.tick has, kept (labels_before version has), held)
 
-pub steps_stand : (es new : List PlainState) (tick : ℕ) (steps : List Step) → all_stand tick es ≡ true → any_inserts_due tick steps ≡ false → new ≡ after es steps → all_stand tick new ≡ true
+pub steps_stand : (es new : List PlainState) (tick : ℕ) (steps : List StateStep) → all_stand tick es ≡ true → any_inserts_due tick steps ≡ false → new ≡ after es steps → all_stand tick new ≡ true
 steps_stand es new tick steps all none is = ap (all_stand tick) is ∙ stand_after es tick steps all none
 
 pub removal_stands : (es new : List PlainState) (tick : ℕ) (n : StateName) → all_stand tick es ≡ true → new ≡ without_state es n → all_stand tick new ≡ true

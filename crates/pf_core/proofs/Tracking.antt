@@ -4,7 +4,7 @@ use Rattle.std.specs.{Prelude.{not, is_some, if◌then◌else◌}, List.{find as
 use Rattle.pf_rule.specs.Packets.{PlainPacket}
 use Rattle.pf_anchor.specs.declared.verdict.RuleVerdict.{RuleVerdict}
 use Rattle.pf_anchor.specs.Evaluation.{judged}
-use Rattle.pf_state.specs.{declared.{state.Bound.Bound, state.Held.Held, state.StateName.StateName, step.Insertion.TheVariants.New, step.Step.TheVariants.Insert}, Flows.{flow_of, same_flow}, States.{PlainState, name_order, held_at, state_of, stands, all_stand}, Steps.{is_clash, insertion}}
+use Rattle.pf_state.specs.{declared.{state.Bound.Bound, state.Held.Held, state.StateName.StateName, step.Insertion.TheVariants.New, step.StateStep.TheVariants.Insert}, Flows.{flow_of, same_flow}, States.{PlainState, name_order, held_at, state_of, stands, all_stand}, Steps.{is_clash, insertion}}
 use Rattle.pf_core.specs.{declared.{durable.verdict.Verdict.TheVariants.State, durable.verdict.Verdict.TheVariants.Rules, reply.Outcome.Outcome, step.Step.TheVariants.Done, step.Step.TheVariants.Wants}, Durable.Changes.{PlainDurable, PlainChange, acts, verdict_by}, Commands.{wanting, makes_state, tracked, judge_step, expiry_of}, Laws.Commands.{MakesOne, TrackMakesOne}, Laws.Wanted.{IsThis, wanted, tracks}}
 use Rattle.pf_core.specs.declared.reply.Answer.TheVariants as answer
 use Rattle.pf_core.specs.declared.reply.Outcome.TheVariants as outcome

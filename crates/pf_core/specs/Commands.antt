@@ -10,9 +10,9 @@ use Rattle.pf_table.specs.declared.answer.Deletion.TheVariants as deletion
 use Rattle.pf_anchor.specs.{Rulesets.{ruled, rules_at}, Tables.tables_at, declared.{verdict.RuleVerdict.RuleVerdict, verdict.RuleVerdict.TheVariants.Rule as Deciding, verdict.RuleVerdict.TheVariants.Default as NoRule}}
 use Rattle.pf_rule.specs.declared.rule.Action.TheVariants.{Pass, Block}
 use Rattle.pf_rule.specs.Packets.{PlainPacket}
-use Rattle.pf_state.specs.{declared.{state.Bound.Bound, state.StateName.StateName, step.Step.Step as StateStep, peer.message.Message.Message}, Flows.flow_of, States.{PlainState, held_at}, Steps.{counts, due_count}, Peer.Written.message_bytes, Failover.Incoming.steps_of, Failover.Outgoing.exported_messages}
+use Rattle.pf_state.specs.{declared.{state.Bound.Bound, state.StateName.StateName, step.StateStep.StateStep as StateStep, peer.message.Message.Message}, Flows.flow_of, States.{PlainState, held_at}, Steps.{counts, due_count}, Peer.Written.message_bytes, Failover.Incoming.steps_of, Failover.Outgoing.exported_messages}
 use Rattle.pf_state.specs.declared.state.Bound.TheVariants as bound
-use Rattle.pf_state.specs.declared.step.Step.TheVariants as step
+use Rattle.pf_state.specs.declared.step.StateStep.TheVariants as step
 use Rattle.pf_ticket.specs.{declared.{entry.RulesetTicket.RulesetTicket, name.RulesetName.RulesetName, offered.Offered.Offered, refusal.TicketRefusal.TicketRefusal}, Names.{filter_at, table_ruleset_at, names_of}, Mentions.{Mention, added, defined, gives, switches, drops}, Tickets.{PlainTickets, content}, Replies.{begin_reply, add_reply, define_reply, list_check, commit_check}}
 use Rattle.pf_ticket.specs.declared.offered.Offered.TheVariants as offered
 use Rattle.pf_core.specs.{declared.{durable.change.Item.Item, command.Command.Command, command.Command.TheVariants.Transact, command.Command.TheVariants.Edit, command.Command.TheVariants.States as OfStates, command.Command.TheVariants.Ask, command.Command.TheVariants.History, command.HistoryCommand.TheVariants.Log, command.HistoryCommand.TheVariants.Publish, command.Question.Question, command.Question.TheVariants.Judge, command.Question.TheVariants.Test, command.Question.TheVariants.ShowRules, command.Question.TheVariants.ShowTables, command.Question.TheVariants.ShowStates, command.Question.TheVariants.Sum, command.Question.TheVariants.Export, command.StateCommand.StateCommand, command.StateCommand.TheVariants.Track, command.StateCommand.TheVariants.Peer, command.StateCommand.TheVariants.Kill as KillState, command.StateCommand.TheVariants.Expire as ExpireStates, command.TableEdit.TableEdit, command.TableEdit.TheVariants.Add as AddTo, command.TableEdit.TheVariants.Delete, command.TableEdit.TheVariants.Set, command.TableEdit.TheVariants.Kill, command.Transaction.Transaction, command.Transaction.TheVariants.Begin, command.Transaction.TheVariants.Add, command.Transaction.TheVariants.Define, command.Transaction.TheVariants.Commit, command.Transaction.TheVariants.Rollback, reply.Answer.Answer, reply.Outcome.Outcome, reply.Refusal.Refusal, reply.Refusal.TheVariants.Absent, reply.Refusal.TheVariants.BadCount, reply.Refusal.TheVariants.BadTick, reply.Refusal.TheVariants.NotGrouped, group.TheConstants.GROUP_LIMIT, reply.Reply.Reply, reply.Reply.TheVariants.Answer as Answered, reply.Reply.TheVariants.Applied, reply.Reply.TheVariants.Stored, reply.Reply.TheVariants.Refused, step.Step.Step, step.Step.TheVariants.Done, step.Step.TheVariants.Wants, step.Step.TheVariants.OfHistory, durable.refusal.ChangeRefusal.ChangeRefusal, durable.verdict.Verdict.Verdict, durable.verdict.Verdict.TheVariants.State as Stateful, durable.verdict.Verdict.TheVariants.Rules as ByRules}, Durable.Changes.{PlainDurable, PlainChange, commits, adds, deletes, sets, acts, removes, expires, entries_at, main_sum, no_conflict, fits, verdict}, Refusals.{refusal_of, change_refusal_of}}

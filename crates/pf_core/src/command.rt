@@ -9,7 +9,7 @@ use pf_anchor::Path;
 use pf_rule::{Packet, Rule};
 use pf_state::StateName;
 use pf_state::peer::Message;
-use pf_ticket::{Entries, RulesetNames, Ticket};
+use pf_ticket::{RulesetNames, RulesetTickets, Ticket};
 
 /// One step of a transaction (pf(4), DIOCXBEGIN, DIOCADDRULE, DIOCRINADEFINE, DIOCXCOMMIT, DIOCXROLLBACK).
 #[derive(Drop)]
@@ -31,9 +31,9 @@ pub enum Transaction {
         entries: EntryList,
     },
     /// Makes the inactive rulesets active, all or none. Of the tables at a path those are replaced that were defined; others stay.
-    Commit(Entries),
+    Commit(RulesetTickets),
     /// Drops the inactive rulesets whose tickets are valid, and leaves the others alone.
-    Rollback(Entries),
+    Rollback(RulesetTickets),
 }
 
 /// A change of one table, at once and without a ticket (pf(4), DIOCRADDADDRS, DIOCRDELADDRS, DIOCRSETADDRS, DIOCRDELTABLES).

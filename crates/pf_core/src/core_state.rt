@@ -79,7 +79,8 @@ fn commit(
 {
     tickets.check_behind(before, entries)?;
     let items = take_items(alloc, tickets, before, entries)?;
-    durable.check_commit(alloc, items.as_slice())?;
+    // the tickets' check has found that no name comes twice
+    durable.check_limits(alloc, items.as_slice())?;
     let left = durable.committed(alloc, items.as_slice())?;
     let change = Change::commit(items);
     Ok(wants(alloc, before, change, left, Outcome::Committed)?)

@@ -1,7 +1,7 @@
 //! Changes of states: which change each one wants, and its outcome.
 ghost use Rattle.std.specs.Prelude.{◌≡◌, ◌∷◌, [], ◌||◌, length, not, IfOk};
 ghost use Rattle.pf_anchor.specs.Rulesets.{rules_at};
-ghost use Rattle.pf_state.specs.declared.step.Step.TheVariants as step_kind;
+ghost use Rattle.pf_state.specs.declared.step.StateStep.TheVariants as step_kind;
 ghost use Rattle.pf_core.specs.{Durable.Changes.verdict, Commands.{bound_here, makes_state, make_step, judge_step, track_step, expiry_of, is_past, steps_here, states_step, is_done, changes_states_in_memory}, Nexts.next_with, Refusals.OrMemory, Cores.{plain, IsMadeFrom}};
 
 use crate::command::StateCommand;
@@ -12,7 +12,7 @@ use pf_anchor::{Path, RuleVerdict};
 use pf_rule::{Action, Packet};
 use pf_state::failover::steps_of;
 use pf_state::peer::Message;
-use pf_state::{Bound, Flow, Held, State, StateName, Step as StateStep, StepList};
+use pf_state::{Bound, Flow, Held, State, StateName, StateStep, StepList};
 use pf_ticket::RulesetName;
 use std::alloc::{AllocError, Global};
 

@@ -1,9 +1,9 @@
 -- Reading and writing one value after another, as a loop does.
 use Rattle.std.proofs.{Common.{◌≡◌, ℕ, Bool, true, suc, ◌-◌, ◌+◌, ◌≤◌, ◌<◌, List, [], ◌∷◌, ◌++◌, length, Ok, Err, refl, sym, ap, ◌∙◌, append_assoc, arith}, lemmas.List.append-nil}
 use Rattle.std.specs.Prelude.{map}
-use Rattle.pf_form.specs.declared.bytes.fault.Stop.{Stop}
+use Rattle.pf_form.specs.declared.bytes.fault.Undecoded.{Undecoded}
 use Rattle.pf_form.specs.{Bytes.BasicForms.{Read, Reader, ◌>>=◌, times_by}, Bytes.Lists.in_order, Bytes.Readers.Fails, Laws.Bytes.Steps.leaves}
-use Rattle.pf_form.specs.declared.bytes.fault.Stop.TheVariants as stop
+use Rattle.pf_form.specs.declared.bytes.fault.Undecoded.TheVariants as undecoded
 
 -- what was read before, and what is still read
 abbrev pub with_front : {A : Type 0} → List A → Read (List A) → Read (List A)
@@ -21,10 +21,10 @@ module _ {A : Type 0} (read : Reader A) where
       let one : with_front front (times_by (count - i) read bytes) ≡ with_front (front ++ x ∷ []) (times_by (count - (i + 1)) read after) = rw (k, h) (regroup front x (times_by (count - (i + 1)) read after)) in
       sym one ∙ so_far
 
-  pub stops : (s : Stop) (front : List A) (count i : ℕ) (bytes : List ℕ) (total : Read (List A)) → i < count → Fails s (read bytes)
+  pub stops : (s : Undecoded) (front : List A) (count i : ℕ) (bytes : List ℕ) (total : Read (List A)) → i < count → Fails s (read bytes)
       → with_front front (times_by (count - i) read bytes) ≡ total → Fails s total
-  stops stop.Memory front count i bytes total lt h so_far = tt
-  stops (stop.Fault f) front count i bytes total lt h so_far =
+  stops undecoded.Memory front count i bytes total lt h so_far = tt
+  stops (undecoded.Fault f) front count i bytes total lt h so_far =
       let k : count - i ≡ suc (count - (i + 1)) = omega arith in
       let one : with_front front (times_by (count - i) read bytes) ≡ Err f = rw (k, h) refl in
       sym so_far ∙ one

@@ -2,9 +2,9 @@
 use Rattle.std.proofs.{Common.{◌≡◌, ◌<◌, ◌≤◌, ℕ, zero, suc, false, List, [], ◌∷◌, ◌++◌, length, take, drop, get_or, Result, Ok, Err, refl, sym, ap, subst, ◌∙◌, arith}, lemmas.Bool.le-ltb, Math.Nat.mod-eq_of_lt}
 use Rattle.std.specs.{Prelude.{nat_lt, map, IfOk, IfErr}, List.{flat_map, AllByRecursion}}
 use Rattle.byteorder.specs.Endian.{big_number}
-use Rattle.pf_form.specs.declared.{bytes.fault.Fault.Fault, bytes.fault.Fault.TheVariants.Short, bytes.fault.Stop.Stop}
+use Rattle.pf_form.specs.declared.{bytes.fault.Fault.Fault, bytes.fault.Fault.TheVariants.Short, bytes.fault.Undecoded.Undecoded}
 use Rattle.pf_form.specs.{Bytes.BasicForms.{Bytes, number_at, number_bytes, times_by, constant_at, onto_each}, Bytes.Forms.{Shape, Value, Form, Spells, number, times, onto}, Bytes.Readers.{GivesAll, IfFault, Refused, read_all}, Laws.Bytes.Onto.onto_is, Laws.Bytes.Texts.{found, only, refused}}
-use Rattle.pf_form.specs.declared.bytes.fault.Stop.TheVariants as stop
+use Rattle.pf_form.specs.declared.bytes.fault.Undecoded.TheVariants as undecoded
 
 -- ---- bytes
 
@@ -50,14 +50,14 @@ item_fits P view (y ∷ xs) (suc i) x lt e all = item_fits P view xs i x (omega 
 -- ---- whole texts
 
 module _ {X : Type 0} {a : Shape} (f : Form a) (view : X → Value a) (bytes : List ℕ) where
-  pub is_found : (r : Result X Stop) → Bytes bytes → GivesAll view r (read_all f bytes) → IfOk r (λ x. Spells f (view x) bytes)
+  pub is_found : (r : Result X Undecoded) → Bytes bytes → GivesAll view r (read_all f bytes) → IfOk r (λ x. Spells f (view x) bytes)
   is_found (Ok x) h e = found f bytes (view x) h e
   is_found (Err s) h e = tt
 
-  pub is_only : (r : Result X Stop) (x : Value a) → Spells f x bytes → GivesAll view r (read_all f bytes) → GivesAll view r (Ok x)
+  pub is_only : (r : Result X Undecoded) (x : Value a) → Spells f x bytes → GivesAll view r (read_all f bytes) → GivesAll view r (Ok x)
   is_only r x s e = subst (λ (q : Result (Value a) Fault). GivesAll view r q) (only f bytes x s) e
 
-  pub is_refused : (r : Result X Stop) → Bytes bytes → GivesAll view r (read_all f bytes) → IfErr r (λ e. IfFault e (Refused f bytes))
+  pub is_refused : (r : Result X Undecoded) → Bytes bytes → GivesAll view r (read_all f bytes) → IfErr r (λ e. IfFault e (Refused f bytes))
   is_refused (Ok x) h e = tt
-  is_refused (Err stop.Memory) h e = tt
-  is_refused (Err (stop.Fault d)) h e = refused f bytes d h e
+  is_refused (Err undecoded.Memory) h e = tt
+  is_refused (Err (undecoded.Fault d)) h e = refused f bytes d h e

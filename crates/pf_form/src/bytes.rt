@@ -17,7 +17,7 @@ mod whole;
 mod writing;
 
 pub use codes::{read_below, read_flag};
-pub use fault::{Fault, Stop};
+pub use fault::{Fault, Undecoded};
 pub use fitting::{Fitting, all_fit, push_fitting, push_list};
 pub use laws::{bytes_have_one_value, refusals_have_one_reason, what_is_written_is_read};
 pub use layout::{Layout, Ordered};

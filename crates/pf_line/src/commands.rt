@@ -11,7 +11,7 @@ use pf_core::{Command, HistoryCommand, Question, StateCommand, TableEdit, Transa
 use pf_form::form::{Stop, Unread, Words, each, end, expect, takes};
 use pf_rule::value::address_word;
 use pf_rule::{Mistake, Packet, Rule};
-use pf_ticket::{Entries, RulesetNames};
+use pf_ticket::{RulesetNames, RulesetTickets};
 use std::alloc::Global;
 
 #[tactic(auto, unfolding(crate::specs::Grammar::begun))]
@@ -62,7 +62,7 @@ fn commit(alloc: Global, words: &[&[u8]]) -> Result<Result<Command, Mistake>, Un
     ensures { ReadsAll (λ x. x) committed result words.now }
 {
     let entries = each(alloc, words, read_entry)?;
-    let step = Transaction::Commit(Entries::new(entries));
+    let step = Transaction::Commit(RulesetTickets::new(entries));
     Ok(Ok(Command::Transact(step)))
 }
 
@@ -71,7 +71,7 @@ fn rollback(alloc: Global, words: &[&[u8]]) -> Result<Result<Command, Mistake>, 
     ensures { ReadsAll (λ x. x) rolled_back result words.now }
 {
     let entries = each(alloc, words, read_entry)?;
-    let step = Transaction::Rollback(Entries::new(entries));
+    let step = Transaction::Rollback(RulesetTickets::new(entries));
     Ok(Ok(Command::Transact(step)))
 }
 

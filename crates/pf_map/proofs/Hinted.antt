@@ -2,7 +2,7 @@
 use Rattle.std.specs.{Prelude.{◌≡◌, ◌≢◌, ℕ, ◌<◌, nat_lt, nat_eq, true, false, Bool}, Ordering.{ordering_reverse, nat_cmp}, Cmp.IsTotalOrder}
 use Rattle.std.specs.declared.cmp.Ordering.{Ordering}
 use Rattle.std.proofs.{Common.{refl, sym, ap, ◌∙◌, arith}, lemmas.Bool.Decides.nat_tests}
-use Rattle.pf_map.specs.Hints.{RisesWith}
+use Rattle.pf_key.specs.Keys.{RisesWith}
 
 module _ {K : Type 0} {R : K → K → Ordering} (o : IsTotalOrder R) (hint : K → ℕ) (rises : RisesWith R hint) (a b : K) where
   by_less : hint a ≢ hint b → (l : Bool) → nat_lt (hint a) (hint b) ≡ l → nat_cmp (hint a) (hint b) ≡ R a b

@@ -110,21 +110,6 @@ module _ {K X : Type 0} {R : K → K → Ordering} (o : IsTotalOrder R) (k : K) 
   none_behind [] at = refl
   none_behind (e ∷ b) at = rw (none_behind b at.1, at.0) refl
 
-  last_before : (m b : List (K × X)) → AllAt Less b → at_or_before R k (m ++ b) ≡ at_or_before R k m
-  last_before [] b at = none_behind b at
-  last_before (e ∷ m) b at = ap (λ z. or_else z (cond (not (is_lt (R k e.0))) (Some e) None)) (last_before m b at)
-
-  or_else_same : (x y : Option (K × X)) (e : K × X) → or_else (or_else x (Some e)) y ≡ or_else x (Some e)
-  or_else_same None y e = refl
-  or_else_same (Some x) y e = refl
-
-  -- where the first of some entries isn't behind the key, none of those in front is the last one
-  last_past : (a : List (K × X)) (e : K × X) (m : List (K × X)) → is_lt (R k e.0) ≡ false → at_or_before R k (a ++ e ∷ m) ≡ at_or_before R k (e ∷ m)
-  last_past [] e m starts = refl
-  last_past (x ∷ a) e m starts =
-      ap (λ z. or_else z (cond (not (is_lt (R k x.0))) (Some x) None)) (last_past a e m starts)
-      ∙ rw starts (or_else_same (at_or_before R k m) (cond (not (is_lt (R k x.0))) (Some x) None) e)
-
   -- ---- a map in order
 
   below_at : (x : K) (a : List (K × X)) (e : K × X) (es : List (K × X)) → T (below_all R x (a ++ e ∷ es)) → R x e.0 ≡ Less
@@ -174,21 +159,6 @@ module _ {K X : Type 0} {R : K → K → Ordering} (o : IsTotalOrder R) (k : K) 
       ∙ find_apart Greater (joined (front_of n parts)) (part_before n parts ++ joined (drop n parts)) refl (front_before parts n at is)
       ∙ find_before (part_before n parts) (joined (drop n parts)) (parts_behind parts n at.next is)
 
-  last_in : (a part : List (K × X)) → 0 < length part → starts_behind R k part ≡ false → at_or_before R k (a ++ part) ≡ at_or_before R k part
-  last_in a [] some starts = absurd (omega arith)
-  last_in a (e ∷ part) some starts = last_past a e part starts
-
-  last_front : (parts : List (List (K × X))) (n : ℕ) → IsPlace R k parts n → at_or_before R k (joined (front_of n parts) ++ part_before n parts) ≡ at_or_before R k (part_before n parts)
-  last_front parts zero at = refl
-  last_front parts (suc zero) at = refl
-  last_front parts (suc (suc i)) at = let here = at.here (omega arith) in last_in (joined (take (suc i) parts)) (get_or parts (suc i) []) here.0 here.1
-
-  last_there : (parts : List (List (K × X))) (n : ℕ) → IsPlace R k parts n → T (is_sorted R (joined parts)) → at_or_before R k (joined parts) ≡ at_or_before R k (part_before n parts)
-  last_there parts n at is =
-      ap (at_or_before R k) (around_place parts n ∙ sym (append_assoc (joined (front_of n parts)) (part_before n parts) (joined (drop n parts))))
-      ∙ last_before (joined (front_of n parts) ++ part_before n parts) (joined (drop n parts)) (parts_behind parts n at.next is)
-      ∙ last_front parts n at
-
   -- ---- the same, as it is read at the part itself
 
   before_is : (parts : List (List (K × X))) (n : ℕ) → 0 < n → part_before n parts ≡ get_or parts (n - 1) []
@@ -208,10 +178,6 @@ module _ {K X : Type 0} {R : K → K → Ordering} (o : IsTotalOrder R) (k : K) 
   pub read_at : (parts : List (List (K × X))) (n : ℕ) (part : List (K × X)) → 0 < n → n - 1 < length parts → part ≡ get_or parts (n - 1) part → IsPlace R k parts n → T (is_sorted R (joined parts)) → entry_at R k part ≡ entry_at R k (joined parts)
   read_at parts n part some within is at sorted =
       ap (λ z. option_map (λ v. (k, v)) z) (ap (find R k) (at_part parts (n - 1) part within is ∙ sym (before_is parts n some)) ∙ sym (read_there parts n at sorted))
-
-  pub last_at : (parts : List (List (K × X))) (n : ℕ) (part : List (K × X)) → 0 < n → n - 1 < length parts → part ≡ get_or parts (n - 1) part → IsPlace R k parts n → T (is_sorted R (joined parts)) → at_or_before R k part ≡ at_or_before R k (joined parts)
-  last_at parts n part some within is at sorted =
-      ap (at_or_before R k) (at_part parts (n - 1) part within is ∙ sym (before_is parts n some)) ∙ sym (last_there parts n at sorted)
 
   -- ---- the part of the last entry that isn't behind a key
 

@@ -1,6 +1,5 @@
 pub mod Maps
 pub mod Weights
-pub mod Pairs
 pub mod InOrder
 pub mod Hints
 pub mod MapParts

@@ -1,14 +1,14 @@
 //! Pages that keep beside their entries what follows from them.
-ghost use Rattle.std.specs.{Prelude.{◌≡◌, ◌<◌, List, length, map, Some, IfOk, IfSome}};
-ghost use Rattle.pf_map.specs.{MapParts.{first_of, joined, FollowsFrom}, Pieces.all_of};
+ghost use Rattle.std.specs.{Prelude.{◌≡◌, T, List, [], ◌∷◌, map, Some, None, IfOk, IfSome, MatchOption}, FinMap.is_sorted};
+ghost use Rattle.pf_map.specs.{Maps.at_or_before, MapParts.{first_of, joined, IsUpTo, FollowsFrom}, Pieces.all_of};
 
-use crate::entry::Held;
-use crate::key::{Key, Probe};
-use crate::level::Leaf;
+use crate::entry::Holder;
+use crate::level::{Leaf, part_up_to};
 use crate::page::Page;
 use crate::part::{Part, Single};
 use crate::pieces::Pieces;
 use crate::slot::Slot;
+use pf_key::{Key, Probe};
 use std::alloc::{AllocError, Global};
 use std::marker::Model;
 use std::sync::Arc;
@@ -24,7 +24,7 @@ pub trait Beside<E: Drop>: Drop {
 }
 
 // The entries of a page in a list, each with one owner more.
-fn listed<K: Key, V: Drop, E: Held<K, V>>(
+fn listed<K: Key, V: Drop, E: Holder<K, V>>(
     alloc: Global,
     slots: &[Slot<K, V, E, Single<K, V, E>>],
 ) -> Result<Vec<E>, AllocError>
@@ -39,18 +39,18 @@ fn listed<K: Key, V: Drop, E: Held<K, V>>(
 
 /// A page of entries, and if it was made whole what follows from them, which all maps share that hold the page. A page that is
 /// changed lets it go, so that a change costs no more than that of a page. Contracts see it as the entries.
-pub struct PageBeside<K: Key, V: Drop, E: Held<K, V>, B: Beside<E>> {
+pub struct PageBeside<K: Key, V: Drop, E: Holder<K, V>, B: Beside<E>> {
     page: Leaf<K, V, E>,
     beside: Option<Arc<B>>,
 }
 
-impl<K: Key, V: Drop, E: Held<K, V>, B: Beside<E>> Drop for PageBeside<K, V, E, B> {
+impl<K: Key, V: Drop, E: Holder<K, V>, B: Beside<E>> Drop for PageBeside<K, V, E, B> {
     fn drop(self) {
         let PageBeside { page: _, beside: _ } = self;
     }
 }
 
-impl<K: Key, V: Drop, E: Held<K, V>, B: Beside<E>> Model for PageBeside<K, V, E, B> {
+impl<K: Key, V: Drop, E: Holder<K, V>, B: Beside<E>> Model for PageBeside<K, V, E, B> {
     ghost use Rattle.std.specs.Prelude.{List, IfSome};
     ghost use Rattle.std.specs.Arc.{arc_value};
     ghost use Rattle.pf_map.specs.MapParts.{FollowsFrom};
@@ -62,7 +62,7 @@ impl<K: Key, V: Drop, E: Held<K, V>, B: Beside<E>> Model for PageBeside<K, V, E,
     ghost invariant = { λ p. IfSome p.beside (λ b. FollowsFrom E.pair B.follows (arc_value b) p.page) };
 }
 
-impl<K: Key, V: Drop, E: Held<K, V>, B: Beside<E>> PageBeside<K, V, E, B> {
+impl<K: Key, V: Drop, E: Holder<K, V>, B: Beside<E>> PageBeside<K, V, E, B> {
     // This page, with what follows from it. `AllocError`: nothing is left of this owner's page.
     fn of(alloc: Global, page: Leaf<K, V, E>) -> Result<PageBeside<K, V, E, B>, AllocError>
         ensures { IfOk result (λ p. p ≡ page) }
@@ -98,16 +98,17 @@ impl<K: Key, V: Drop, E: Held<K, V>, B: Beside<E>> PageBeside<K, V, E, B> {
         self.page.first()
     }
 
-    /// Its entries, in order.
-    pub fn entries(&self) -> &[Slot<K, V, E, Single<K, V, E>>]
-        ensures value { joined result.now ≡ self.now }
-        ensures some { 0 < length result.now }
+    /// Its last entry that isn't behind a key; None where all are.
+    pub fn entry_up_to<Q: Probe<K>>(&self, sought: &Q) -> Option<&E>
+        requires { T (is_sorted K.order self.now) }
+        ensures { MatchOption result (at_or_before K.order (Q.key sought.now) self.now ≡ None) (λ e. IsUpTo K.order (Q.key sought.now) (E.pair e.now ∷ []) self.now) }
     {
-        self.page.slots()
+        let single = part_up_to(self.page.slots(), sought.hint(), sought)?;
+        Some(single.entry())
     }
 }
 
-impl<K: Key, V: Drop, E: Held<K, V>, B: Beside<E>> Part<K, V, E> for PageBeside<K, V, E, B> {
+impl<K: Key, V: Drop, E: Holder<K, V>, B: Beside<E>> Part<K, V, E> for PageBeside<K, V, E, B> {
     ghost entries = { λ p. p };
 
     fn of_entry(alloc: Global, entry: &E) -> Result<PageBeside<K, V, E, B>, AllocError> {
@@ -133,10 +134,6 @@ impl<K: Key, V: Drop, E: Held<K, V>, B: Beside<E>> Part<K, V, E> for PageBeside<
         self.page.find(hint, sought)
     }
 
-    fn last_up_to<Q: Probe<K>>(&self, hint: u64, sought: &Q) -> Option<&E> {
-        self.page.last_up_to(hint, sought)
-    }
-
     fn replaced<Q: Probe<K>>(
         self,
         alloc: Global,
@@ -156,7 +153,7 @@ impl<K: Key, V: Drop, E: Held<K, V>, B: Beside<E>> Part<K, V, E> for PageBeside<
     }
 }
 
-impl<K: Key, V: Drop, E: Held<K, V>, B: Beside<E>> Page<K, V, E> for PageBeside<K, V, E, B> {
+impl<K: Key, V: Drop, E: Holder<K, V>, B: Beside<E>> Page<K, V, E> for PageBeside<K, V, E, B> {
     fn of_entries(alloc: Global, page: &[E]) -> Result<PageBeside<K, V, E, B>, AllocError> {
         PageBeside::of(alloc, Leaf::of_entries(alloc, page)?)
     }

@@ -2,8 +2,8 @@
 ghost use Rattle.std.specs.{Prelude.{◌≡◌, IfOk}, List.Sorted.{IsPermutation, IsSortedBy}, Ordering.is_lt};
 ghost use Rattle.pf_map.specs.InOrder.{in_order};
 
-use crate::entry::{Held, KeyValue};
-use crate::key::Key;
+use crate::entry::{Holder, KeyValue};
+use pf_key::Key;
 use std::alloc::{AllocError, Global};
 use std::cmp::Ordering;
 use std::marker::{Model, PhantomData};
@@ -55,7 +55,7 @@ impl<N: Key, F: Key, V: Flowed<F>> ByFlow<N, F, V> {
     }
 }
 
-impl<N: Key, F: Key, V: Flowed<F>> Held<F, KeyValue<N, V>> for ByFlow<N, F, V> {
+impl<N: Key, F: Key, V: Flowed<F>> Holder<F, KeyValue<N, V>> for ByFlow<N, F, V> {
     ghost pair = { λ e. (V.flow e.1, e) };
 
     fn share(&self) -> Result<ByFlow<N, F, V>, AllocError> {

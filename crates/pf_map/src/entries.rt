@@ -2,22 +2,22 @@
 ghost use Rattle.std.specs.{Prelude.{◌≡◌, ◌++◌, [], MatchOption}, Iterator.{item_count, YieldsFirstBy}};
 ghost use Rattle.pf_map.specs.MapParts.{joined};
 
-use crate::entry::Held;
-use crate::key::Key;
+use crate::entry::Holder;
 use crate::level::{Leaf, Middle};
 use crate::page::Page;
 use crate::part::Single;
 use crate::slot::Slot;
+use pf_key::Key;
 use std::marker::Model;
 
 /// The entries of a map that are left to come, in order: what is left of one page in each level. Contracts see it as the list.
-pub struct Entries<'a, K: Key, V: Drop, E: Held<K, V>, L: Page<K, V, E> = Leaf<K, V, E>> {
+pub struct Entries<'a, K: Key, V: Drop, E: Holder<K, V>, L: Page<K, V, E> = Leaf<K, V, E>> {
     middles: &'a [Slot<K, V, E, Middle<K, V, E, L>>],
     leaves: &'a [Slot<K, V, E, L>],
     entries: &'a [Slot<K, V, E, Single<K, V, E>>],
 }
 
-impl<'a, K: Key, V: Drop, E: Held<K, V>, L: Page<K, V, E>> Drop for Entries<'a, K, V, E, L> {
+impl<'a, K: Key, V: Drop, E: Holder<K, V>, L: Page<K, V, E>> Drop for Entries<'a, K, V, E, L> {
     fn drop(self) {
         let Entries {
             middles: _,
@@ -27,7 +27,7 @@ impl<'a, K: Key, V: Drop, E: Held<K, V>, L: Page<K, V, E>> Drop for Entries<'a, 
     }
 }
 
-impl<'a, K: Key, V: Drop, E: Held<K, V>, L: Page<K, V, E>> Model for Entries<'a, K, V, E, L> {
+impl<'a, K: Key, V: Drop, E: Holder<K, V>, L: Page<K, V, E>> Model for Entries<'a, K, V, E, L> {
     ghost use Rattle.std.specs.Prelude.{List, ◌++◌};
     ghost use Rattle.pf_map.specs.MapParts.{joined};
 
@@ -37,7 +37,7 @@ impl<'a, K: Key, V: Drop, E: Held<K, V>, L: Page<K, V, E>> Model for Entries<'a,
 }
 
 // The next page of entries, and what is left behind it.
-fn next_leaf<'a, K: Key, V: Drop, E: Held<K, V>, L: Page<K, V, E>>(
+fn next_leaf<'a, K: Key, V: Drop, E: Holder<K, V>, L: Page<K, V, E>>(
     leaves: &'a [Slot<K, V, E, L>],
     middles: &'a [Slot<K, V, E, Middle<K, V, E, L>>],
 ) -> Option<
@@ -57,7 +57,7 @@ fn next_leaf<'a, K: Key, V: Drop, E: Held<K, V>, L: Page<K, V, E>>(
     Some((leaf, more, others))
 }
 
-impl<'a, K: Key, V: Drop, E: Held<K, V>, L: Page<K, V, E>> Entries<'a, K, V, E, L> {
+impl<'a, K: Key, V: Drop, E: Holder<K, V>, L: Page<K, V, E>> Entries<'a, K, V, E, L> {
     /// Those of these pages.
     pub(crate) fn over(middles: &'a [Slot<K, V, E, Middle<K, V, E, L>>]) -> Entries<'a, K, V, E, L>
         ensures { result ≡ joined middles.now }
@@ -70,7 +70,7 @@ impl<'a, K: Key, V: Drop, E: Held<K, V>, L: Page<K, V, E>> Entries<'a, K, V, E, 
     }
 }
 
-impl<'a, K: Key, V: Drop, E: Held<K, V>, L: Page<K, V, E>> Iterator for Entries<'a, K, V, E, L> {
+impl<'a, K: Key, V: Drop, E: Holder<K, V>, L: Page<K, V, E>> Iterator for Entries<'a, K, V, E, L> {
     type Item = &'a E;
 
     ghost next_gives = { YieldsFirstBy (λ e. E.pair e.now) (λ s. s) };

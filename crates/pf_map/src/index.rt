@@ -5,8 +5,8 @@ ghost use Rattle.pf_map.specs.{Indexes.{of_flow, is_clash, unflowed, IsIndexOf},
 use crate::by_flow::{ByFlow, Flowed, HintedFlow, are_apart, each_by_flow, in_order_of_flows};
 use crate::entries::Entries;
 use crate::entry::KeyValue;
-use crate::key::{Key, Probe};
 use crate::tree_map::TreeMap;
+use pf_key::{Key, Probe};
 use std::alloc::{AllocError, Global};
 use std::marker::Model;
 
@@ -145,9 +145,11 @@ impl<N: Key, F: Key, V: Flowed<F>> Index<N, F, V> {
         ensures { IfOk result (λ i. i ≡ with_value N.order self new.now.0 (Some new.now.1)) }
     {
         let Index { names, flows } = self;
-        let kept = without_flow(alloc, flows, names.get(new.key()))?;
-        let flows = kept.with(alloc, &ByFlow::new(new)?)?;
-        let names = names.with(alloc, new)?;
+        let old = names.get(new.key());
+        let had = old.is_some();
+        let kept = without_flow(alloc, flows, old)?;
+        let flows = kept.with_new(alloc, &ByFlow::new(new)?)?;
+        let names = names.with_value(alloc, new.key(), had, Some(new))?;
         Ok(Index { names, flows })
     }
 

@@ -2,7 +2,7 @@
 ghost use Rattle.pf_map.specs.{Laws.{ReplacesTheKey, StaysSorted, OneList, StaysMap}, ListMaps.{ReplacesLists, StaysListMap, OneListMap}};
 
 use crate::entry::Content;
-use crate::key::Key;
+use pf_key::Key;
 
 /// In a map a key that was replaced has the new value, or none, all else stays, and the keys stay in order. A map is what is
 /// read of it.

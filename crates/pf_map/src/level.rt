@@ -2,12 +2,12 @@
 ghost use Rattle.std.specs.{Prelude.{◌≡◌, ◌<◌, ◌≤◌, T, [], ◌++◌, length, take, drop, IfOk, OnOk, IfSome, None, MatchOption}, FinMap.is_sorted, Option.{option_map, option_map_or}};
 ghost use Rattle.pf_map.specs.{Maps.{with_value, entry_at, at_or_before}, MapParts.{joined, IsPlace, IsUpTo}, Pieces.all_of};
 
-use crate::entry::Held;
-use crate::key::{Key, Probe};
+use crate::entry::Holder;
 use crate::page::{Page, each_alone};
 use crate::part::{Part, Single};
 use crate::pieces::Pieces;
 use crate::slot::Slot;
+use pf_key::{Key, Probe};
 use std::alloc::{AllocError, Global};
 use std::marker::Model;
 use std::sync::Arc;
@@ -17,7 +17,7 @@ pub(crate) const PAGE_LIMIT: usize = 31;
 
 /// Parts that follow one another, one at least, in a page that all maps share that hold it. Contracts see it as the entries of
 /// its parts.
-pub struct Level<K: Key, V: Drop, E: Held<K, V>, P: Part<K, V, E>> {
+pub struct Level<K: Key, V: Drop, E: Holder<K, V>, P: Part<K, V, E>> {
     slots: Arc<Vec<Slot<K, V, E, P>>>,
 }
 
@@ -27,13 +27,13 @@ pub type Leaf<K, V, E> = Level<K, V, E, Single<K, V, E>>;
 /// A page of pages of entries.
 pub type Middle<K, V, E, L> = Level<K, V, E, L>;
 
-impl<K: Key, V: Drop, E: Held<K, V>, P: Part<K, V, E>> Drop for Level<K, V, E, P> {
+impl<K: Key, V: Drop, E: Holder<K, V>, P: Part<K, V, E>> Drop for Level<K, V, E, P> {
     fn drop(self) {
         let Level { slots: _ } = self;
     }
 }
 
-impl<K: Key, V: Drop, E: Held<K, V>, P: Part<K, V, E>> Model for Level<K, V, E, P> {
+impl<K: Key, V: Drop, E: Holder<K, V>, P: Part<K, V, E>> Model for Level<K, V, E, P> {
     ghost use Rattle.std.specs.Prelude.{List, length, ◌<◌};
     ghost use Rattle.std.specs.Arc.{arc_value};
     ghost use Rattle.pf_map.specs.MapParts.{joined};
@@ -47,7 +47,7 @@ impl<K: Key, V: Drop, E: Held<K, V>, P: Part<K, V, E>> Model for Level<K, V, E, 
 
 // How many parts there are up to the one where a key's entry is, or would be: the last that doesn't start behind the key, or
 // else the first. What is left to look at is halved at each step.
-fn place_in<K: Key, V: Drop, E: Held<K, V>, P: Part<K, V, E>, Q: Probe<K>>(
+fn place_in<K: Key, V: Drop, E: Holder<K, V>, P: Part<K, V, E>, Q: Probe<K>>(
     slots: &[Slot<K, V, E, P>],
     hint: u64,
     sought: &Q,
@@ -69,7 +69,7 @@ fn place_in<K: Key, V: Drop, E: Held<K, V>, P: Part<K, V, E>, Q: Probe<K>>(
 }
 
 /// The entry at a key among those of parts that follow one another, if there is one.
-pub(crate) fn find_in<'a, K: Key, V: Drop, E: Held<K, V>, P: Part<K, V, E>, Q: Probe<K>>(
+pub(crate) fn find_in<'a, K: Key, V: Drop, E: Holder<K, V>, P: Part<K, V, E>, Q: Probe<K>>(
     slots: &'a [Slot<K, V, E, P>],
     hint: u64,
     sought: &Q,
@@ -85,25 +85,8 @@ pub(crate) fn find_in<'a, K: Key, V: Drop, E: Held<K, V>, P: Part<K, V, E>, Q: P
     slots[place - 1].part().find(hint, sought)
 }
 
-/// The last entry that isn't behind a key among those of parts that follow one another, if there is one.
-pub(crate) fn last_up_to_in<'a, K: Key, V: Drop, E: Held<K, V>, P: Part<K, V, E>, Q: Probe<K>>(
-    slots: &'a [Slot<K, V, E, P>],
-    hint: u64,
-    sought: &Q,
-) -> Option<&'a E>
-    requires hinted { hint ≡ K.hint (Q.key sought.now) }
-    requires sorted { T (is_sorted K.order (joined slots.now)) }
-    ensures { option_map (λ e. E.pair e.now) result ≡ at_or_before K.order (Q.key sought.now) (joined slots.now) }
-{
-    let place = place_in(slots, hint, sought);
-    if place == 0 {
-        return None;
-    }
-    slots[place - 1].part().last_up_to(hint, sought)
-}
-
 /// The part with the last entry that isn't behind a key among parts that follow one another; None where all entries are.
-pub(crate) fn part_up_to<'a, K: Key, V: Drop, E: Held<K, V>, P: Part<K, V, E>, Q: Probe<K>>(
+pub(crate) fn part_up_to<'a, K: Key, V: Drop, E: Holder<K, V>, P: Part<K, V, E>, Q: Probe<K>>(
     slots: &'a [Slot<K, V, E, P>],
     hint: u64,
     sought: &Q,
@@ -124,7 +107,7 @@ pub(crate) fn part_up_to<'a, K: Key, V: Drop, E: Held<K, V>, P: Part<K, V, E>, Q
 }
 
 // The same parts in a page of their own.
-fn copied<K: Key, V: Drop, E: Held<K, V>, P: Part<K, V, E>>(
+fn copied<K: Key, V: Drop, E: Holder<K, V>, P: Part<K, V, E>>(
     alloc: Global,
     slots: &[Slot<K, V, E, P>],
 ) -> Result<Vec<Slot<K, V, E, P>>, AllocError>
@@ -138,7 +121,7 @@ fn copied<K: Key, V: Drop, E: Held<K, V>, P: Part<K, V, E>>(
 }
 
 // Puts what a part has become in its place.
-fn put_back<K: Key, V: Drop, E: Held<K, V>, P: Part<K, V, E>>(
+fn put_back<K: Key, V: Drop, E: Holder<K, V>, P: Part<K, V, E>>(
     slots: &mut Vec<Slot<K, V, E, P>>,
     place: usize,
     pieces: Pieces<P>,
@@ -161,7 +144,7 @@ fn put_back<K: Key, V: Drop, E: Held<K, V>, P: Part<K, V, E>>(
 }
 
 /// The parts with the entry at a key replaced, or taken out where there is no new one. `AllocError`: nothing is left of them.
-pub(crate) fn replaced_in<K: Key, V: Drop, E: Held<K, V>, P: Part<K, V, E>, Q: Probe<K>>(
+pub(crate) fn replaced_in<K: Key, V: Drop, E: Holder<K, V>, P: Part<K, V, E>, Q: Probe<K>>(
     alloc: Global,
     mut slots: Vec<Slot<K, V, E, P>>,
     hint: u64,
@@ -190,7 +173,7 @@ pub(crate) fn replaced_in<K: Key, V: Drop, E: Held<K, V>, P: Part<K, V, E>, Q: P
 }
 
 // A level of these parts, or none where there are none, or two where there are too many for one page.
-fn cut<K: Key, V: Drop, E: Held<K, V>, P: Part<K, V, E>>(
+fn cut<K: Key, V: Drop, E: Holder<K, V>, P: Part<K, V, E>>(
     alloc: Global,
     mut slots: Vec<Slot<K, V, E, P>>,
 ) -> Result<Pieces<Level<K, V, E, P>>, AllocError>
@@ -214,7 +197,7 @@ fn cut<K: Key, V: Drop, E: Held<K, V>, P: Part<K, V, E>>(
     }
 }
 
-impl<K: Key, V: Drop, E: Held<K, V>, P: Part<K, V, E>> Level<K, V, E, P> {
+impl<K: Key, V: Drop, E: Holder<K, V>, P: Part<K, V, E>> Level<K, V, E, P> {
     /// Its parts, in order.
     pub fn slots(&self) -> &[Slot<K, V, E, P>]
         ensures value { joined result.now ≡ self.now }
@@ -263,7 +246,7 @@ impl<K: Key, V: Drop, E: Held<K, V>, P: Part<K, V, E>> Level<K, V, E, P> {
     }
 }
 
-impl<K: Key, V: Drop, E: Held<K, V>, P: Part<K, V, E>> Part<K, V, E> for Level<K, V, E, P> {
+impl<K: Key, V: Drop, E: Holder<K, V>, P: Part<K, V, E>> Part<K, V, E> for Level<K, V, E, P> {
     ghost entries = { λ l. l };
 
     fn of_entry(alloc: Global, entry: &E) -> Result<Level<K, V, E, P>, AllocError> {
@@ -288,10 +271,6 @@ impl<K: Key, V: Drop, E: Held<K, V>, P: Part<K, V, E>> Part<K, V, E> for Level<K
         find_in(self.slots(), hint, sought)
     }
 
-    fn last_up_to<Q: Probe<K>>(&self, hint: u64, sought: &Q) -> Option<&E> {
-        last_up_to_in(self.slots(), hint, sought)
-    }
-
     fn replaced<Q: Probe<K>>(
         self,
         alloc: Global,
@@ -304,7 +283,7 @@ impl<K: Key, V: Drop, E: Held<K, V>, P: Part<K, V, E>> Part<K, V, E> for Level<K
     }
 }
 
-impl<K: Key, V: Drop, E: Held<K, V>> Page<K, V, E> for Level<K, V, E, Single<K, V, E>> {
+impl<K: Key, V: Drop, E: Holder<K, V>> Page<K, V, E> for Level<K, V, E, Single<K, V, E>> {
     fn of_entries(
         alloc: Global,
         page: &[E],

@@ -1,14 +1,14 @@
 //! Finite maps in the order of their keys, in trees of pages that are shared; the crates above keep rulesets, tables and states in them.
 //!
-//! It stands on nothing of the others. It knows of a key that it stands in a total order, and not what a map's keys and values mean: a type
-//! says in its own crate how it is a key.
+//! It stands on `pf_key` alone. It knows of a key that it stands in a total order, and not what a map's keys and values mean: a type says in
+//! its own crate how it is a key.
 //!
 //! A map is the list of its entries in the order of their keys, no key twice. Read first specs/Maps.antt, which says what a map holds once
 //! a key's value was replaced, and specs/ListMaps.antt, maps of lists in which an empty list has no entry; specs/Indexes.antt is about
 //! values with two keys. Callers use [`PagedMap`], [`TreeMap`] and [`Index`]: copies share all pages, and a change makes anew those on the
 //! way to what it changes.
 //!
-//! `key` is what maps are ordered by; `entry` is what stands at a key, and `weight` what entries weigh together. A tree consists of parts
+//! `entry` is what stands at a key, and `weight` what entries weigh together. A tree consists of parts
 //! (`part`), which a `level` holds in slots (`slot`), and a `page` is a part that holds entries; `pieces` is what becomes of a part that
 //! was changed, `raised` makes levels over parts that are there already, and `beside` keeps with a page what follows from its entries.
 //! `tree_map` is the tree and `entries` goes over it; `paged_map` and `index` stand on trees, the latter with `by_flow`, the entries under
@@ -20,7 +20,6 @@ mod by_flow;
 mod entries;
 mod entry;
 mod index;
-mod key;
 pub mod laws;
 mod level;
 mod page;
@@ -35,9 +34,8 @@ mod weight;
 pub use beside::{Beside, PageBeside};
 pub use by_flow::Flowed;
 pub use entries::Entries;
-pub use entry::{Content, Held, KeyValue};
+pub use entry::{Content, Holder, KeyValue};
 pub use index::Index;
-pub use key::{Key, Probe};
 pub use paged_map::PagedMap;
 pub use tree_map::TreeMap;
 pub use weight::Weigher;

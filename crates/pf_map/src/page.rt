@@ -2,14 +2,14 @@
 ghost use Rattle.std.specs.Prelude.{◌≡◌, ◌<◌, length, map, IfOk};
 ghost use Rattle.pf_map.specs.MapParts.{joined};
 
-use crate::entry::Held;
-use crate::key::Key;
+use crate::entry::Holder;
 use crate::part::{Part, Single};
 use crate::slot::Slot;
+use pf_key::Key;
 use std::alloc::{AllocError, Global};
 
 /// A page of entries.
-pub trait Page<K: Key, V: Drop, E: Held<K, V>>: Part<K, V, E> {
+pub trait Page<K: Key, V: Drop, E: Holder<K, V>>: Part<K, V, E> {
     /// The page of these entries, one at least. `AllocError`: nothing is made.
     fn of_entries(alloc: Global, page: &[E]) -> Result<Self, AllocError>
         requires { 0 < length page.now }
@@ -22,7 +22,7 @@ pub trait Page<K: Key, V: Drop, E: Held<K, V>>: Part<K, V, E> {
 }
 
 /// Each entry as a part of its own.
-pub(crate) fn each_alone<K: Key, V: Drop, E: Held<K, V>>(
+pub(crate) fn each_alone<K: Key, V: Drop, E: Holder<K, V>>(
     alloc: Global,
     entries: &[E],
 ) -> Result<Vec<Slot<K, V, E, Single<K, V, E>>>, AllocError>

@@ -4,9 +4,9 @@ ghost use Rattle.pf_map.specs.{Maps.{with_entry, entry_at, IsMap}, Weights.{weig
 
 use crate::entries::Entries;
 use crate::entry::{Content, KeyValue};
-use crate::key::{Key, Probe};
 use crate::tree_map::TreeMap;
 use crate::weight::Weigher;
+use pf_key::{Key, Probe};
 use std::alloc::{AllocError, Global};
 use std::marker::{Model, PhantomData};
 

@@ -1,17 +1,17 @@
 //! Parts of maps.
 ghost use Rattle.std.specs.{Prelude.{◌≡◌, T, List, [], ◌∷◌, Some, IfOk, IfSome}, FinMap.is_sorted, Option.option_map};
-ghost use Rattle.pf_map.specs.{Maps.{with_value, entry_at, at_or_before}, MapParts.{first_of}, Pieces.all_of};
+ghost use Rattle.pf_map.specs.{Maps.{with_value, entry_at}, MapParts.{first_of}, Pieces.all_of};
 
-use crate::entry::Held;
-use crate::key::{Key, Probe};
+use crate::entry::Holder;
 use crate::pieces::Pieces;
+use pf_key::{Key, Probe};
 use std::alloc::{AllocError, Global};
 use std::cmp::Ordering;
 use std::marker::{Model, PhantomData};
 
 /// Entries that follow one another, one at least, which a map holds as one of its parts: an entry alone, or a level of parts.
 /// The hint that is handed in is that of what is looked for.
-pub trait Part<K: Key, V: Drop, E: Held<K, V>>: Drop {
+pub trait Part<K: Key, V: Drop, E: Holder<K, V>>: Drop {
     /// The entries, in order.
     ghost entries: { Self → List (K × V) };
 
@@ -33,12 +33,6 @@ pub trait Part<K: Key, V: Drop, E: Held<K, V>>: Drop {
         requires sorted { T (is_sorted K.order (entries self.now)) }
         ensures { option_map (λ e. E.pair e.now) result ≡ entry_at K.order (Q.key sought.now) (entries self.now) };
 
-    /// The last entry that isn't behind a key, if there is one.
-    fn last_up_to<Q: Probe<K>>(&self, hint: u64, sought: &Q) -> Option<&E>
-        requires hinted { hint ≡ K.hint (Q.key sought.now) }
-        requires sorted { T (is_sorted K.order (entries self.now)) }
-        ensures { option_map (λ e. E.pair e.now) result ≡ at_or_before K.order (Q.key sought.now) (entries self.now) };
-
     /// What it becomes with the entry at a key replaced, or taken out where there is no new one. What nobody else holds is changed
     /// in place, all else is shared. `AllocError`: nothing is left of this owner's part.
     fn replaced<Q: Probe<K>>(
@@ -55,24 +49,24 @@ pub trait Part<K: Key, V: Drop, E: Held<K, V>>: Drop {
 }
 
 /// An entry as a part. Contracts see it as its pair.
-pub struct Single<K: Key, V: Drop, E: Held<K, V>> {
+pub struct Single<K: Key, V: Drop, E: Holder<K, V>> {
     entry: E,
     of: PhantomData<(K, V)>,
 }
 
-impl<K: Key, V: Drop, E: Held<K, V>> Drop for Single<K, V, E> {
+impl<K: Key, V: Drop, E: Holder<K, V>> Drop for Single<K, V, E> {
     fn drop(self) {
         let Single { entry: _, of: _ } = self;
     }
 }
 
-impl<K: Key, V: Drop, E: Held<K, V>> Model for Single<K, V, E> {
+impl<K: Key, V: Drop, E: Holder<K, V>> Model for Single<K, V, E> {
     ghost Value = { K × V };
 
     ghost view = { λ s. E.pair s.entry };
 }
 
-impl<K: Key, V: Drop, E: Held<K, V>> Single<K, V, E> {
+impl<K: Key, V: Drop, E: Holder<K, V>> Single<K, V, E> {
     fn new(entry: E) -> Single<K, V, E>
         ensures { result ≡ E.pair entry }
     {
@@ -90,7 +84,7 @@ impl<K: Key, V: Drop, E: Held<K, V>> Single<K, V, E> {
     }
 }
 
-impl<K: Key, V: Drop, E: Held<K, V>> Part<K, V, E> for Single<K, V, E> {
+impl<K: Key, V: Drop, E: Holder<K, V>> Part<K, V, E> for Single<K, V, E> {
     ghost entries = { λ s. s ∷ [] };
 
     fn of_entry(_alloc: Global, entry: &E) -> Result<Single<K, V, E>, AllocError> {
@@ -110,14 +104,6 @@ impl<K: Key, V: Drop, E: Held<K, V>> Part<K, V, E> for Single<K, V, E> {
             Some(&self.entry)
         } else {
             None
-        }
-    }
-
-    fn last_up_to<Q: Probe<K>>(&self, _hint: u64, sought: &Q) -> Option<&E> {
-        if sought.order(self.entry.held_key()).is_lt() {
-            None
-        } else {
-            Some(&self.entry)
         }
     }
 

@@ -2,16 +2,16 @@
 ghost use Rattle.std.specs.Prelude.{◌≡◌, ◌++◌, map, IfOk};
 ghost use Rattle.pf_map.specs.MapParts.{joined};
 
-use crate::entry::Held;
-use crate::key::Key;
+use crate::entry::Holder;
 use crate::level::{Level, PAGE_LIMIT};
 use crate::page::Page;
 use crate::part::Part;
 use crate::slot::Slot;
+use pf_key::Key;
 use std::alloc::{AllocError, Global};
 
 /// These entries in pages, in order, each page but the last with as many as it may have. `AllocError`: nothing is made.
-pub(crate) fn leaves<K: Key, V: Drop, E: Held<K, V>, L: Page<K, V, E>>(
+pub(crate) fn leaves<K: Key, V: Drop, E: Holder<K, V>, L: Page<K, V, E>>(
     alloc: Global,
     entries: &[E],
 ) -> Result<Vec<Slot<K, V, E, L>>, AllocError>
@@ -28,7 +28,7 @@ pub(crate) fn leaves<K: Key, V: Drop, E: Held<K, V>, L: Page<K, V, E>>(
 }
 
 // The pages, and behind them one of these parts if there are any.
-fn with_page<K: Key, V: Drop, E: Held<K, V>, P: Part<K, V, E>>(
+fn with_page<K: Key, V: Drop, E: Holder<K, V>, P: Part<K, V, E>>(
     alloc: Global,
     mut pages: Vec<Slot<K, V, E, Level<K, V, E, P>>>,
     page: Vec<Slot<K, V, E, P>>,
@@ -43,7 +43,7 @@ fn with_page<K: Key, V: Drop, E: Held<K, V>, P: Part<K, V, E>>(
 }
 
 /// These pages in pages, likewise. `AllocError`: nothing is left of them.
-pub(crate) fn middles<K: Key, V: Drop, E: Held<K, V>, P: Part<K, V, E>>(
+pub(crate) fn middles<K: Key, V: Drop, E: Holder<K, V>, P: Part<K, V, E>>(
     alloc: Global,
     parts: Vec<Slot<K, V, E, P>>,
 ) -> Result<Vec<Slot<K, V, E, Level<K, V, E, P>>>, AllocError>

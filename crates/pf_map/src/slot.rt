@@ -2,21 +2,21 @@
 ghost use Rattle.std.specs.Prelude.{◌≡◌, ◌<◌, length, IfOk};
 ghost use Rattle.pf_map.specs.MapParts.{starts_behind};
 
-use crate::entry::Held;
-use crate::key::{Key, Probe};
+use crate::entry::Holder;
 use crate::part::Part;
+use pf_key::{Key, Probe};
 use std::alloc::AllocError;
 use std::marker::{Model, PhantomData};
 
 /// A part, and beside it the hint of its first key, so that most searches pass it by without following it. Contracts see it as
 /// the part's entries.
-pub struct Slot<K: Key, V: Drop, E: Held<K, V>, P: Part<K, V, E>> {
+pub struct Slot<K: Key, V: Drop, E: Holder<K, V>, P: Part<K, V, E>> {
     hint: u64,
     part: P,
     of: PhantomData<(K, V, E)>,
 }
 
-impl<K: Key, V: Drop, E: Held<K, V>, P: Part<K, V, E>> Drop for Slot<K, V, E, P> {
+impl<K: Key, V: Drop, E: Holder<K, V>, P: Part<K, V, E>> Drop for Slot<K, V, E, P> {
     fn drop(self) {
         let Slot {
             hint: _,
@@ -26,7 +26,7 @@ impl<K: Key, V: Drop, E: Held<K, V>, P: Part<K, V, E>> Drop for Slot<K, V, E, P>
     }
 }
 
-impl<K: Key, V: Drop, E: Held<K, V>, P: Part<K, V, E>> Model for Slot<K, V, E, P> {
+impl<K: Key, V: Drop, E: Holder<K, V>, P: Part<K, V, E>> Model for Slot<K, V, E, P> {
     ghost use Rattle.std.specs.Prelude.{◌≡◌, List, Some};
     ghost use Rattle.pf_map.specs.Hints.{first_hint};
 
@@ -37,7 +37,7 @@ impl<K: Key, V: Drop, E: Held<K, V>, P: Part<K, V, E>> Model for Slot<K, V, E, P
     ghost invariant = { λ s. first_hint K.hint (P.entries s.part) ≡ Some s.hint };
 }
 
-impl<K: Key, V: Drop, E: Held<K, V>, P: Part<K, V, E>> Slot<K, V, E, P> {
+impl<K: Key, V: Drop, E: Holder<K, V>, P: Part<K, V, E>> Slot<K, V, E, P> {
     /// This part.
     pub(crate) fn new(part: P) -> Slot<K, V, E, P>
         ensures { result ≡ P.entries part }

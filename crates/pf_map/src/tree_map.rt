@@ -3,13 +3,13 @@ ghost use Rattle.std.specs.{Prelude.{◌≡◌, ◌+◌, ◌<◌, T, [], length,
 ghost use Rattle.pf_map.specs.{Maps.{with_value, without, entry_at, at_or_before}, MapParts.{joined, IsUpTo}};
 
 use crate::entries::Entries;
-use crate::entry::Held;
-use crate::key::{Key, Probe};
-use crate::level::{Leaf, Level, Middle, find_in, last_up_to_in, part_up_to, replaced_in};
+use crate::entry::Holder;
+use crate::level::{Leaf, Level, Middle, find_in, part_up_to, replaced_in};
 use crate::page::Page;
 use crate::part::Part;
 use crate::raised::{leaves, middles};
 use crate::slot::Slot;
+use pf_key::{Key, Probe};
 use std::alloc::{AllocError, Global};
 use std::marker::Model;
 
@@ -34,18 +34,18 @@ fn recount(count: usize, had: bool, has: bool) -> Result<usize, AllocError>
 /// The entries stand in a tree of three levels, so that a changed map shares with an old one all pages but the three on the way to
 /// the entry that changed; pages that no other map holds are changed in place. A page of entries may keep beside them what follows
 /// from them (`PageBeside`).
-pub struct TreeMap<K: Key, V: Drop, E: Held<K, V>, L: Page<K, V, E> = Leaf<K, V, E>> {
+pub struct TreeMap<K: Key, V: Drop, E: Holder<K, V>, L: Page<K, V, E> = Leaf<K, V, E>> {
     top: Option<Top<K, V, E, L>>,
     count: usize,
 }
 
-impl<K: Key, V: Drop, E: Held<K, V>, L: Page<K, V, E>> Drop for TreeMap<K, V, E, L> {
+impl<K: Key, V: Drop, E: Holder<K, V>, L: Page<K, V, E>> Drop for TreeMap<K, V, E, L> {
     fn drop(self) {
         let TreeMap { top: _, count: _ } = self;
     }
 }
 
-impl<K: Key, V: Drop, E: Held<K, V>, L: Page<K, V, E>> Model for TreeMap<K, V, E, L> {
+impl<K: Key, V: Drop, E: Holder<K, V>, L: Page<K, V, E>> Model for TreeMap<K, V, E, L> {
     ghost use Rattle.std.specs.{Prelude.{◌≡◌, T, List, [], length}, Option.option_map_or, FinMap.is_sorted};
 
     ghost Value = { List (K × V) };
@@ -55,7 +55,7 @@ impl<K: Key, V: Drop, E: Held<K, V>, L: Page<K, V, E>> Model for TreeMap<K, V, E
     ghost invariant = { λ m. T (is_sorted K.order (option_map_or (λ l. l) m.top [])) × (m.count ≡ length (option_map_or (λ l. l) m.top [])) };
 }
 
-impl<K: Key, V: Drop, E: Held<K, V>, L: Page<K, V, E>> TreeMap<K, V, E, L> {
+impl<K: Key, V: Drop, E: Holder<K, V>, L: Page<K, V, E>> TreeMap<K, V, E, L> {
     /// The map of nothing. It takes no memory.
     pub fn empty() -> TreeMap<K, V, E, L>
         ensures { result ≡ [] }
@@ -113,13 +113,6 @@ impl<K: Key, V: Drop, E: Held<K, V>, L: Page<K, V, E>> TreeMap<K, V, E, L> {
         find_in(self.slots(), sought.hint(), sought)
     }
 
-    /// The last entry that isn't behind a key; None where all are.
-    pub fn at_or_before<Q: Probe<K>>(&self, sought: &Q) -> Option<&E>
-        ensures { option_map (λ e. E.pair e.now) result ≡ at_or_before K.order (Q.key sought.now) self.now }
-    {
-        last_up_to_in(self.slots(), sought.hint(), sought)
-    }
-
     /// The page with the last entry that isn't behind a key; None where all entries are.
     pub fn page_up_to<Q: Probe<K>>(&self, sought: &Q) -> Option<&L>
         ensures { MatchOption result (at_or_before K.order (Q.key sought.now) self.now ≡ None) (λ p. IsUpTo K.order (Q.key sought.now) (L.entries p.now) self.now) }
@@ -162,8 +155,9 @@ impl<K: Key, V: Drop, E: Held<K, V>, L: Page<K, V, E>> TreeMap<K, V, E, L> {
         self.get(sought).is_some()
     }
 
-    // The map with the entry at a key, if it had one, replaced, or taken out where there is no new one.
-    fn with_value<'a, Q: Probe<K>>(
+    /// The map with the entry at a key, if it had one, replaced, or taken out where there is no new one. `AllocError`: nothing is left of
+    /// this map; what shares its pages stays.
+    pub(crate) fn with_value<'a, Q: Probe<K>>(
         self,
         alloc: Global,
         sought: &'a Q,

@@ -2,7 +2,7 @@
 ghost use Rattle.std.specs.Prelude.{◌≡◌, ℕ};
 
 use crate::entry::{Content, KeyValue};
-use crate::key::Key;
+use pf_key::Key;
 
 /// What each entry of a map weighs, as how many bytes it takes somewhere.
 pub trait Weigher<K: Key, V: Content> {

@@ -5,7 +5,9 @@ ghost use mathlib.Core.List.{IsPrefix};
 ghost use Rattle.pf_past.specs.Pasts.{no_changes, with_change, Begins, trace_with};
 
 use crate::naming::Naming;
-use crate::rule::{Adding, Asked, Head, NoGain, SeenEntries, Starting, Staying, Step, new_pen};
+use crate::rule::{
+    Adding, Asked, EntryOffer, Head, NoGain, SeenEntries, Starting, Staying, new_pen,
+};
 use logbook::{Pen, Seen, Start};
 use pf_core::Change;
 use std::marker::{Model, PhantomData};
@@ -38,7 +40,7 @@ impl NewHistory {
         let (mut seen, mut first, _second) = Seen::open(Start::alone(), 0, 0);
         let head = Head::tracked(0, &mut first);
         let pen = new_pen(&head, &seen);
-        let mut offer: Step = seen.plain::<NoGain, Pen, Starting>(&pen);
+        let mut offer: EntryOffer = seen.plain::<NoGain, Pen, Starting>(&pen);
         let mut none = seen.no_pen();
         let found = head.compare_exchange::<Starting, NoGain>(
             0, 1, &mut seen, &mut offer, &mut none,
@@ -199,7 +201,7 @@ impl<J: Naming> Tip<J> {
             acked,
             pen: new_pen(&self.head, &self.seen),
         };
-        let mut offer: Step = self.seen.plain::<NoGain, Asked, Adding>(&asked);
+        let mut offer: EntryOffer = self.seen.plain::<NoGain, Asked, Adding>(&asked);
         self.head
             .compare_exchange::<Adding, NoGain>(0, 0, &mut self.seen, &mut offer, &mut self.pen);
         let Asked {
@@ -217,7 +219,7 @@ impl<J: Naming> Tip<J> {
     {
         let mut both = self.seen.again();
         both.learn(&front.seen);
-        let mut offer: Step = both.plain::<NoGain, (), Staying>(&());
+        let mut offer: EntryOffer = both.plain::<NoGain, (), Staying>(&());
         self.head
             .compare_exchange::<Staying, NoGain>(0, 0, &mut both, &mut offer, &mut self.pen);
     }

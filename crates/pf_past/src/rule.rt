@@ -48,7 +48,7 @@ pub(crate) type Head = Word<HistoryEntry, u64, OnePen>;
 
 pub(crate) type SeenEntries = Seen<HistoryEntry, u64, OnePen>;
 
-pub(crate) type Step = Offer<HistoryEntry, u64, OnePen, NoGain>;
+pub(crate) type EntryOffer = Offer<HistoryEntry, u64, OnePen, NoGain>;
 
 // An entry to add: a change, and the pen that may add the next one.
 pub(crate) struct Asked {
@@ -135,7 +135,7 @@ pub(crate) fn new_pen(head: &Head, seen: &SeenEntries) -> Pen
     ensures { (result.book ≡ seen.now.book) × (result.nib.right ≡ may_write) }
 {
     let mut seen = seen.again();
-    let mut offer: Step = seen.plain::<NoGain, (), Coming>(&());
+    let mut offer: EntryOffer = seen.plain::<NoGain, (), Coming>(&());
     let mut pen = seen.no_pen();
     head.compare_exchange::<Coming, NoGain>(0, 0, &mut seen, &mut offer, &mut pen);
     drop(Head::tracked(0, &mut pen));

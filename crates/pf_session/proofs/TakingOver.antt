@@ -6,7 +6,7 @@ use Rattle.pf_core.specs.{Calls.call, Commands.{steps_here, states_step, unless_
 use Rattle.pf_addr.specs.Refusing.{and_then, unless}
 use Rattle.pf_state.proofs.Asked.{inserts_nothing_due}
 use Rattle.pf_core.proofs.{Groups.room-found, LongerWorlds.flat-push}
-use Rattle.pf_line.specs.{Laws.Exports.{Message, Step as StateStep, message_text, main_count, exported_lines, TellsOf, CanBeExported, states_there}, Failover.Outgoing.exported_messages, Lines.line_at, Peer.Written.Each, Reply.Replies.reply_text, StateTables.PlainState, Steps.{after as stepped_on, stepped, is_over, passes_limit, counts}}
+use Rattle.pf_line.specs.{Laws.Exports.{Message, StateStep, message_text, main_count, exported_lines, TellsOf, CanBeExported, states_there}, Failover.Outgoing.exported_messages, Lines.line_at, Peer.Written.Each, Reply.Replies.reply_text, StateTables.PlainState, Steps.{after as stepped_on, stepped, is_over, passes_limit, counts}}
 use Rattle.pf_line.proofs.{ExportedLines.exports_are_read, Lines.one_meaning, TakenOver.takes_over as states_taken}
 use Rattle.std.specs.Prelude.{nat_lt}
 use Rattle.pf_book.specs.Books.{PlainBook, world_book}

@@ -3,7 +3,7 @@ use Rattle.std.proofs.{Common.{◌≡◌, ℕ, suc, ◌+◌, ◌-◌, Bool, true
 use Rattle.std.specs.{Prelude.{◌==◌, nat_lt}, FinMap.Entries.{length-put, length_without}, List.count_by}
 use Rattle.pf_map.specs.Maps.{with_value}
 use Rattle.pf_map.proofs.Maps.{stays_sorted}
-use Rattle.pf_state.specs.{Orders.name_total, declared.{counts.Counts.Counts, state.Held.Held, state.StateName.StateName, step.Insertion.Insertion, step.Insertion.TheVariants.Stale, step.Insertion.TheVariants.Clash, step.Insertion.TheVariants.Replaced, step.Insertion.TheVariants.New, step.Step.Step, step.Step.TheVariants.Insert, step.Step.TheVariants.Delete, step.Step.TheVariants.Clear}, States.{PlainState, name_order, held_at, NamesFlows, IsStates}, Steps.{is_stale, is_clash, insertion, has_effect, without_creator, without_state, stepped, after, one_insertion, only_deleted, named_count, creator_count, counted, counts}, Laws.States.{is_insert, CountsAddUp}}
+use Rattle.pf_state.specs.{Orders.name_total, declared.{counts.Counts.Counts, state.Held.Held, state.StateName.StateName, step.Insertion.Insertion, step.Insertion.TheVariants.Stale, step.Insertion.TheVariants.Clash, step.Insertion.TheVariants.Replaced, step.Insertion.TheVariants.New, step.StateStep.StateStep, step.StateStep.TheVariants.Insert, step.StateStep.TheVariants.Delete, step.StateStep.TheVariants.Clear}, States.{PlainState, name_order, held_at, NamesFlows, IsStates}, Steps.{is_stale, is_clash, insertion, has_effect, without_creator, without_state, stepped, after, one_insertion, only_deleted, named_count, creator_count, counted, counts}, Laws.States.{is_insert, CountsAddUp}}
 use Rattle.pf_state.proofs.{Names.same_itself, Leaves.reads_delete, Tables.{names_step, names_delete, names_clear}}
 
 counted_more : {X : Type 0} (p : X → Bool) (x : X) (xs : List X) → count_by p (x ∷ xs) ≡ cond (p x) 1 0 + count_by p xs
@@ -57,7 +57,7 @@ insert_adds es s is = by (is_stale es s) (is_clash es s) (is_some (held_at s.0 e
   by false false false grown = omega (arith, grown)
 
 -- the number of states changes by what a step counts
-pub step_adds : (es : List PlainState) (x : Step) → NamesFlows es → length (stepped es x) + (counted es x).deleted ≡ length es + (counted es x).inserted
+pub step_adds : (es : List PlainState) (x : StateStep) → NamesFlows es → length (stepped es x) + (counted es x).deleted ≡ length es + (counted es x).inserted
 unfolding stepped counted
 step_adds es (Insert s) is = insert_adds es s is
 step_adds es (Delete n) is = let e = shrinks_delete es n is in omega (arith, e)
@@ -72,18 +72,18 @@ one_each Clash = refl
 one_each Replaced = refl
 one_each New = refl
 
-pub step_counts : (es : List PlainState) (x : Step) → inserts (counted es x) ≡ cond (is_insert x) 1 0
+pub step_counts : (es : List PlainState) (x : StateStep) → inserts (counted es x) ≡ cond (is_insert x) 1 0
 unfolding counted
 step_counts es (Insert s) = one_each (insertion es s)
 step_counts es (Delete n) = refl
 step_counts es (Clear creator) = refl
 
-inserts_add : (es : List PlainState) (steps : List Step) → inserts (counts es steps) ≡ count_by is_insert steps
+inserts_add : (es : List PlainState) (steps : List StateStep) → inserts (counts es steps) ≡ count_by is_insert steps
 unfolding counts
 inserts_add es [] = refl
 inserts_add es (x ∷ xs) = let one = step_counts es x in let rest = inserts_add (stepped es x) xs in let more = counted_more is_insert x xs in omega (arith, one, rest, more)
 
-states_add : (es : List PlainState) (steps : List Step) → NamesFlows es → length (after es steps) + (counts es steps).deleted ≡ length es + (counts es steps).inserted
+states_add : (es : List PlainState) (steps : List StateStep) → NamesFlows es → length (after es steps) + (counts es steps).deleted ≡ length es + (counts es steps).inserted
 unfolding counts
 states_add es [] is = refl
 states_add es (x ∷ xs) is = let one = step_adds es x is in let rest = states_add (stepped es x) xs (names_step es x is) in omega (arith, one, rest)

@@ -2,7 +2,7 @@
 use Rattle.std.proofs.{Common.{◌≡◌, ℕ, ◌<◌, ◌^◌, Bool, true, false, ◌||◌, List, [], ◌∷◌, ◌++◌, replicate, inl, inr, refl, sym, ap, ◌∙◌, arith}, lemmas.Bool.{eqb-true, eq-eqb}}
 use Rattle.std.specs.{Prelude.◌==◌, List.list_all}
 use Rattle.pf_form.specs.Bytes.{BasicForms.number_bytes, Forms.{Value, Fits, onto, number, front, pair, length_of}}
-use Rattle.pf_state.specs.{declared.step.Step.{Step, TheVariants.{Insert, Delete, Clear}}, States.{PlainState, none_expires}, Layouts.{Flows.{flow_form, plain_flow}, States.{StateShape, state_in, name_form, plain_name, bound_form, plain_bound, has_expiry, expiry_form, held_form, state_form, plain_state, allows, all_allowed}, Steps.{StepShape, step_in, step_form, plain_step, allows_step}}}
+use Rattle.pf_state.specs.{declared.step.StateStep.{StateStep, TheVariants.{Insert, Delete, Clear}}, States.{PlainState, none_expires}, Layouts.{Flows.{flow_form, plain_flow}, States.{StateShape, state_in, name_form, plain_name, bound_form, plain_bound, has_expiry, expiry_form, held_form, state_form, plain_state, allows, all_allowed}, Steps.{StepShape, step_in, step_form, plain_step, allows_step}}}
 
 -- zero in eight bytes is eight zeros
 zeros : number_bytes 8 0 ≡ replicate 8 0
@@ -49,7 +49,7 @@ pub state_is_allowed : (version : ℕ) (s : PlainState) → Fits (state_form ver
 unfolding state_form held_form
 state_is_allowed version s fits = expiry_allowed (has_expiry version) s.1.expiry fits.1.1.1.1
 
-pub step_is_allowed : (version : ℕ) (x : Step) → Fits (step_form version) (plain_step x) → allows_step version x ≡ true
+pub step_is_allowed : (version : ℕ) (x : StateStep) → Fits (step_form version) (plain_step x) → allows_step version x ≡ true
 unfolding step_form
 step_is_allowed version (Insert s) fits = state_is_allowed version s fits
 step_is_allowed version (Delete n) fits = refl

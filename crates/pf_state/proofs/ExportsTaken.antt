@@ -1,7 +1,7 @@
 -- What a peer makes of an export.
 use Rattle.std.proofs.{Common.{◌≡◌, ◌≤◌, ◌&&◌, not, ℕ, Bool, true, false, cond, List, [], ◌∷◌, ◌++◌, map, take, drop, refl, sym, ap, ◌∙◌, arith}, lemmas.Bool.Decides.nat_tests, lemmas.List.{append-nil, map-append, take-append-drop}, lemmas.Slice.Eq.bytes_eq-Decides}
 use Rattle.std.specs.{Prelude.{◌==◌, nat_lt}, List.flat_map, Str.bytes_eq}
-use Rattle.pf_state.specs.{declared.{binding.TheConstants.ALL_ONES, state.Bound.Bound, state.Bound.TheVariants.Rule, state.Bound.TheVariants.Default, step.Step.Step, step.Step.TheVariants.Insert}, Bindings.{bound, exported}, States.PlainState, Failover.Incoming.{insert_step, steps_of}, Failover.Outgoing.{exported_insert, exported_message, parts}, Laws.Failover.{bound_there, state_there, TellsTheStates}}
+use Rattle.pf_state.specs.{declared.{binding.TheConstants.ALL_ONES, state.Bound.Bound, state.Bound.TheVariants.Rule, state.Bound.TheVariants.Default, step.StateStep.StateStep, step.StateStep.TheVariants.Insert}, Bindings.{bound, exported}, States.PlainState, Failover.Incoming.{insert_step, steps_of}, Failover.Outgoing.{exported_insert, exported_message, parts}, Laws.Failover.{bound_there, state_there, TellsTheStates}}
 use Rattle.pf_state.proofs.Cut.{by_parts}
 
 never : (b : Bool) → (b && false) ≡ false
@@ -44,11 +44,11 @@ message_again ours theirs count few es = append-nil (map (insert_step ours their
 
 pub tells_the_states : TellsTheStates
 tells_the_states ours theirs count es few =
-    let insert : PlainState → Step = λ s. Insert (state_there ours theirs count s) in
+    let insert : PlainState → StateStep = λ s. Insert (state_there ours theirs count s) in
     by_parts (λ fs ps. flat_map (λ m. steps_of m theirs count) (map (exported_message ours) ps) ≡ map insert fs) refl
     (λ fs some rest.
-    ap (λ (l : List Step). l ++ flat_map (λ m. steps_of m theirs count) (map (exported_message ours) (parts (drop 31 fs)))) (message_again ours theirs count few (take 31 fs))
-    ∙ ap (λ (l : List Step). map insert (take 31 fs) ++ l) rest
+    ap (λ (l : List StateStep). l ++ flat_map (λ m. steps_of m theirs count) (map (exported_message ours) (parts (drop 31 fs)))) (message_again ours theirs count few (take 31 fs))
+    ∙ ap (λ (l : List StateStep). map insert (take 31 fs) ++ l) rest
     ∙ sym (map-append insert (take 31 fs) (drop 31 fs))
     ∙ ap (map insert) (take-append-drop 31 fs))
     es

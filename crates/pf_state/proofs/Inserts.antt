@@ -2,8 +2,8 @@
 use Rattle.std.proofs.{Common.{◌≡◌, ℕ, List, ◌++◌, Some, Result, Ok, Err, refl, sym, ap, ◌∙◌}, Math.Nat.mod-eq_of_lt}
 use Rattle.std.specs.Prelude.{IfOk, IfErr}
 use Rattle.pf_addr.specs.declared.addr.Addr.{Addr, TheVariants.{V4, V6}}
-use Rattle.pf_form.specs.{declared.bytes.fault.Stop.Stop, Bytes.{Forms.{Fits, Spells, writes, onto}, BasicForms.{Bytes, number_bytes}, Readers.{IfFault, Refused}}, Laws.Bytes.{Onto.onto_is, Texts.{only, refused_only}}}
-use Rattle.pf_form.specs.declared.bytes.fault.Stop.TheVariants as stop
+use Rattle.pf_form.specs.{declared.bytes.fault.Undecoded.Undecoded, Bytes.{Forms.{Fits, Spells, writes, onto}, BasicForms.{Bytes, number_bytes}, Readers.{IfFault, Refused}}, Laws.Bytes.{Onto.onto_is, Texts.{only, refused_only}}}
+use Rattle.pf_form.specs.declared.bytes.fault.Undecoded.TheVariants as undecoded
 use Rattle.pf_addr.specs.declared.addr.Family.TheVariants as family
 use Rattle.pf_rule.specs.declared.{value.direction.Direction.Direction, value.direction.Direction.TheVariants.In, value.direction.Direction.TheVariants.Out}
 use Rattle.pf_state.specs.{Flows.IsFlow, Layouts.Flows.{direction_form, family_form, protocol_form, ports_form, flow_form}, Laws.Layouts.flow_fits, Peer.Records.{PlainInsert, IsInsert, told_flow, insert_form, plain_insert, insert_in, insert_from, insert_of, insert_bytes, Says}}
@@ -86,9 +86,9 @@ told i bytes spells = rw (only insert_form bytes (plain_insert i) spells) (ap (�
 pub insert_again : (i : PlainInsert) → IsInsert i → insert_of (insert_bytes i) ≡ Some i
 insert_again i is = told i (insert_bytes i) (insert_spelled i is)
 
-pub says_insert : (bytes : List ℕ) (r : Result PlainInsert Stop) → Bytes bytes → IfOk r (λ i. Spells insert_form (plain_insert i) bytes) → IfErr r (λ e. IfFault e (Refused insert_form bytes))
+pub says_insert : (bytes : List ℕ) (r : Result PlainInsert Undecoded) → Bytes bytes → IfOk r (λ i. Spells insert_form (plain_insert i) bytes) → IfErr r (λ e. IfFault e (Refused insert_form bytes))
     → Says r (insert_of bytes)
 unfolding insert_of
 says_insert bytes (Ok i) are spells refused = told i bytes spells
-says_insert bytes (Err stop.Memory) are spells refused = tt
-says_insert bytes (Err (stop.Fault d)) are spells refused = ap insert_from (refused_only insert_form bytes d are refused)
+says_insert bytes (Err undecoded.Memory) are spells refused = tt
+says_insert bytes (Err (undecoded.Fault d)) are spells refused = ap insert_from (refused_only insert_form bytes d are refused)

@@ -2,7 +2,7 @@
 use Rattle.std.proofs.Common.{◌≡◌, List, [], ◌∷◌, map, refl}
 use Rattle.pf_addr.specs.declared.{addr.Addr.Addr, addr.Addr.TheVariants.V4, addr.Addr.TheVariants.V6}
 use Rattle.pf_rule.specs.{Bytes.direction_byte, declared.{value.direction.Direction.Direction, value.direction.Direction.TheVariants.In, value.direction.Direction.TheVariants.Out}}
-use Rattle.pf_state.specs.{declared.{state.Bound.Bound, state.Bound.TheVariants.Rule, state.Bound.TheVariants.Default, state.Held.Held, step.Step.Step, step.Step.TheVariants.Insert, step.Step.TheVariants.Delete, step.Step.TheVariants.Clear}, Flows.PlainFlow, States.PlainState, Layouts.{Flows.{plain_addr, addr_in, plain_flow, direction_in, flow_in}, States.{plain_bound, bound_in, plain_held, held_in, plain_state, state_in, plain_states}, Steps.{plain_step, step_in}}}
+use Rattle.pf_state.specs.{declared.{state.Bound.Bound, state.Bound.TheVariants.Rule, state.Bound.TheVariants.Default, state.Held.Held, step.StateStep.StateStep, step.StateStep.TheVariants.Insert, step.StateStep.TheVariants.Delete, step.StateStep.TheVariants.Clear}, Flows.PlainFlow, States.PlainState, Layouts.{Flows.{plain_addr, addr_in, plain_flow, direction_in, flow_in}, States.{plain_bound, bound_in, plain_held, held_in, plain_state, state_in, plain_states}, Steps.{plain_step, step_in}}}
 
 direction_back : (d : Direction) → direction_in (direction_byte d) ≡ d
 direction_back In = refl
@@ -36,7 +36,7 @@ pub states_back : (es : List PlainState) → map state_in (plain_states es) ≡ 
 states_back [] = refl
 states_back (s ∷ es) = rw (state_back s, states_back es) refl
 
-pub step_back : (s : Step) → step_in (plain_step s) ≡ s
+pub step_back : (s : StateStep) → step_in (plain_step s) ≡ s
 step_back (Insert s) = λ i. Insert (state_back s i)
 step_back (Delete n) = refl
 step_back (Clear creator) = refl

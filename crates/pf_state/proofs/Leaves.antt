@@ -3,7 +3,7 @@ use Rattle.std.proofs.Common.{◌≡◌, ℕ, Bool, true, false, not, ◌&&◌, 
 use Rattle.std.specs.{Prelude.◌==◌, FinMap.Entries.find-where_key, Ordering.eq_by_cmp}
 use Rattle.pf_map.specs.Maps.{with_value}
 use Rattle.pf_map.proofs.Maps.{replaces_the_key}
-use Rattle.pf_state.specs.{Orders.{name_total, name_alike}, declared.{state.Held.Held, state.StateName.StateName, step.Step.Step, step.Step.TheVariants.Insert, step.Step.TheVariants.Delete, step.Step.TheVariants.Clear}, States.{PlainState, name_order, held_at}, Steps.{insertion, has_effect, without_creator, without_state, stepped}, Laws.States.{KeepsWhatIsThere, StepsRead, left_by, left_behind, LastStepStands}}
+use Rattle.pf_state.specs.{Orders.{name_total, name_alike}, declared.{state.Held.Held, state.StateName.StateName, step.StateStep.StateStep, step.StateStep.TheVariants.Insert, step.StateStep.TheVariants.Delete, step.StateStep.TheVariants.Clear}, States.{PlainState, name_order, held_at}, Steps.{insertion, has_effect, without_creator, without_state, stepped}, Laws.States.{KeepsWhatIsThere, StepsRead, left_by, left_behind, LastStepStands}}
 
 unless : {X : Type 0} (b : Bool) (x : Option X) → cond (not b) x None ≡ cond b None x
 unless true x = refl
@@ -24,7 +24,7 @@ reads_insert : (es : List PlainState) (s : PlainState) (q : StateName) (b : Bool
 reads_insert es s q true = reads_put es s q
 reads_insert es s q false = refl
 
-pub reads_step : (es : List PlainState) (x : Step) (q : StateName) → held_at q (stepped es x) ≡ left_by es x q (held_at q es)
+pub reads_step : (es : List PlainState) (x : StateStep) (q : StateName) → held_at q (stepped es x) ≡ left_by es x q (held_at q es)
 unfolding stepped
 reads_step es (Insert s) q = reads_insert es s q (has_effect (insertion es s))
 reads_step es (Delete n) q = reads_delete es n q

@@ -2,7 +2,7 @@
 use Rattle.std.proofs.{Common.{◌≡◌, ℕ, true, List, ◌∷◌, length, map, refl, arith}, lemmas.List.length-map, lemmas.Bool.{and_parts, Decides.nat_tests}}
 use Rattle.std.specs.{Prelude.nat_le, List.AllByRecursion}
 use Rattle.pf_form.specs.Bytes.{BasicForms.onto_each, Forms.{Shape, Value, Form, Fits, onto}}
-use Rattle.pf_state.specs.{declared.limits.TheConstants.STATE_LIMIT, States.{PlainState, IsStates}, declared.step.Step.Step, Layouts.{States.{state_form, states_form, plain_state, state_in, plain_states, no_flow_twice, allows, all_allowed}, Steps.{allows_step, allows_steps}}}
+use Rattle.pf_state.specs.{declared.limits.TheConstants.STATE_LIMIT, States.{PlainState, IsStates}, declared.step.StateStep.StateStep, Layouts.{States.{state_form, states_form, plain_state, state_in, plain_states, no_flow_twice, allows, all_allowed}, Steps.{allows_step, allows_steps}}}
 use Rattle.pf_state.proofs.{LayoutsBack.states_back, Rows.{in_turn, once_each}}
 
 -- Of all the items these are left: once they are appended all are, and all fit if these do.
@@ -30,5 +30,5 @@ states_fit version es is each =
 pub allowed_first : (version : ℕ) (s : PlainState) (es : List PlainState) → all_allowed version (s ∷ es) ≡ true → (allows version s ≡ true) × (all_allowed version es ≡ true)
 allowed_first version s es all = and_parts (allows version s) (all_allowed version es) all
 
-pub allowed_step : (version : ℕ) (x : Step) (xs : List Step) → allows_steps version (x ∷ xs) ≡ true → (allows_step version x ≡ true) × (allows_steps version xs ≡ true)
+pub allowed_step : (version : ℕ) (x : StateStep) (xs : List StateStep) → allows_steps version (x ∷ xs) ≡ true → (allows_step version x ≡ true) × (allows_steps version xs ≡ true)
 allowed_step version x xs all = and_parts (allows_step version x) (allows_steps version xs) all

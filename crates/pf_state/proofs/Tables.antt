@@ -3,7 +3,7 @@ use Rattle.std.proofs.{Common.{◌≡◌, ℕ, zero, suc, ◌≤◌, Bool, true,
 use Rattle.std.specs.{Prelude.◌==◌, declared.{cmp.Ordering.Ordering, cmp.Ordering.TheVariants.Less, cmp.Ordering.TheVariants.Equal, cmp.Ordering.TheVariants.Greater}, FinMap.is_sorted, FinMap.Entries.{is_sorted-where_key, below_all}, Option.unwrap_or, Ordering.{eq_by_cmp, is_eq, is_lt}}
 use Rattle.pf_map.specs.Maps.{with_value}
 use Rattle.pf_map.proofs.Maps.{stays_sorted}
-use Rattle.pf_state.specs.{Orders.name_total, declared.{limits.TheConstants.STATE_LIMIT, state.Held.Held, state.StateName.StateName, step.Insertion.TheVariants.Stale, step.Insertion.TheVariants.Clash, step.Insertion.TheVariants.Replaced, step.Insertion.TheVariants.New, step.Step.Step, step.Step.TheVariants.Insert, step.Step.TheVariants.Delete, step.Step.TheVariants.Clear}, Flows.{PlainFlow, same_flow}, States.{PlainState, name_order, held_at, state_of, NamesFlows}, Steps.{is_stale, is_clash, insertion, has_effect, without_creator, without_state, stepped, after, is_over, passes_limit}, Laws.States.{IsStateOf, OneStateAFlow, StaysStates, RefusedByAnyStep}}
+use Rattle.pf_state.specs.{Orders.name_total, declared.{limits.TheConstants.STATE_LIMIT, state.Held.Held, state.StateName.StateName, step.Insertion.TheVariants.Stale, step.Insertion.TheVariants.Clash, step.Insertion.TheVariants.Replaced, step.Insertion.TheVariants.New, step.StateStep.StateStep, step.StateStep.TheVariants.Insert, step.StateStep.TheVariants.Delete, step.StateStep.TheVariants.Clear}, Flows.{PlainFlow, same_flow}, States.{PlainState, name_order, held_at, state_of, NamesFlows}, Steps.{is_stale, is_clash, insertion, has_effect, without_creator, without_state, stepped, after, is_over, passes_limit}, Laws.States.{IsStateOf, OneStateAFlow, StaysStates, RefusedByAnyStep}}
 use Rattle.pf_state.proofs.{Names.{one_name, same_itself}, Flows.{same_back, same_third}, Leaves.{reads_put, reads_delete, reads_clear}}
 
 pub first_of : (a b : Bool) → T (a && b) → T a
@@ -87,7 +87,7 @@ names_clear es creator is = record {
   one_flow = λ a b x y at_a at_b same. is.one_flow a b x y (left_of (a.creator == creator) (held_at a es) x (sym (reads_clear es creator a) ∙ at_a)) (left_of (b.creator == creator) (held_at b es) y (sym (reads_clear es creator b) ∙ at_b)) same;
 }
 
-pub names_step : (es : List PlainState) (x : Step) → NamesFlows es → NamesFlows (stepped es x)
+pub names_step : (es : List PlainState) (x : StateStep) → NamesFlows es → NamesFlows (stepped es x)
 unfolding stepped
 names_step es (Insert s) is = by (has_effect (insertion es s)) refl where
   by : (t : Bool) → has_effect (insertion es s) ≡ t → NamesFlows (cond t (with_value name_order es s.0 (Some s.1)) es)
@@ -96,7 +96,7 @@ names_step es (Insert s) is = by (has_effect (insertion es s)) refl where
 names_step es (Delete n) is = names_delete es n is
 names_step es (Clear creator) is = names_clear es creator is
 
-pub names_after : (es : List PlainState) (steps : List Step) → NamesFlows es → NamesFlows (after es steps)
+pub names_after : (es : List PlainState) (steps : List StateStep) → NamesFlows es → NamesFlows (after es steps)
 names_after es [] is = is
 names_after es (x ∷ xs) is = names_after (stepped es x) xs (names_step es x is)
 
@@ -108,13 +108,13 @@ not_over es e = grind (arith, nat_tests)
 pub within_not_over : (es : List PlainState) → length es ≤ STATE_LIMIT → is_over es ≡ false
 within_not_over es e = grind (arith, nat_tests)
 
-fronts_within : (es : List PlainState) (steps : List Step) → length es ≤ STATE_LIMIT → passes_limit es steps ≡ false → (k : ℕ) → length (after es (take k steps)) ≤ STATE_LIMIT
+fronts_within : (es : List PlainState) (steps : List StateStep) → length es ≤ STATE_LIMIT → passes_limit es steps ≡ false → (k : ℕ) → length (after es (take k steps)) ≤ STATE_LIMIT
 unfolding passes_limit
 fronts_within es steps few e zero = few
 fronts_within es [] few e (suc k) = few
 fronts_within es (x ∷ xs) few e (suc k) = fronts_within (stepped es x) xs (not_over (stepped es x) (front_within _ _ e)) (rest_within (is_over (stepped es x)) _ e) k
 
-within_fronts : (es : List PlainState) (steps : List Step) → ((k : ℕ) → length (after es (take k steps)) ≤ STATE_LIMIT) → passes_limit es steps ≡ false
+within_fronts : (es : List PlainState) (steps : List StateStep) → ((k : ℕ) → length (after es (take k steps)) ≤ STATE_LIMIT) → passes_limit es steps ≡ false
 unfolding passes_limit
 within_fronts es [] few = refl
 within_fronts es (x ∷ xs) few = rw (within_not_over (stepped es x) (few 1)) (within_fronts (stepped es x) xs (λ k. few (suc k)))
@@ -122,7 +122,7 @@ within_fronts es (x ∷ xs) few = rw (within_not_over (stepped es x) (few 1)) (w
 pub refused_by_any_step : RefusedByAnyStep
 refused_by_any_step es steps is = (fronts_within es steps is.few, within_fronts es steps)
 
-few_after : (es : List PlainState) (steps : List Step) → length es ≤ STATE_LIMIT → passes_limit es steps ≡ false → length (after es steps) ≤ STATE_LIMIT
+few_after : (es : List PlainState) (steps : List StateStep) → length es ≤ STATE_LIMIT → passes_limit es steps ≡ false → length (after es steps) ≤ STATE_LIMIT
 unfolding passes_limit
 few_after es [] few e = few
 few_after es (x ∷ xs) few e = few_after (stepped es x) xs (not_over (stepped es x) (front_within _ _ e)) (rest_within (is_over (stepped es x)) _ e)

@@ -2,7 +2,7 @@
 use Rattle.std.proofs.{Common.{◌≡◌, ◌&&◌, ◌||◌, not, ℕ, Bool, true, false, T, cond, List, [], ◌∷◌, ◌++◌, ◌≤◌, length, map, Some, None, refl, sym, subst, ap, ◌∙◌, append_assoc, length-append, true≢false, arith}, lemmas.List.{append-nil, length-map}}
 use Rattle.std.specs.{declared.{cmp.Ordering.Ordering, cmp.Ordering.TheVariants.Less, cmp.Ordering.TheVariants.Equal, cmp.Ordering.TheVariants.Greater}, FinMap.{is_sorted, put}, FinMap.Entries.below_all, Ordering.{is_eq, is_lt, ordering_reverse}}
 use Rattle.pf_map.specs.Maps.{without, with_value}
-use Rattle.pf_state.specs.{Orders.name_total, Peer.Written.Each, declared.{limits.TheConstants.STATE_LIMIT, step.Insertion.Insertion, step.Insertion.TheVariants.New, step.Step.TheVariants.Insert}, Flows.same_flow, States.{PlainState, name_order, held_at, NamesFlows}, Steps.{is_clash, insertion, has_effect, stepped, after, is_over, passes_limit}, Laws.Failover.{state_there, TakesOver}}
+use Rattle.pf_state.specs.{Orders.name_total, Peer.Written.Each, declared.{limits.TheConstants.STATE_LIMIT, step.Insertion.Insertion, step.Insertion.TheVariants.New, step.StateStep.TheVariants.Insert}, Flows.same_flow, States.{PlainState, name_order, held_at, NamesFlows}, Steps.{is_clash, insertion, has_effect, stepped, after, is_over, passes_limit}, Laws.Failover.{state_there, TakesOver}}
 use Rattle.pf_state.proofs.{Names.{same_itself, same_name}, Tables.within_not_over, ExportsTaken.tells_the_states}
 
 -- p comes before s, and has another flow

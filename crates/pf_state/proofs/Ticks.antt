@@ -3,7 +3,7 @@ use Rattle.std.proofs.{Common.{◌≡◌, ℕ, suc, ◌+◌, ◌-◌, ◌<◌, B
 use Rattle.std.specs.{Prelude.{filter, ◌==◌}, declared.{cmp.Ordering.Ordering, cmp.Ordering.TheVariants.Less, cmp.Ordering.TheVariants.Equal, cmp.Ordering.TheVariants.Greater}, FinMap.{is_sorted, put}, FinMap.Entries.{below_all, by_order, length_without}, List.{list_all}, Option.unwrap_or, Ordering.{eq_by_cmp, is_eq, is_lt}}
 use Rattle.pf_map.specs.Maps.{with_value}
 use Rattle.pf_map.proofs.Maps.{stays_sorted}
-use Rattle.pf_state.specs.{Orders.name_total, declared.{state.Held.Held, state.StateName.StateName, step.Step.Step, step.Step.TheVariants.Insert, step.Step.TheVariants.Delete, step.Step.TheVariants.Clear}, Dues.IsDueAt, States.{PlainState, name_order, held_at, NamesFlows, IsStates, stands, all_stand, are_whole, is_whole}, Steps.{insertion, has_effect, without_state, without_due, due_count, inserts_due, any_inserts_due, stepped, after}, Laws.States.{still_held, TicksTakeOutTheDue, StepsLeaveNoneDue}}
+use Rattle.pf_state.specs.{Orders.name_total, declared.{state.Held.Held, state.StateName.StateName, step.StateStep.StateStep, step.StateStep.TheVariants.Insert, step.StateStep.TheVariants.Delete, step.StateStep.TheVariants.Clear}, Dues.IsDueAt, States.{PlainState, name_order, held_at, NamesFlows, IsStates, stands, all_stand, are_whole, is_whole}, Steps.{insertion, has_effect, without_state, without_due, due_count, inserts_due, any_inserts_due, stepped, after}, Laws.States.{still_held, TicksTakeOutTheDue, StepsLeaveNoneDue}}
 use Rattle.pf_state.proofs.{Names.{one_name}, Tables.{no, nothing_is, first_of, second_of, none_behind, front_within, rest_within}}
 
 -- ---- what is left
@@ -142,7 +142,7 @@ put_in n h (e ∷ es) tick new all =
 pub stand_without : (es : List PlainState) (tick : ℕ) (n : StateName) → all_stand tick es ≡ true → all_stand tick (without_state es n) ≡ true
 stand_without es tick n all = left (λ e. not (eq_by_cmp name_order n e.0)) es tick all
 
-stand_step : (es : List PlainState) (tick : ℕ) (x : Step) → all_stand tick es ≡ true → inserts_due tick x ≡ false → all_stand tick (stepped es x) ≡ true
+stand_step : (es : List PlainState) (tick : ℕ) (x : StateStep) → all_stand tick es ≡ true → inserts_due tick x ≡ false → all_stand tick (stepped es x) ≡ true
 unfolding stepped
 stand_step es tick (Insert s) all none = by (has_effect (insertion es s)) where
   new : (b : Bool) → not b ≡ false → b ≡ true
@@ -155,7 +155,7 @@ stand_step es tick (Insert s) all none = by (has_effect (insertion es s)) where
 stand_step es tick (Delete n) all none = stand_without es tick n all
 stand_step es tick (Clear creator) all none = left (λ e. not (e.0.creator == creator)) es tick all
 
-pub stand_after : (es : List PlainState) (tick : ℕ) (steps : List Step) → all_stand tick es ≡ true → any_inserts_due tick steps ≡ false → all_stand tick (after es steps) ≡ true
+pub stand_after : (es : List PlainState) (tick : ℕ) (steps : List StateStep) → all_stand tick es ≡ true → any_inserts_due tick steps ≡ false → all_stand tick (after es steps) ≡ true
 stand_after es tick [] all none = all
 stand_after es tick (x ∷ xs) all none =
     stand_after (stepped es x) tick xs (stand_step es tick x all (front_within (inserts_due tick x) (any_inserts_due tick xs) none)) (rest_within (inserts_due tick x) (any_inserts_due tick xs) none)

@@ -52,7 +52,7 @@ key_of f = inward f.direction (ends_of f)
 abbrev pub flow_by : Direction → FlowEnds → PlainFlow
 flow_by d k = flow_between d (inward d k)
 
--- keys give their flows back
+-- the flow that a key gives, in either direction, has that key
 pub key_back : (d : Direction) (k : FlowEnds) → key_of (flow_by d k) ≡ k
 key_back In k = refl
 key_back Out k = refl

@@ -3,7 +3,7 @@ use Rattle.std.specs.{Prelude.{◌≡◌, ℕ, zero, suc, T}, Cmp.{IsTotalOrder,
 use Rattle.std.specs.declared.{cmp.Ordering.Ordering, cmp.Ordering.TheVariants.Less, cmp.Ordering.TheVariants.Equal, cmp.Ordering.TheVariants.Greater}
 use Rattle.std.proofs.Common.{refl, sym, ap, ◌∙◌, subst}
 use Rattle.pf_addr.specs.declared.{addr.Addr.Addr, addr.Addr.TheVariants.V4, addr.Addr.TheVariants.V6}
-use Rattle.pf_map.specs.{Hints.{RisesWith, pairs_rise, numbers_rise}, Pairs.{pair_order, pairs_alike}}
+use Rattle.pf_key.specs.Keys.{RisesWith, pairs_rise, numbers_rise, pair_order, pairs_alike}
 use Rattle.pf_state.specs.{declared.{dues.Due.Due, flow_key.FlowEnds.FlowEnds, state.StateName.StateName}, Dues.due_order, FlowKeys.{family_rank, number_of, addr_order, ends_order, mixed, key_order}, States.name_order}
 
 -- ---- names

@@ -1,7 +1,7 @@
 -- Steps that change states: how an insert is judged, what a delete and a clear take out, and what is counted. All our own.
 use Rattle.std.specs.{Prelude.{◌≡◌, ℕ, ◌+◌, ◌<◌, ◌^◌, ◌==◌, ◌&&◌, ◌||◌, nat_lt, nat_le, Bool, true, false, not, cond, List, [], ◌∷◌, length, filter, fold, is_some, Some, None, Result, Ok, Err}, FinMap.Entries.where_key, List.{list_any, count_by}, Option.option_map_or, Ordering.eq_by_cmp}
 use Rattle.pf_map.specs.Maps.{with_value}
-use Rattle.pf_state.specs.{declared.{counts.Counts.Counts, limits.TheConstants.STATE_LIMIT, refusal.StatesRefusal.StatesRefusal, refusal.StatesRefusal.TheVariants.StatesFull, refusal.StatesRefusal.TheVariants.Memory, state.StateName.StateName, step.Insertion.Insertion, step.Insertion.TheVariants.Stale, step.Insertion.TheVariants.Clash, step.Insertion.TheVariants.Replaced, step.Insertion.TheVariants.New, step.Step.Step, step.Step.TheVariants.Insert, step.Step.TheVariants.Delete, step.Step.TheVariants.Clear}, Flows.same_flow, States.{PlainState, name_order, held_at, stands}}
+use Rattle.pf_state.specs.{declared.{counts.Counts.Counts, limits.TheConstants.STATE_LIMIT, refusal.StatesRefusal.StatesRefusal, refusal.StatesRefusal.TheVariants.StatesFull, refusal.StatesRefusal.TheVariants.Memory, state.StateName.StateName, step.Insertion.Insertion, step.Insertion.TheVariants.Stale, step.Insertion.TheVariants.Clash, step.Insertion.TheVariants.Replaced, step.Insertion.TheVariants.New, step.StateStep.StateStep, step.StateStep.TheVariants.Insert, step.StateStep.TheVariants.Delete, step.StateStep.TheVariants.Clear}, Flows.same_flow, States.{PlainState, name_order, held_at, stands}}
 
 -- ---- inserting
 
@@ -33,13 +33,13 @@ without_state es n = with_value name_order es n None
 abbrev pub without_creator : List PlainState → ℕ → List PlainState
 without_creator es creator = where_key name_order (λ n. not (n.creator == creator)) es
 
-unfoldable pub stepped : List PlainState → Step → List PlainState
+unfoldable pub stepped : List PlainState → StateStep → List PlainState
 stepped es (Insert s) = cond (has_effect (insertion es s)) (with_value name_order es s.0 (Some s.1)) es
 stepped es (Delete n) = without_state es n
 stepped es (Clear creator) = without_creator es creator
 
 -- after steps in turn
-abbrev pub after : List PlainState → List Step → List PlainState
+abbrev pub after : List PlainState → List StateStep → List PlainState
 after es steps = fold stepped es steps
 
 -- ---- ticks
@@ -53,12 +53,12 @@ abbrev pub due_count : List PlainState → ℕ → ℕ
 due_count es tick = count_by (λ s. not (stands tick s.1)) es
 
 -- whether a step inserts a state that is due at a tick, even if it would be stale or clash
-abbrev pub inserts_due : ℕ → Step → Bool
+abbrev pub inserts_due : ℕ → StateStep → Bool
 inserts_due tick (Insert s) = not (stands tick s.1)
 inserts_due tick (Delete n) = false
 inserts_due tick (Clear creator) = false
 
-abbrev pub any_inserts_due : ℕ → List Step → Bool
+abbrev pub any_inserts_due : ℕ → List StateStep → Bool
 any_inserts_due tick steps = list_any (inserts_due tick) steps
 
 -- ---- what is counted
@@ -99,13 +99,13 @@ named_count es n = cond (is_some (held_at n es)) 1 0
 abbrev pub creator_count : List PlainState → ℕ → ℕ
 creator_count es creator = count_by (λ s. s.0.creator == creator) es
 
-unfoldable pub counted : List PlainState → Step → Counts
+unfoldable pub counted : List PlainState → StateStep → Counts
 counted es (Insert s) = one_insertion (insertion es s)
 counted es (Delete n) = only_deleted (named_count es n)
 counted es (Clear creator) = only_deleted (creator_count es creator)
 
 -- each step is counted by the states after those before it
-unfoldable pub counts : List PlainState → List Step → Counts
+unfoldable pub counts : List PlainState → List StateStep → Counts
 counts es [] = no_counts
 counts es (x ∷ xs) = both (counted es x) (counts (stepped es x) xs)
 
@@ -115,7 +115,7 @@ abbrev pub is_over : List PlainState → Bool
 is_over es = nat_lt STATE_LIMIT (length es)
 
 -- after some step there are more states than the limit
-unfoldable pub passes_limit : List PlainState → List Step → Bool
+unfoldable pub passes_limit : List PlainState → List StateStep → Bool
 passes_limit es [] = false
 passes_limit es (x ∷ xs) = is_over (stepped es x) || passes_limit (stepped es x) xs
 

@@ -1,13 +1,13 @@
 //! Changes of states.
 ghost use Rattle.std.specs.{Prelude.{◌≡◌, ◌-◌, ◌≤◌, length, nat_le, true, false, T, IfOk}, FinMap.is_sorted, Option.option_map_or};
 ghost use Rattle.pf_state.specs.{States.{NamesFlows, are_whole, held_at, name_order}, Steps.{insertion, stepped, counted, only_deleted, without_creator, without_due, is_over}};
-ghost use Rattle.pf_state.specs.declared.step.Step.TheVariants as step_kind;
+ghost use Rattle.pf_state.specs.declared.step.StateStep.TheVariants as step_kind;
 
 use crate::counts::Counts;
 use crate::index::States;
 use crate::limits::STATE_LIMIT;
 use crate::state::{Held, State, StateName, tell_whole};
-use crate::step::{Insertion, Step};
+use crate::step::{Insertion, StateStep};
 use std::alloc::{AllocError, Global};
 
 /// What is held under a name.
@@ -117,7 +117,7 @@ fn taken_out(before: usize, left: States) -> (States, Counts)
 pub(crate) fn act(
     alloc: Global,
     states: States,
-    step: &Step,
+    step: &StateStep,
 ) -> Result<(States, Counts), AllocError>
     requires names { NamesFlows states }
     requires whole { are_whole states ≡ true }
@@ -127,11 +127,11 @@ pub(crate) fn act(
 {
     let before = states.len();
     match step {
-        Step::Insert(new) => {
+        StateStep::Insert(new) => {
             let (left, judged) = insert(alloc, states, new)?;
             Ok((left, Counts::of_insertion(judged)))
         }
-        Step::Delete(name) => Ok(taken_out(before, states.without(alloc, name)?)),
-        Step::Clear { creator } => Ok(taken_out(before, clear(alloc, states, *creator)?)),
+        StateStep::Delete(name) => Ok(taken_out(before, states.without(alloc, name)?)),
+        StateStep::Clear { creator } => Ok(taken_out(before, clear(alloc, states, *creator)?)),
     }
 }

@@ -3,7 +3,8 @@ ghost use Rattle.std.specs.{Prelude.{◌≡◌, IfOk}, Option.option_map};
 ghost use Rattle.pf_state.specs.{Dues.{due_order, due_of, with_place, without_place}, Orders.{due_total, due_alike, dues_rise}};
 
 use crate::state::{State, StateName};
-use pf_map::{Key, TreeMap};
+use pf_key::Key;
+use pf_map::TreeMap;
 use std::alloc::{AllocError, Global};
 use std::cmp::Ordering;
 

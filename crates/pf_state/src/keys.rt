@@ -3,7 +3,8 @@ ghost use Rattle.pf_state.specs.{FlowKeys.{key_of, key_order, mixed}, Orders.{na
 
 use crate::flow_key::FlowKey;
 use crate::state::{Held, StateName};
-use pf_map::{Flowed, Key};
+use pf_key::Key;
+use pf_map::Flowed;
 use std::cmp::Ordering;
 
 impl Key for StateName {

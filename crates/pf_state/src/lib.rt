@@ -57,5 +57,5 @@ pub use limits::STATE_LIMIT;
 pub use peer::{Fed, FeedError, Message, OneFault, PeerFault, PeerReader, write_peer};
 pub use refusal::StatesRefusal;
 pub use state::{Bound, Held, State, StateName};
-pub use step::{Insertion, Step, StepList, any_inserts_due};
+pub use step::{Insertion, StateStep, StepList, any_inserts_due};
 pub use table::StateTable;

@@ -7,7 +7,7 @@ use std::marker::Model;
 
 /// What a record of a peer, or judging a packet, does to the states.
 #[derive(Drop)]
-pub enum Step {
+pub enum StateStep {
     /// Makes this state, or replaces the one of its name.
     Insert(State),
     /// Takes out the state of this name, whatever its generation.
@@ -32,48 +32,48 @@ pub enum Insertion {
 /// Steps, which act in their order. Contracts see the list of them.
 #[derive(Drop)]
 pub struct StepList {
-    steps: Vec<Step>,
+    steps: Vec<StateStep>,
 }
 
 impl Model for StepList {
     ghost use Rattle.std.specs.Prelude.{List};
-    ghost use Rattle.pf_state.specs.declared.step.Step.{Step};
+    ghost use Rattle.pf_state.specs.declared.step.StateStep.{StateStep};
 
-    ghost Value = { List Step };
+    ghost Value = { List StateStep };
 
     ghost view = { λ l. l.steps.items };
 }
 
 impl StepList {
     /// The list of these steps. It takes no memory.
-    pub fn new(steps: Vec<Step>) -> StepList
+    pub fn new(steps: Vec<StateStep>) -> StepList
         ensures { result ≡ steps.items }
     {
         StepList { steps }
     }
 
     /// The steps, in order.
-    pub fn as_slice(&self) -> &[Step]
+    pub fn as_slice(&self) -> &[StateStep]
         ensures { result.now ≡ self.now }
     {
         &self.steps
     }
 }
 
-impl Step {
+impl StateStep {
     // Whether it inserts a state that is due at a tick, even if it would be stale or clash.
     fn inserts_due(&self, tick: u64) -> bool
         ensures { result ≡ inserts_due tick self.now }
     {
         match self {
-            Step::Insert(state) => !state.value().stands(tick),
-            Step::Delete(_) | Step::Clear { .. } => false,
+            StateStep::Insert(state) => !state.value().stands(tick),
+            StateStep::Delete(_) | StateStep::Clear { .. } => false,
         }
     }
 }
 
 /// Whether one of these steps inserts a state that is due at a tick, even if it would be stale or clash. It takes no memory.
-pub fn any_inserts_due(steps: &[Step], tick: u64) -> bool
+pub fn any_inserts_due(steps: &[StateStep], tick: u64) -> bool
     ensures { result ≡ any_inserts_due tick steps.now }
 {
     steps.iter().any(|step| step.inserts_due(tick))

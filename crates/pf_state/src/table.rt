@@ -8,7 +8,7 @@ use crate::flow::Flow;
 use crate::index::States;
 use crate::refusal::StatesRefusal;
 use crate::state::{Held, State, StateName};
-use crate::step::Step;
+use crate::step::StateStep;
 use pf_map::Entries;
 use pf_rule::Packet;
 use std::alloc::{AllocError, Global};
@@ -117,10 +117,7 @@ impl StateTable {
     pub fn all_stand(&self, tick: u64) -> bool
         ensures { result ≡ all_stand tick self.now }
     {
-        match self.index.first_due(tick) {
-            Some(_due) => false,
-            None => true,
-        }
+        self.index.first_due(tick).is_none()
     }
 
     /// Whether no state has an expiry. It looks at none of them, and takes no memory.
@@ -144,7 +141,7 @@ impl StateTable {
     pub fn after_batch(
         &self,
         alloc: Global,
-        steps: &[Step],
+        steps: &[StateStep],
     ) -> Result<(StateTable, Counts), StatesRefusal>
         ensures refused { Refuses result (passes_limit self.now steps.now) }
         ensures counts { IfOk result (λ r. r.1 ≡ counts self.now steps.now) }
@@ -164,7 +161,11 @@ impl StateTable {
     }
 
     /// Takes these steps in turn, and counts what became of them. It is refused as `after_batch` is, and then the table is as before.
-    pub fn apply_batch(&mut self, alloc: Global, steps: &[Step]) -> Result<Counts, StatesRefusal>
+    pub fn apply_batch(
+        &mut self,
+        alloc: Global,
+        steps: &[StateStep],
+    ) -> Result<Counts, StatesRefusal>
         ensures refused { Refuses result (passes_limit self.old steps.now) }
         ensures counts { IfOk result (λ c. c ≡ counts self.old steps.now) }
         ensures after { self.new ≡ cond (is_ok result) (after self.old steps.now) self.old }

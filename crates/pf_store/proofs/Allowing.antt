@@ -2,7 +2,7 @@
 use Rattle.std.proofs.{Common.{◌≡◌, ◌&&◌, ◌||◌, ◌==◌, ℕ, ◌<◌, ◌≤◌, Bool, true, false, List, [], ◌∷◌, map, refl, sym, ap, ◌∙◌, subst, inl, inr, arith}, lemmas.Bool.eq-eqb, lemmas.List.Elements.{All-head, All-tail}}
 use Rattle.std.specs.{Prelude.{All, is_none, ◌⊎◌, if◌then◌else◌}, List.{list_all, AllByRecursion}}
 use Rattle.pf_form.specs.Bytes.Forms.{Value, Fits}
-use Rattle.pf_state.specs.{declared.step.Step.{Step, TheVariants.{Insert, Delete, Clear}}, Layouts.{States.{StateShape, has_expiry, state_form, state_in, all_allowed}, Steps.{StepShape, step_form, step_in, allows_step, allows_steps}}}
+use Rattle.pf_state.specs.{declared.step.StateStep.{StateStep, TheVariants.{Insert, Delete, Clear}}, Layouts.{States.{StateShape, has_expiry, state_form, state_in, all_allowed}, Steps.{StepShape, step_form, step_in, allows_step, allows_steps}}}
 use Rattle.pf_state.proofs.Expiries.{all_allowed_is, data_is_allowed, data_of_step_is_allowed}
 use Rattle.pf_rule.specs.{Rules.{PlainRule, IsRule}, Sum.{Layouts.{EndingShape, RuleShape, label_form, named, rule_layout, plain_rule, has_labels, allows}, Reading.{label_of, rule_of}}}
 use Rattle.pf_rule.proofs.RuleBytes.{fits_allowed}
@@ -64,12 +64,12 @@ items_all version (item.Rules r ∷ items) new = rw (rules_all version r.1 new, 
 items_all version (item.Tables p named ∷ items) new = items_all version items new
 
 -- versions that have expiries allow all steps
-step_all : (version : ℕ) (x : Step) → has_expiry version ≡ true → allows_step version x ≡ true
+step_all : (version : ℕ) (x : StateStep) → has_expiry version ≡ true → allows_step version x ≡ true
 step_all version (Insert s) new = ap (λ (b : Bool). b || (s.1.expiry == 0)) new
 step_all version (Delete n) new = refl
 step_all version (Clear creator) new = refl
 
-steps_all : (version : ℕ) (xs : List Step) → has_expiry version ≡ true → allows_steps version xs ≡ true
+steps_all : (version : ℕ) (xs : List StateStep) → has_expiry version ≡ true → allows_steps version xs ≡ true
 steps_all version [] new = refl
 steps_all version (x ∷ xs) new = rw (step_all version x new, steps_all version xs new) refl
 

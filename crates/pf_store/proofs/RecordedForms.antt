@@ -2,7 +2,7 @@
 use Rattle.std.proofs.{Common.{◌≡◌, ◌<◌, ◌^◌, ◌==◌, ◌&&◌, ◌+◌, ◌++◌, not, ℕ, Bool, true, false, List, [], ◌∷◌, length, map, take, get_or, refl, sym, ap, ◌∙◌, subst, inl, inr, arith}, lemmas.{List.{length-map, take_more, map-append}, Bool.Decides.nat_tests}}
 use Rattle.std.specs.{Prelude.nat_le, List.{list_all, AllByRecursion}}
 use Rattle.pf_form.specs.{Bytes.{BasicForms.number_bytes, Forms.{list, Value, Form, Fits, Spells, number, or, counted, onto}}, Laws.Bytes.{Onto.onto_is, Texts.one_value}}
-use Rattle.pf_state.specs.{declared.step.Step.Step, Layouts.{States.{has_expiry, name_form}, Steps.{plain_step, step_form, step_in}}}
+use Rattle.pf_state.specs.{declared.step.StateStep.StateStep, Layouts.{States.{has_expiry, name_form}, Steps.{plain_step, step_form, step_in}}}
 use Rattle.pf_state.proofs.LayoutsBack.{step_back}
 use Rattle.pf_table.specs.{Entries.PlainEntry, EntryForms.{entry_of}, Laws.EntryForms.entry_again}
 use Rattle.pf_ticket.specs.NamedTables.{PlainDefinedTable}
@@ -20,7 +20,7 @@ pub tables_told : (ts : List PlainDefinedTable) → map named_in (map plain_name
 tables_told [] = refl
 tables_told (t ∷ ts) = λ i. (t.0, entries_told t.1 i) ∷ tables_told ts i
 
-pub steps_told : (xs : List Step) → map step_in (map plain_step xs) ≡ xs
+pub steps_told : (xs : List StateStep) → map step_in (map plain_step xs) ≡ xs
 steps_told [] = refl
 steps_told (x ∷ xs) = λ i. step_back x i ∷ steps_told xs i
 

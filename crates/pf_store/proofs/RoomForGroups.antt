@@ -2,7 +2,7 @@
 use Rattle.std.proofs.{Common.{◌≡◌, ℕ, ◌+◌, ◌^◌, ◌<◌, ◌≤◌, Bool, true, false, List, [], ◌∷◌, length, refl, ◌∙◌, arith}, lemmas.{List.length-map, Bool.Decides.nat_tests}}
 use Rattle.std.specs.{Prelude.{◌↔◌, ◌&&◌, nat_le, nat_lt}, List.list_all}
 use Rattle.pf_core.specs.Durable.Changes.{PlainDurable, PlainChange, commits, adds, deletes, sets, acts, removes, expires}
-use Rattle.pf_state.specs.{declared.step.Step.{Step, TheVariants.Insert, TheVariants.Delete, TheVariants.Clear}, Layouts.{States.{held_form, name_form, state_form}, Steps.step_form}}
+use Rattle.pf_state.specs.{declared.step.StateStep.{StateStep, TheVariants.Insert, TheVariants.Delete, TheVariants.Clear}, Layouts.{States.{held_form, name_form, state_form}, Steps.step_form}}
 use Rattle.pf_table.specs.Entries.{PlainEntry}
 use Rattle.pf_store.specs.{Groups.{can_be_wanted, change_form, has_form, is_group, made_all}, Lengths.{edit_length, payload_length, recorded_length, snapshot_length, step_length, total}, Rooms.group_fits, Stores.{FindsRoom, HasRoom}}
 use Rattle.pf_store.proofs.Sized.{edit_long, steps_long}
@@ -52,7 +52,7 @@ group-fits size before next es = (finds size before next es, fits size before ne
 is_short : {A : Type 0} (xs : List A) → length xs < 2 ^ 32 → nat_lt (length xs) (2 ^ 32) ≡ true
 is_short xs few = grind (arith, nat_tests, few)
 
-short_steps : (xs : List Step) → length xs ≤ total step_length xs
+short_steps : (xs : List StateStep) → length xs ≤ total step_length xs
 unfolding step_form state_form held_form name_form
 short_steps [] = omega arith
 short_steps (Insert s ∷ xs) = omega (arith, short_steps xs)

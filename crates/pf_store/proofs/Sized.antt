@@ -8,7 +8,7 @@ use Rattle.pf_rule.specs.{declared.rule.Effect.Effect, Rules.PlainRule, Sum.{For
 use Rattle.pf_table.specs.{Entries.PlainEntry, EntryForms.{entry, plain_entry}, Laws.EntryForms.entry_long}
 use Rattle.pf_anchor.specs.Forms.{rule_list_form, rules_form, rulesets_form, kept_tables_form, plain_ruled, allows_rules, allows_ruleset, allows_config, named_form, plain_named, plain_entries}
 use Rattle.pf_anchor.specs.Rulesets.{PlainPlaced}
-use Rattle.pf_state.specs.{declared.step.Step.{Step, TheVariants.{Insert, Delete, Clear}}, States.PlainState, Layouts.{States.{has_expiry, held_form, state_form, plain_state, plain_states}, Steps.{step_form, plain_step}}}
+use Rattle.pf_state.specs.{declared.step.StateStep.{StateStep, TheVariants.{Insert, Delete, Clear}}, States.PlainState, Layouts.{States.{has_expiry, held_form, state_form, plain_state, plain_states}, Steps.{step_form, plain_step}}}
 use Rattle.pf_core.specs.{declared.durable.change.Item.Item, Durable.{Changes.{PlainDurable, commits, adds, deletes, sets, acts, removes, expires, kept_nothing}, Forms.{tick_form, durable_form, plain_durable, durable_length}}, Worlds.raised}
 use Rattle.pf_core.specs.declared.durable.change.Item.TheVariants as item
 use Rattle.pf_ticket.specs.NamedTables.{PlainDefinedTable}
@@ -129,13 +129,13 @@ each_item_long version (i ∷ items) all =
     )
 
 -- an expiry takes eight bytes in each version
-step_long : (version : ℕ) (x : Step) → length_of (step_form version) (plain_step x) ≡ length_of (step_form NEWEST) (plain_step x)
+step_long : (version : ℕ) (x : StateStep) → length_of (step_form version) (plain_step x) ≡ length_of (step_form NEWEST) (plain_step x)
 unfolding step_form state_form held_form
 step_long version (Insert s) = omega (arith, expiry_long (has_expiry version) s.1.expiry, expiry_long (has_expiry NEWEST) s.1.expiry)
 step_long version (Delete n) = refl
 step_long version (Clear creator) = refl
 
-each_step_long : (version : ℕ) (xs : List Step) → sum_by (length_of (step_form version)) (map plain_step xs) ≡ sum_by (length_of (step_form NEWEST)) (map plain_step xs)
+each_step_long : (version : ℕ) (xs : List StateStep) → sum_by (length_of (step_form version)) (map plain_step xs) ≡ sum_by (length_of (step_form NEWEST)) (map plain_step xs)
 each_step_long version [] = refl
 each_step_long version (x ∷ xs) =
     omega (
@@ -223,5 +223,5 @@ pub items_long : (items : List Item) → length_of (items_form NEWEST) (map plai
 unfolding items_form
 items_long items = omega (arith, summed (length_of (item_form NEWEST)) plain_item items)
 
-pub steps_long : (xs : List Step) → length_of (counted 4 (step_form NEWEST)) (map plain_step xs) ≡ 4 + total step_length xs
+pub steps_long : (xs : List StateStep) → length_of (counted 4 (step_form NEWEST)) (map plain_step xs) ≡ 4 + total step_length xs
 steps_long xs = omega (arith, summed (length_of (step_form NEWEST)) plain_step xs)

@@ -4,7 +4,7 @@ use Rattle.pf_form.specs.Bytes.Forms.{length_of}
 use Rattle.pf_snap.specs.declared.header.TheConstants.{NEWEST}
 use Rattle.pf_anchor.specs.Forms.{named_form, plain_named, plain_entries}
 use Rattle.pf_core.specs.{declared.durable.change.Item.Item, Durable.{Changes.PlainDurable, Forms.durable_length}}
-use Rattle.pf_state.specs.{declared.step.Step.Step, Layouts.Steps.{step_form, plain_step}}
+use Rattle.pf_state.specs.{declared.step.StateStep.StateStep, Layouts.Steps.{step_form, plain_step}}
 use Rattle.pf_table.specs.Entries.{PlainEntry}
 use Rattle.pf_ticket.specs.NamedTables.{PlainDefinedTable}
 use Rattle.pf_store.specs.{declared.groups.recorded.Recorded.Recorded, Groups.{item_form, plain_item, edit_form, change_form, plain_record}}
@@ -29,7 +29,7 @@ named_length t = length_of named_form (plain_named t)
 abbrev pub edit_length : List ℕ → List ℕ → List PlainEntry → ℕ
 edit_length p name es = length_of edit_form (p, (name, plain_entries es))
 
-abbrev pub step_length : Step → ℕ
+abbrev pub step_length : StateStep → ℕ
 step_length x = length_of (step_form NEWEST) (plain_step x)
 
 -- a change or an opening, with the byte of its kind

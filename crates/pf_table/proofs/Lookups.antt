@@ -6,11 +6,11 @@ use Rattle.pf_addr.specs.declared.addr.Addr.TheVariants as addr
 use Rattle.pf_table.specs.{Entries.PlainEntry, Shared.Share, Tables.{sign_of, Decides, longer, deciding}}
 use Rattle.pf_addr.specs.{NetOrder.{rank, net_order}, Laws.NetOrder.net_total}
 use Rattle.pf_map.specs.{Maps.{at_or_before, last_where}, MapParts.{joined, starts_behind, first_of as first_of_page, IsUpTo, FollowsFrom}}
-use Rattle.pf_map.proofs.MapParts.{sorted_up_to}
+use Rattle.pf_map.proofs.MapParts.{page_up_to}
 use Rattle.pf_lanes.specs.Longest.{FindsLongest}
 use Rattle.std.specs.Prelude.{slice_get, MatchOption}
 use Rattle.std.proofs.lemmas.{List.map-id, List.Concat.flat_map-append}
-use Rattle.pf_table.specs.{declared.columns.PageColumns.PageColumns, PageColumns.AreOf, Searches.{NoneShorter, NoneContains, IsLongest, IsLast}}
+use Rattle.pf_table.specs.{declared.columns.PageColumns.PageColumns, PageColumns.AreOf, Searches.{NoneShorter, NoneContains, IsLongest, IsCandidate}}
 use Rattle.std.specs.declared.cmp.Ordering.{Ordering, TheVariants.Less, TheVariants.Equal, TheVariants.Greater}
 use Rattle.pf_table.proofs.{Prefixes.{cut_off, cut_less, between, share_fewer, shared_bits}, Sorted.{sorted, below_at}}
 use Rattle.pf_map.proofs.Tests.{first_of, second_of}
@@ -476,87 +476,53 @@ longest_found es a i e found is =
 pub none_found : (es : List PlainEntry) (a : Addr) → FindsLongest (map (λ x. x.0) es) a None → NoneContains es a
 none_found es a none f at_f = All-contains (λ n. contains n a ≡ false) (map (λ x. x.0) es) f.0 none (contains_net es f at_f)
 
--- a page in which the entries after `front` don't contain the address
-pub record Behind (page front : List PlainEntry) (a : Addr) : Type 0 where
-  pub back : List PlainEntry
-  pub around : page ≡ front ++ back
-  pub none_behind : NoneContains back a
-
-pub behind_nothing : (page front : List PlainEntry) (a : Addr) → front ≡ page → Behind page front a
-behind_nothing page front a is = record { back = []; around = sym is ∙ sym (append-nil front); none_behind = λ e (k, lt, at). absurd (omega arith) }
-
-pub behind_all : (page front : List PlainEntry) (a : Addr) → Behind page front a → front ≡ [] → NoneContains page a
-behind_all page front a behind is = subst (λ l. NoneContains l a) (sym (behind.around ∙ ap (λ l. l ++ behind.back) is)) behind.none_behind
-
-module _ (page : List PlainEntry) (front : List (List PlainEntry)) (slot : List PlainEntry) (a : Addr) (e : PlainEntry) (one : e ∷ [] ≡ slot) (behind : Behind page (joined (front ++ slot ∷ [])) a) where
-  last_out : page ≡ joined front ++ (e ∷ behind.back)
-  last_out =
-      behind.around ∙ ap (λ s. joined (front ++ s ∷ []) ++ behind.back) (sym one)
-      ∙ ap (λ z. z ++ behind.back) (flat_map-append (λ part. part) front ((e ∷ []) ∷ []))
-      ∙ append_assoc (joined front) (e ∷ []) behind.back
-
-  pub is_last : contains e.0 a ≡ true → IsLast page a e
-  is_last holds = record { front = joined front; back = behind.back; around = last_out; holds = holds; none_behind = behind.none_behind }
-
-  pub one_more_behind : contains e.0 a ≡ false → Behind page (joined front) a
-  one_more_behind other = record { back = e ∷ behind.back; around = last_out; none_behind = none } where
-    none : NoneContains (e ∷ behind.back) a
-    none f (zero, lt, at) = ap (λ (x : PlainEntry). contains x.0 a) (sym at) ∙ other
-    none f (suc k, lt, at) = behind.none_behind f (k, omega arith, at)
-
--- the last is the longest
-pub last_longest : (es : List PlainEntry) (a : Addr) (e : PlainEntry) → sorted es → IsLast es a e → IsLongest es a e
-last_longest es a e order last = record { member = member; holds = last.holds; longest = longest } where
-  member : Contains es e
-  member = subst (λ l. Contains l e) (sym last.around) (Contains-append_right last.front (e ∷ last.back) e (0, omega arith, refl))
-
-  own : (f : PlainEntry) → Contains (e ∷ last.back) f → contains f.0 a ≡ true → f.0.len ≤ e.0.len
-  own f (zero, lt, at) of_f = subst (λ (x : PlainEntry). x.0.len ≤ e.0.len) at (omega arith)
-  own f (suc k, lt, at) of_f = absurd (true≢false (sym of_f ∙ last.none_behind f (k, omega arith, at)))
-
-  no_longer : (f : PlainEntry) → Contains es f → Contains last.front f → contains f.0 a ≡ true → (t : Bool) → nat_lt e.0.len f.0.len ≡ t → f.0.len ≤ e.0.len
-  no_longer f there front of_f false ge = grind (arith, nat_tests)
-  no_longer f there front of_f true lt =
-      let more : e.0.len < f.0.len = grind (arith, nat_tests) in
-      let up_to = in_front last.front (e ∷ []) last.back e f (subst sorted last.around order) front (0, omega arith, refl) in
-      let less = shorter_front es a e f order member there last.holds of_f up_to (λ same. absurd (omega (arith, more, ap (λ (x : PlainEntry). x.0.len) same))) in
-      omega (arith, less)
-
-  longest : (f : PlainEntry) → Contains es f → contains f.0 a ≡ true → f.0.len ≤ e.0.len
-  longest f there of_f = elim (Contains-append_cases last.front (e ∷ last.back) f (subst (λ l. Contains l f) last.around there)) [
-    | inl front ↦ no_longer f there front of_f (nat_lt e.0.len f.0.len) refl
-    | inr later_ ↦ own f later_ of_f
-  ]
-
-pub longest_of_last : (es : List PlainEntry) (a : Addr) (found : Option PlainEntry) → sorted es → MatchOption found (NoneContains es a) (IsLast es a) →
-    MatchOption found (NoneContains es a) (IsLongest es a)
-longest_of_last es a None order none = none
-longest_of_last es a (Some e) order last = last_longest es a e order last
-
 -- what is kept beside a page is of its entries
 pub beside_is : (cols : PageColumns) (page : List PlainEntry) → FollowsFrom {E = PlainEntry} {K = PlainNet} {X = Bool} (λ e. e) AreOf cols page → AreOf cols page
 beside_is cols page beside = subst (AreOf cols) (sym (map-id beside.entries) ∙ beside.pairs) beside.follows_from
 
-module _ (es page : List PlainEntry) (a : Addr) (len : ℕ) (key : PlainNet) (order : sorted es) (most : NoneLonger es a len) (key_is : key ≡ network_from a len)
-    (at : IsUpTo net_order key page es) where
-  here : IsUpTo net_order (network_from a len) page es
-  here = subst (λ (n : PlainNet). IsUpTo net_order n page es) key_is at
+-- ---- where a search stands
 
-  pub page_sorted : sorted page
-  page_sorted = sorted_up_to net_order key page es at order
+-- a page of one entry
+module _ (a : Addr) (e : PlainEntry) where
+  alone_longest : contains e.0 a ≡ true → IsLongest (e ∷ []) a e
+  alone_longest holds = record { member = (0, omega arith, refl); holds = holds; longest = own } where
+    own : (f : PlainEntry) → Contains (e ∷ []) f → contains f.0 a ≡ true → f.0.len ≤ e.0.len
+    own f (zero, lt, at) of_f = subst (λ (x : PlainEntry). x.0.len ≤ e.0.len) at (omega arith)
+    own f (suc k, lt, at) of_f = absurd (omega (arith, lt))
 
-  pub longest_decides : (e : PlainEntry) → IsLongest page a e → deciding es a ≡ Some e
-  longest_decides e is = page_decides es page a len order most here e is.member is.holds is.longest
+  alone_none : contains e.0 a ≡ false → NoneContains (e ∷ []) a
+  alone_none other f (zero, lt, at) = ap (λ (x : PlainEntry). contains x.0 a) (sym at) ∙ other
+  alone_none other f (suc k, lt, at) = absurd (omega (arith, lt))
 
-  pub first_passes : (e : PlainEntry) → first_of_page page ≡ Some e → NoneContains page a → Passes a len es e
-  first_passes e first none = page_passes es page a len order most here e (rest page) (begins page first) none where
-    rest : List PlainEntry → List PlainEntry
-    rest [] = []
-    rest (x ∷ xs) = xs
+module _ (net : PlainNet) (es page : List PlainEntry) (a : Addr) (at : IsUpTo net_order net page es) where
+  -- the last entry of the page that isn't past the network
+  pub last_is_candidate : (found : Option PlainEntry) →
+      MatchOption found (at_or_before net_order net page ≡ None) (λ e. IsUpTo net_order net (e ∷ []) page) →
+      MatchOption found (at_or_before net_order net es ≡ None) (IsCandidate net es a)
+  last_is_candidate found inner = by found (page_up_to net_order net (λ e. e ∷ []) page es found at inner) where
+    by : (o : Option PlainEntry) → MatchOption o (at_or_before net_order net es ≡ None) (λ e. IsUpTo net_order net (e ∷ []) es) →
+        MatchOption o (at_or_before net_order net es ≡ None) (IsCandidate net es a)
+    by None none = none
+    by (Some e) up_to = record { page = e ∷ []; up_to = up_to; longest = alone_longest a e; first = λ other. (refl, alone_none a e other) }
 
-    begins : (p : List PlainEntry) → first_of_page p ≡ Some e → p ≡ e ∷ rest p
-    begins [] is = absurd (cc (is))
-    begins (x ∷ xs) is = ap (λ y. y ∷ xs) (inside x e is)
+module _ (es : List PlainEntry) (a : Addr) (len : ℕ) (net : PlainNet) (order : sorted es) (most : NoneLonger es a len) (is_net : net ≡ network_from a len)
+    (e : PlainEntry) (at : IsCandidate net es a e) where
+  here : IsUpTo net_order (network_from a len) at.page es
+  here = subst (λ (n : PlainNet). IsUpTo net_order n at.page es) is_net at.up_to
+
+  pub candidate_decides : contains e.0 a ≡ true → deciding es a ≡ Some e
+  candidate_decides holds = let is = at.longest holds in page_decides es at.page a len order most here e is.member is.holds is.longest
+
+  pub candidate_passes : contains e.0 a ≡ false → Passes a len es e
+  candidate_passes other =
+      let (first, none) = at.first other in page_passes es at.page a len order most here e (rest at.page) (begins at.page first) none where
+        rest : List PlainEntry → List PlainEntry
+        rest [] = []
+        rest (x ∷ xs) = xs
+
+        begins : (p : List PlainEntry) → first_of_page p ≡ Some e → p ≡ e ∷ rest p
+        begins [] is = absurd (cc (is))
+        begins (x ∷ xs) is = ap (λ y. y ∷ xs) (inside x e is)
 
 -- if each entry that contains the address has a prefix shorter than any entry's, there is none
 pub none_so_short : (es : List PlainEntry) (a : Addr) (len n : ℕ) → NoneLonger es a len → NoneShorter n es → len < n → deciding es a ≡ None

@@ -1,7 +1,8 @@
 -- What a search finds in a page of a table, and when it ends.
-use Rattle.std.specs.Prelude.{◌≡◌, ℕ, ◌≤◌, true, false, List, ◌∷◌, ◌++◌, All, Contains}
+use Rattle.std.specs.Prelude.{◌≡◌, ℕ, ◌≤◌, true, false, List, Some, All, Contains}
 use Rattle.pf_addr.specs.declared.addr.Addr.{Addr}
-use Rattle.pf_addr.specs.Address.{contains}
+use Rattle.pf_addr.specs.{Address.{PlainNet, contains}, NetOrder.net_order}
+use Rattle.pf_map.specs.MapParts.{first_of, IsUpTo}
 use Rattle.pf_table.specs.Entries.{PlainEntry}
 
 -- no entry has a prefix shorter than n
@@ -18,10 +19,10 @@ pub record IsLongest (es : List PlainEntry) (a : Addr) (e : PlainEntry) : Type 0
   pub holds : contains e.0 a ≡ true
   pub longest : (f : PlainEntry) → Contains es f → contains f.0 a ≡ true → f.0.len ≤ e.0.len
 
--- of the entries that contain the address, none comes after this one
-pub record IsLast (es : List PlainEntry) (a : Addr) (e : PlainEntry) : Type 0 where
-  pub front : List PlainEntry
-  pub back : List PlainEntry
-  pub around : es ≡ front ++ (e ∷ back)
-  pub holds : contains e.0 a ≡ true
-  pub none_behind : NoneContains back a
+-- where a search for the entries up to a network stands: at a page with the last of these, one entry at least, of which this entry contains
+-- the address with the longest prefix; or it is the page's first one, and none of the page contains the address
+pub record IsCandidate (net : PlainNet) (es : List PlainEntry) (a : Addr) (e : PlainEntry) : Type 0 where
+  pub page : List PlainEntry
+  pub up_to : IsUpTo net_order net page es
+  pub longest : contains e.0 a ≡ true → IsLongest page a e
+  pub first : contains e.0 a ≡ false → (first_of page ≡ Some e) × NoneContains page a

@@ -3,7 +3,7 @@ ghost use Rattle.std.specs.Prelude.{◌≡◌};
 ghost use Rattle.pf_addr.specs.Address.{IsNetwork};
 
 use pf_addr::Net;
-use pf_map::Held;
+use pf_map::Holder;
 use std::alloc::AllocError;
 use std::marker::Model;
 
@@ -57,7 +57,7 @@ impl Entry {
     }
 }
 
-impl Held<Net, bool> for Entry {
+impl Holder<Net, bool> for Entry {
     ghost pair = { λ e. e };
 
     fn share(&self) -> Result<Entry, AllocError> {

@@ -5,9 +5,9 @@ ghost use Rattle.pf_form.specs.Bytes.Forms.{back, number, onto};
 use crate::entry::Entry;
 use pf_addr::{Addr, Net, push_addr, read_addr, read_family};
 use pf_form::bytes::{
-    Fault, Fitting, Layout, Ordered, Rest, Stop, expect, push_bytes, read_flag, read_u8,
+    Fault, Fitting, Layout, Ordered, Rest, Undecoded, expect, push_bytes, read_flag, read_u8,
 };
-use pf_map::Key;
+use pf_key::Key;
 use std::alloc::{AllocError, Global};
 
 /// 20 bytes: the family, 4 or 6; the prefix length; 1 if it is negated, else 0; a zero; and the network's first address in 16 bytes,
@@ -27,7 +27,7 @@ impl Layout for Entry {
     ghost before = { entry_before };
 
     #[tactic(auto, unfolding(crate::specs::EntryForms::entry))]
-    fn read<'a>(_alloc: Global, _version: u8, from: &mut Rest<'a>) -> Result<Entry, Stop> {
+    fn read<'a>(_alloc: Global, _version: u8, from: &mut Rest<'a>) -> Result<Entry, Undecoded> {
         let left = from.len();
         let family = read_family(from)?;
         let length = read_u8(from)?;
@@ -36,7 +36,7 @@ impl Layout for Entry {
         let first = read_addr(family, from)?;
         match Net::starting_at(first, length) {
             Some(net) => Ok(Entry::new(net, is_negated)),
-            None => Err(Stop::Fault(Fault::Bad(left))),
+            None => Err(Undecoded::Fault(Fault::Bad(left))),
         }
     }
 

@@ -1,10 +1,11 @@
 //! Which entry decides about an address.
-ghost use Rattle.std.specs.{Prelude.{◌≡◌, ◌≢◌, T, map, MatchOption}, FinMap.is_sorted};
+ghost use Rattle.std.specs.{Prelude.{◌≡◌, ◌≢◌, T, None, map, MatchOption}, FinMap.is_sorted};
 ghost use Rattle.pf_addr.specs.Address.{family_of};
 ghost use Rattle.pf_addr.specs.NetOrder.{net_order};
-ghost use Rattle.pf_table.specs.{Tables.{IsTable, deciding}, Searches.{NoneShorter, NoneContains, IsLongest, IsLast}, Shared.Share};
+ghost use Rattle.pf_map.specs.Maps.{at_or_before};
+ghost use Rattle.pf_table.specs.{Tables.{IsTable, deciding}, Searches.{NoneShorter, NoneContains, IsLongest, IsCandidate}, Shared.Share};
 
-use crate::columns::{EntryMap, PageColumns, TablePage};
+use crate::columns::{EntryMap, PageColumns};
 use crate::entry::Entry;
 use pf_addr::{Addr, Net};
 use pf_lanes::longest;
@@ -29,39 +30,28 @@ fn in_columns(columns: &PageColumns, addr: Addr) -> Option<Entry>
     Some(columns.entries[place])
 }
 
-// The last of a page's entries that contain an address.
-fn from_the_end(page: &TablePage, addr: Addr) -> Option<Entry>
-    ensures { MatchOption result (NoneContains page.now addr) (IsLast page.now addr) }
+// An entry up to a network behind which, up to the network, none contains the address: of a page without columns the last one; of a page
+// with columns one that contains the address with the longest prefix, or else the page's first one. `None` if all entries are past the
+// network.
+fn candidate(entries: &EntryMap, sought: &Net, addr: Addr) -> Option<Entry>
+    requires { T (is_sorted net_order entries.now) }
+    ensures { MatchOption result (at_or_before net_order sought.now entries.now ≡ None) (IsCandidate sought.now entries.now addr) }
 {
-    let mut rest = page.entries();
-    while let Some((slot, front)) = rest.split_last() {
-        let entry = slot.part().entry();
-        if entry.net().contains(addr) {
-            return Some(*entry);
-        }
-        rest = front;
-    }
-    None
-}
-
-// Of a page's entries that contain an address, one with the longest prefix, by its columns or else from its end: of networks that contain
-// an address, the longer comes later.
-fn longest_in(page: &TablePage, addr: Addr) -> Option<Entry>
-    requires { T (is_sorted net_order page.now) }
-    ensures { MatchOption result (NoneContains page.now addr) (IsLongest page.now addr) }
-{
-    match page.beside() {
-        Some(columns) => in_columns(columns, addr),
-        None => from_the_end(page, addr),
+    let page = entries.page_up_to(sought)?;
+    let Some(columns) = page.beside() else {
+        return Some(*page.entry_up_to(sought)?);
+    };
+    match in_columns(columns, addr) {
+        Some(entry) => Some(entry),
+        None => Some(*page.first_entry()),
     }
 }
 
 /// The entry that decides about an address: of those that contain it the one with the longest prefix. It takes no memory.
 ///
-/// If an entry of the page of the last entry that isn't past the address contains it, that page decides, since of networks that contain an
-/// address the longer comes later. If none does, each network that contains the address comes before the page, so its prefix is no longer
-/// than what the address shares with the first address of the page's first entry: the search goes on with that length, down to the shortest
-/// that an entry may have.
+/// Of networks that contain an address the longer comes later, so a candidate that contains it decides. If it doesn't, each entry that does
+/// comes before it and contains its first address too, so that entry's prefix is no longer than what the two addresses share: the search goes
+/// on with that length, down to the shortest that an entry may have.
 pub(crate) fn decider(entries: &EntryMap, shortest: u8, addr: Addr) -> Option<Entry>
     requires table { IsTable entries.now }
     requires shortest { NoneShorter shortest entries.now }
@@ -69,12 +59,12 @@ pub(crate) fn decider(entries: &EntryMap, shortest: u8, addr: Addr) -> Option<En
 {
     let mut len = addr.family().width();
     'shorter: while len >= shortest {
-        let page = entries.page_up_to(&Net::new(addr, len))?;
-        if let Some(entry) = longest_in(page, addr) {
+        let entry = candidate(entries, &Net::new(addr, len), addr)?;
+        let net = entry.net();
+        if net.contains(addr) {
             return Some(entry);
         }
-        let first = page.first_entry().net();
-        len = shared_bits(addr, first.addr())?;
+        len = shared_bits(addr, net.addr())?;
     }
     None
 }

@@ -6,7 +6,7 @@ ghost use Rattle.pf_ticket.specs.declared.limits.TheConstants.{OFFERED_TABLE_LIM
 
 use crate::limits::OFFERED_TABLE_LIMIT;
 use pf_addr::path::TableName;
-use pf_map::{Entries, Held, TreeMap};
+use pf_map::{Entries, Holder, TreeMap};
 use pf_table::Table;
 use std::alloc::{AllocError, Global};
 use std::marker::Model;
@@ -54,7 +54,7 @@ impl DefinedTable {
     }
 }
 
-impl Held<TableName, Table> for DefinedTable {
+impl Holder<TableName, Table> for DefinedTable {
     ghost pair = { λ d. d };
 
     fn share(&self) -> Result<DefinedTable, AllocError> {

@@ -16,11 +16,11 @@ pub struct RulesetTicket {
 
 /// Rulesets with their tickets, in the order in which a commit or a rollback names them.
 #[derive(Drop)]
-pub struct Entries {
+pub struct RulesetTickets {
     entries: Vec<RulesetTicket>,
 }
 
-impl Model for Entries {
+impl Model for RulesetTickets {
     ghost use Rattle.std.specs.Prelude.{List};
     ghost use Rattle.pf_ticket.specs.declared.entry.RulesetTicket.{RulesetTicket};
 
@@ -29,12 +29,12 @@ impl Model for Entries {
     ghost view = { λ e. e.entries.items };
 }
 
-impl Entries {
+impl RulesetTickets {
     /// The list of these. It takes no memory.
-    pub fn new(entries: Vec<RulesetTicket>) -> Entries
+    pub fn new(entries: Vec<RulesetTicket>) -> RulesetTickets
         ensures { result ≡ entries.items }
     {
-        Entries { entries }
+        RulesetTickets { entries }
     }
 
     /// The entries in order.

@@ -31,7 +31,7 @@ mod ticket;
 mod tickets;
 
 pub use defined::{Defined, DefinedTable};
-pub use entry::{Entries, RulesetTicket};
+pub use entry::{RulesetTicket, RulesetTickets};
 pub use limits::{ENTRY_LIMIT, LAST_COUNT, OFFERED_TABLE_LIMIT};
 pub use name::{RulesetKind, RulesetName, RulesetNames};
 pub use offered::Offered;

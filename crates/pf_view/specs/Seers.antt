@@ -11,7 +11,7 @@ pub record PlainSeer : Type 0 where
   pub learnt : List PlainChange
   pub copies : TableId
 
--- a shower: the changes that seers are shown, these with all that is offered after them, and the copies that it publishes to
+-- a shower, or any publisher: the changes that seers are shown, these with all that is offered after them, and the copies that it publishes to
 pub record PlainShower : Type 0 where
   pub shown : List PlainChange
   pub offered : List PlainChange

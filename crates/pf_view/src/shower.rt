@@ -1,10 +1,9 @@
-//! What publishes.
-ghost use Rattle.std.specs.{Prelude.{◌≡◌, ◌<◌, ◌++◌, [], length, drop, vec_len, IfSome, OnOk, OnErr}, Arc.arc_value};
-ghost use Rattle.pf_core.specs.Durable.Changes.{after};
-ghost use Rattle.pf_past.specs.Pasts.{all_acked};
-ghost use Rattle.pf_view.specs.{Sharing.changes_of, Copies.{offered_version, IsChain}, Seers.{IsNewShower, SitsAt}};
+//! What publishes to the copies.
+ghost use Rattle.std.specs.Prelude.{◌≡◌, [], drop, IfSome, OnOk, OnErr};
+ghost use Rattle.pf_view.specs.{Copies.{offered_version, IsChain}, Seers.{IsNewShower, SitsAt}};
 
 use crate::law::{Law, Seeing, Sight};
+use crate::publisher::Publisher;
 use crate::seer::Seer;
 use crate::shown::{Operation, Shown};
 use crate::token::Token;
@@ -20,7 +19,7 @@ pub(crate) type CopyWriter<J> = Writer<Shown, Operation, Sight, Law<J>>;
 
 /// Shows changes to all seers at once. Contracts see what is shown, what is offered, and which copies it publishes to (`PlainShower`).
 ///
-/// It keeps a handle on the runtime, since [`Shower::show`] and its drop wait for the seers that are judging. After its drop they return
+/// It keeps a handle on the runtime, since its [`Publisher::show`] and its drop wait for the seers that are judging. After its drop they return
 /// `Gone`.
 pub struct Shower<J: Naming, R: Wait + Drop> {
     writer: CopyWriter<J>,
@@ -58,23 +57,27 @@ impl<J: Naming, R: Wait + Drop> Shower<J, R> {
         Shower { writer, rt }
     }
 
-    /// Offers changes, one or more, and what is kept after them, which follow all that was offered before, and the front of the history
-    /// with all of them, each acknowledged. No seer sees them yet. `AllocError`: nothing was offered, and the changes may be offered again
-    /// with those that follow.
-    pub fn offer(
+    /// One more seer, at the copies that this shower publishes to, that was given all that is shown: each of its verdicts is by no less.
+    /// `None`: all places are in use. There are as many places as [`views`](crate::views) made seers, and a dropped seer frees its place.
+    pub fn told_seer(&self) -> Option<Seer<J>>
+        ensures seen { IfSome result (λ s. s.seen ≡ self.now.shown) }
+        ensures learnt { IfSome result (λ s. s.learnt ≡ self.now.shown) }
+        ensures seated { IfSome result (SitsAt self.now.copies) }
+    {
+        let reader = self.writer.factory().reader().ok()?;
+        Some(Seer::told(reader, self.token()))
+    }
+}
+
+impl<J: Naming, R: Wait + Drop> Publisher<J> for Shower<J, R> {
+    ghost plain = { λ s. s };
+
+    fn offer(
         &mut self,
         changes: Vec<Arc<Change>>,
         durable: Arc<Durable>,
         front: &Front<J>,
-    ) -> Result<(), AllocError>
-        requires some { 0 < vec_len changes }
-        requires chain { arc_value durable ≡ after J.base (self.old.offered ++ changes_of changes.items) }
-        requires front { front.now ≡ all_acked (self.old.offered ++ changes_of changes.items) }
-        ensures ok { OnOk result (self.new.offered ≡ self.old.offered ++ changes_of changes.items) }
-        ensures err { OnErr result (self.new.offered ≡ self.old.offered) }
-        ensures shown { self.new.shown ≡ self.old.shown }
-        ensures copies { self.new.copies ≡ self.old.copies }
-    {
+    ) -> Result<(), AllocError> {
         let operation = Operation {
             changes,
             after: durable,
@@ -86,47 +89,22 @@ impl<J: Naming, R: Wait + Drop> Shower<J, R> {
         }
     }
 
-    /// Shows all that was offered, at once. It waits for each seer that still judges by the copy that isn't shown. `AllocError`: seers see
-    /// what they saw before, and a later call can show what was offered.
-    pub fn show(&mut self) -> Result<(), AllocError>
-        ensures ok { OnOk result (self.new.shown ≡ self.old.offered) }
-        ensures err { OnErr result (self.new.shown ≡ self.old.shown) }
-        ensures offered { self.new.offered ≡ self.old.offered }
-    {
+    // It waits for each seer that still judges by the copy that isn't shown.
+    fn show(&mut self) -> Result<(), AllocError> {
         replace_with(&mut self.writer, &self.rt, |writer, rt| {
             publish::<J, R>(writer, rt)
         })
     }
 
-    /// One more seer, at the copies that this shower publishes to, that was given all that is shown: each of its verdicts is by no less.
-    /// `None`: all places are in use. There are as many places as [`views`](crate::views) made seers, and a dropped seer frees its place.
-    pub fn told_seer(&self) -> Option<Seer<J>>
-        ensures seen { IfSome result (λ s. s.seen ≡ self.now.shown) }
-        ensures learnt { IfSome result (λ s. s.learnt ≡ self.now.shown) }
-        ensures seated { IfSome result (SitsAt self.now.copies) }
-    {
-        let reader = self.writer.factory().reader().ok()?;
-        Some(Seer::told(reader, self.token()))
-    }
-
-    /// What is kept after all changes that are shown.
-    pub fn durable(&self) -> &Durable
-        ensures { result.now ≡ after J.base self.now.shown }
-    {
+    fn durable(&self) -> &Durable {
         &self.writer.published().durable
     }
 
-    /// How many changes are shown.
-    pub fn len(&self) -> usize
-        ensures { result ≡ length self.now.shown }
-    {
+    fn len(&self) -> usize {
         self.writer.published().changes.len()
     }
 
-    /// A token of all that is shown, for seers to learn.
-    pub fn token(&self) -> Token<J>
-        ensures { result ≡ self.now.shown }
-    {
+    fn token(&self) -> Token<J> {
         let shown = self.writer.published();
         Token::new(shown.front.again().named::<J>(), shown.changes.len())
     }

@@ -4,7 +4,7 @@ use pf_addr::{Addr, Net, write_addr, write_net};
 use pf_anchor::{Config, Path, RuleList};
 use pf_core::{Change, Command, Durable, Reply};
 use pf_rule::{Packet, Rule};
-use pf_state::{Bound, Flow, Held, State, StateName, StateTable, Step};
+use pf_state::{Bound, Flow, Held, State, StateName, StateStep, StateTable};
 use pf_table::{Entry, Table};
 use pf_ticket::{RulesetName, Ticket, TicketRange, TicketRefusal, Tickets};
 use std::alloc::Global;
@@ -71,7 +71,7 @@ fn rules_and_tables_are_put_at_their_paths(rt: HostRuntime) -> Result<(), Fail> 
 }
 
 /// An insert of a state for this packet.
-fn insert(alloc: Global, id: u64, packet: &str) -> Result<Step, Fail> {
+fn insert(alloc: Global, id: u64, packet: &str) -> Result<StateStep, Fail> {
     let packet = Packet::parse(alloc, packet)?;
     let held = Held {
         expiry: 0,
@@ -80,7 +80,7 @@ fn insert(alloc: Global, id: u64, packet: &str) -> Result<Step, Fail> {
         bound: Bound::Default,
     };
     let name = StateName { id, creator: 2 };
-    Ok(Step::Insert(State::new(alloc, name, held)?))
+    Ok(StateStep::Insert(State::new(alloc, name, held)?))
 }
 
 #[test]

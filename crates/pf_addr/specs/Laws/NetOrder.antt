@@ -3,7 +3,7 @@ use Rattle.std.proofs.{Common.{◌≡◌, ℕ, ◌*◌, ◌-◌, ◌/◌, ◌^�
 use Rattle.std.specs.{Cmp.{IsTotalOrder, on_total, then_total, nat_cmp_is}, FinMap.{IsAntisymmetric, nat_cmp-IsAntisymmetric}, Ordering.{ordering_then, is_eq, nat_cmp}, declared.{cmp.Ordering.Ordering, cmp.Ordering.TheVariants.Less, cmp.Ordering.TheVariants.Equal, cmp.Ordering.TheVariants.Greater}}
 use Rattle.pf_addr.specs.{declared.{addr.Family.Family, addr.Family.TheVariants.V4, addr.Family.TheVariants.V6}, Address.{PlainNet, width}, NetForms.first_number}
 use Rattle.pf_addr.specs.NetOrder.{rank, net_order, hint_in, net_hint}
-use Rattle.pf_map.specs.Hints.{RisesWith}
+use Rattle.pf_key.specs.Keys.{RisesWith}
 
 pub net_total : IsTotalOrder net_order
 unfolding net_order

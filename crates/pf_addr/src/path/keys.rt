@@ -1,11 +1,11 @@
-//! Paths and names as keys of maps, by their bytes.
+//! Paths and names as keys of maps, by their bytes, and bytes to look for a path by.
 ghost use Rattle.std.specs.{Prelude.{◌≡◌, get_or}, FinMap.{slice_cmp-IsAntisymmetric, nat_cmp-IsAntisymmetric}, Cmp.Lexicographic.nat_list_cmp_total};
 ghost use Rattle.pf_addr.specs.{Path.Names.name_order, Path.Paths.path_order};
 ghost use Rattle.pf_addr.specs.Path.FirstBytes.{front_number, front_rises};
 
 use crate::path::name::Name;
 use crate::path::path::Path;
-use pf_map::{Key, Probe};
+use pf_key::{Key, Probe};
 use std::cmp::Ordering;
 
 // The byte at a place; zero past the end.
@@ -50,9 +50,10 @@ impl Key for Path {
     ghost rises = { front_rises 8 };
 }
 
-/// What a path is looked for by where none is made, which is long to copy: the bytes that it has. Bytes that are no path's are never found.
+/// The bytes of a path that is looked for. No path is made for it, since one is long to copy. Bytes that are no path's are never found.
 #[derive(Clone, Copy)]
 pub struct PathBytes<'a> {
+    /// The bytes, as [`Path::as_bytes`] gives them; none for the main ruleset's path.
     pub bytes: &'a [u8],
 }
 

@@ -11,7 +11,7 @@ use crate::path::path::Path;
 use crate::path::path_text::fault_in;
 use crate::path::reference::Reference;
 use pf_form::bytes::{
-    Fault, Fitting, Layout, Ordered, Rest, Stop, expect, push_bytes, push_counted_bytes,
+    Fault, Fitting, Layout, Ordered, Rest, Undecoded, expect, push_bytes, push_counted_bytes,
     push_padded, push_u8, read_counted_bytes, read_filled, read_flag,
 };
 use std::alloc::{AllocError, Global};
@@ -32,12 +32,12 @@ impl Layout for Path {
     ghost before = { λ p q. is_lt (path_order p q) };
 
     #[tactic(auto, unfolding(crate::specs::Path::PathForms::path_form))]
-    fn read<'a>(alloc: Global, _version: u8, from: &mut Rest<'a>) -> Result<Path, Stop> {
+    fn read<'a>(alloc: Global, _version: u8, from: &mut Rest<'a>) -> Result<Path, Undecoded> {
         let left = from.len();
         let text = read_counted_bytes(alloc, from)?;
         match Path::of_bytes(&text) {
             Some(path) => Ok(path),
-            None => Err(Stop::Fault(Fault::Bad(left))),
+            None => Err(Undecoded::Fault(Fault::Bad(left))),
         }
     }
 
@@ -89,12 +89,12 @@ impl Layout for TableName {
     ghost before = { λ m n. is_lt (name_order m n) };
 
     #[tactic(auto, unfolding(crate::specs::Path::PathForms::table_name_form))]
-    fn read<'a>(alloc: Global, _version: u8, from: &mut Rest<'a>) -> Result<TableName, Stop> {
+    fn read<'a>(alloc: Global, _version: u8, from: &mut Rest<'a>) -> Result<TableName, Undecoded> {
         let left = from.len();
         let text = read_counted_bytes(alloc, from)?;
         match TableName::from_ascii(&text) {
             Ok(name) => Ok(name),
-            Err(_) => Err(Stop::Fault(Fault::Bad(left))),
+            Err(_) => Err(Undecoded::Fault(Fault::Bad(left))),
         }
     }
 
@@ -125,7 +125,7 @@ impl Ordered for TableName {
 pub fn read_name<'a, const LIMIT: usize>(
     width: usize,
     from: &mut Rest<'a>,
-) -> Result<Name<LIMIT>, Stop>
+) -> Result<Name<LIMIT>, Undecoded>
     requires fits { LIMIT ≤ 255 }
     ensures { Reads (λ name. filled width name) (name_field LIMIT width) result from.old.now from.new.now }
 {
@@ -133,7 +133,7 @@ pub fn read_name<'a, const LIMIT: usize>(
     let text = read_filled(width, from)?;
     match Name::from_ascii(text) {
         Ok(name) => Ok(name),
-        Err(_) => Err(Stop::Fault(Fault::Bad(left))),
+        Err(_) => Err(Undecoded::Fault(Fault::Bad(left))),
     }
 }
 
@@ -156,14 +156,14 @@ impl Layout for Reference {
     ghost before = { λ p q. true };
 
     #[tactic(auto, unfolding(crate::specs::Path::PathForms::reference_form))]
-    fn read<'a>(_alloc: Global, _version: u8, from: &mut Rest<'a>) -> Result<Reference, Stop> {
+    fn read<'a>(_alloc: Global, _version: u8, from: &mut Rest<'a>) -> Result<Reference, Undecoded> {
         let left = from.len();
         let names = read_filled(REFERENCE_FIELD, from)?;
         let is_wildcard = read_flag(from)?;
         expect(from, &[0, 0, 0])?;
         match Reference::of_names(names, is_wildcard) {
             Some(reference) => Ok(reference),
-            None => Err(Stop::Fault(Fault::Bad(left))),
+            None => Err(Undecoded::Fault(Fault::Bad(left))),
         }
     }
 

@@ -72,8 +72,9 @@ impl Reference {
         &self.bytes[..self.len as usize]
     }
 
-    /// The path that its names lead to from the main ruleset: the names alone (pf.conf(5), ANCHORS).
-    pub fn from_main(&self) -> PathBytes<'_>
+    /// The path that its names lead to from the main ruleset: the names alone (pf.conf(5), ANCHORS); of one with a wildcard, the path whose
+    /// children are meant.
+    pub fn path_from_main(&self) -> PathBytes<'_>
         ensures { path_within main self.now.names ≡ Some result.bytes.now }
     {
         PathBytes {

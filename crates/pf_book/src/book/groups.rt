@@ -13,7 +13,8 @@ use crate::course::{Course, all_stored, course_of};
 use crate::saving::share_all;
 use pf_core::{Change, Command, Next, Refusal, Reply, check_group};
 use pf_disk::Disk;
-use std::sync::{Arc, Wait};
+use pf_view::Publisher;
+use std::sync::Arc;
 
 // The replies without the changes.
 fn alone(answer: Result<(Vec<Reply>, Vec<Arc<Change>>), Refusal>) -> Result<Vec<Reply>, Refusal>
@@ -25,7 +26,7 @@ fn alone(answer: Result<(Vec<Reply>, Vec<Arc<Change>>), Refusal>) -> Result<Vec<
     }
 }
 
-impl<D: Disk + Drop, J: Chapter, R: Wait + Drop> Book<D, J, R> {
+impl<D: Disk + Drop, J: Chapter, S: Publisher<J> + Drop> Book<D, J, S> {
     // Keeps changes that the core wants as one group, which leaves `next`, and returns them for receipts. They aren't shown yet.
     fn keep_all(&mut self, changes: Vec<Change>, next: Next) -> Result<Vec<Arc<Change>>, Refusal>
         requires made { next ≡ left_together self.old.whole.durable changes.items }

@@ -12,13 +12,13 @@ use crate::receipt::Receipt;
 use pf_core::{Change, Command, Refusal, Reply};
 use pf_disk::Disk;
 use pf_past::Front;
-use pf_view::{Seer, Shower, Token};
-use std::sync::{Arc, Wait};
+use pf_view::{Publisher, Seer, Token};
+use std::sync::Arc;
 use std::vec::IntoIter;
 
 // A token of what is shown, after `Applied` alone.
-fn token_after<J: Chapter, R: Wait + Drop>(reply: &Reply, shower: &Shower<J, R>) -> Option<Token<J>>
-    ensures { result ≡ token_of reply.now shower.now.shown }
+fn token_after<J: Chapter, S: Publisher<J>>(reply: &Reply, shower: &S) -> Option<Token<J>>
+    ensures { result ≡ token_of reply.now (S.plain shower.now).shown }
 {
     match reply {
         Reply::Applied { .. } => Some(shower.token()),
@@ -52,7 +52,7 @@ fn give(reply: &Reply, given: &mut IntoIter<Arc<Change>>) -> Option<Arc<Change>>
     if is_kept(reply) { given.next() } else { None }
 }
 
-impl<D: Disk + Drop, J: Chapter, R: Wait + Drop> Book<D, J, R> {
+impl<D: Disk + Drop, J: Chapter, S: Publisher<J> + Drop> Book<D, J, S> {
     /// One call, with a receipt whose front is the whole history. The caller may hand in an earlier receipt.
     pub(crate) fn answer(
         &mut self,

@@ -7,7 +7,7 @@ use Rattle.pf_table.specs.declared.limits.TheConstants.{TABLE_LIMIT}
 use Rattle.pf_table.specs.{Entries.PlainEntry, Edits.{added, deleted, replaced, conflict_in}}
 use Rattle.pf_anchor.specs.declared.limits.TheConstants.{RULESET_LIMIT, TABLE_COUNT_LIMIT}
 use Rattle.pf_anchor.specs.{Configurations.{PlainConfig, nothing, with_rulesets, with_tables}, Evaluation.judged, Rulesets.{PlainPlaced, rules_at}, Tables.{PlainPlacedTable, placed_table, table_at}}
-use Rattle.pf_state.specs.{declared.{state.StateName.StateName, step.Step.Step}, Flows.flow_of, States.{PlainState, state_of, stands}, Steps.{after as stepped_on, passes_limit, without_state, without_due, any_inserts_due}}
+use Rattle.pf_state.specs.{declared.{state.StateName.StateName, step.StateStep.StateStep}, Flows.flow_of, States.{PlainState, state_of, stands}, Steps.{after as stepped_on, passes_limit, without_state, without_due, any_inserts_due}}
 use Rattle.pf_ticket.specs.declared.name.RulesetName.{RulesetName}
 use Rattle.pf_ticket.specs.{Names.{filter_at, table_ruleset_at}, NamedTables.PlainDefinedTable, Replies.twice_behind}
 use Rattle.pf_core.specs.declared.{durable.change.Item.Item, durable.refusal.ChangeRefusal.ChangeRefusal, durable.refusal.ChangeRefusal.TheVariants.Twice, durable.refusal.ChangeRefusal.TheVariants.Conflict, durable.refusal.ChangeRefusal.TheVariants.TableFull, durable.refusal.ChangeRefusal.TheVariants.TooManyRulesets, durable.refusal.ChangeRefusal.TheVariants.TooManyTables, durable.refusal.ChangeRefusal.TheVariants.StatesFull, durable.refusal.ChangeRefusal.TheVariants.BadTick, durable.verdict.Verdict.Verdict, durable.verdict.Verdict.TheVariants.State as Stateful, durable.verdict.Verdict.TheVariants.Rules}
@@ -44,7 +44,7 @@ pub data PlainChange : Type 0 where
   adds : List ℕ → List ℕ → List PlainEntry → PlainChange
   deletes : List ℕ → List ℕ → List PlainEntry → PlainChange
   sets : List ℕ → List ℕ → List PlainEntry → PlainChange
-  acts : List Step → PlainChange
+  acts : List StateStep → PlainChange
   removes : StateName → PlainChange
   expires : ℕ → PlainChange
 

@@ -4,7 +4,7 @@ use Rattle.pf_addr.specs.Path.Names.{name_order}
 use Rattle.pf_anchor.specs.Rulesets.{rules_at}
 use Rattle.pf_ticket.specs.{declared.{entry.RulesetTicket.RulesetTicket, name.RulesetKind.TheVariants.Filter, name.RulesetKind.TheVariants.Table, name.RulesetName.RulesetName}, NamedTables.PlainDefinedTable, Tickets.{rules_in as offered_rules, tables_in as offered_tables, offer_at, PlainTickets, valid_ticket, content}, Mentions.{named_in, after, switches}, Names.{same_kind, is_named, names_of, filter_at, table_ruleset_at}}
 use Rattle.pf_rule.specs.Packets.{PlainPacket}
-use Rattle.pf_state.specs.{declared.{state.StateName.StateName, step.Insertion.TheVariants.New, step.Step.TheVariants.Insert}, States.{PlainState, all_stand}, Steps.insertion}
+use Rattle.pf_state.specs.{declared.{state.StateName.StateName, step.Insertion.TheVariants.New, step.StateStep.TheVariants.Insert}, States.{PlainState, all_stand}, Steps.insertion}
 use Rattle.pf_core.specs.{declared.{command.Command.Command, command.StateCommand.TheVariants.Track, command.Command.TheVariants.Transact, command.Transaction.TheVariants.Commit, reply.Outcome.Outcome, reply.Refusal.Refusal, reply.Reply.Reply, reply.Reply.TheVariants.Refused, step.Step.TheVariants.Wants}, Calls.{Call, call, mentions_of}, Commands.{items, step_by, states_step, mentioned, named_by, is_accepted}, Durable.Changes.{PlainDurable, PlainChange, commits, acts, entries_at, applied, voided_by, fits}}
 
 -- the tables that are offered for the table ruleset at a path

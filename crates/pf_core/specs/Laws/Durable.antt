@@ -4,7 +4,7 @@ use Rattle.pf_table.specs.{Edits.{added, deleted, replaced}, Entries.PlainEntry,
 use Rattle.pf_map.specs.ListMaps.{list_by}
 use Rattle.pf_anchor.specs.declared.limits.TheConstants.{RULE_LIMIT, RULESET_LIMIT, TABLE_COUNT_LIMIT}
 use Rattle.pf_anchor.specs.{Configurations.IsConfiguration, Laws.Configurations.rules_by, Rulesets.rules_at, Tables.{table_order, IsTableMap}}
-use Rattle.pf_state.specs.{declared.{state.StateName.StateName, step.Step.Step}, States.{PlainState, IsStates, all_stand}, Steps.{after as stepped_on, without_state, without_due}}
+use Rattle.pf_state.specs.{declared.{state.StateName.StateName, step.StateStep.StateStep}, States.{PlainState, IsStates, all_stand}, Steps.{after as stepped_on, without_state, without_due}}
 use Rattle.pf_core.specs.declared.durable.change.Item.{Item}
 use Rattle.pf_core.specs.Durable.Changes.{PlainDurable, PlainChange, commits, adds, deletes, sets, acts, removes, expires, rulesets_in, tables_in, entries_at, applied, after, fits}
 
@@ -58,7 +58,7 @@ pub record IsStepped (d : PlainDurable) (now : ℕ) (ss : List PlainState) (new 
 
 -- a change of states changes nothing else, and only a tick the tick
 pub record StepsExactly : Type 0 where
-  pub by_steps : (d : PlainDurable) (steps : List Step) → IsStepped d d.tick (stepped_on d.states steps) (applied d (acts steps))
+  pub by_steps : (d : PlainDurable) (steps : List StateStep) → IsStepped d d.tick (stepped_on d.states steps) (applied d (acts steps))
   pub by_removal : (d : PlainDurable) (name : StateName) → IsStepped d d.tick (without_state d.states name) (applied d (removes name))
   pub by_tick : (d : PlainDurable) (tick : ℕ) → IsStepped d tick (without_due d.states tick) (applied d (expires tick))
 
@@ -96,7 +96,7 @@ pub record StaysWithin (d : PlainDurable) : Type 0 where
   pub by_add : (p name : List ℕ) (xs : List PlainEntry) → fits d (adds p name xs) ≡ Ok tt → IsWithin (applied d (adds p name xs))
   pub by_delete : (p name : List ℕ) (xs : List PlainEntry) → IsWithin (applied d (deletes p name xs))
   pub by_set : (p name : List ℕ) (xs : List PlainEntry) → fits d (sets p name xs) ≡ Ok tt → IsWithin (applied d (sets p name xs))
-  pub by_steps : (steps : List Step) → fits d (acts steps) ≡ Ok tt → IsWithin (applied d (acts steps))
+  pub by_steps : (steps : List StateStep) → fits d (acts steps) ≡ Ok tt → IsWithin (applied d (acts steps))
   pub by_removal : (name : StateName) → IsWithin (applied d (removes name))
   pub by_tick : (tick : ℕ) → IsWithin (applied d (expires tick))
 

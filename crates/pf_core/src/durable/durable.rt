@@ -1,5 +1,5 @@
 //! What is kept.
-ghost use Rattle.std.specs.{Prelude.{◌≡◌, ◌==◌, ◌++◌, ◌<◌, ◌^◌, ℕ, [], T, not, true, map, length, Err, IfOk, OnOk}, FinMap.is_sorted, List.list_all, Arc.arc_value};
+ghost use Rattle.std.specs.{Prelude.{◌≡◌, ◌==◌, ◌++◌, ◌<◌, ◌^◌, ℕ, [], T, not, true, map, length, None, Err, IfOk, OnOk}, FinMap.is_sorted, List.list_all, Arc.arc_value};
 ghost use Rattle.pf_addr.specs.{Refusing.{refused_at, OrMemory, Meets}, Path.Names.name_order};
 ghost use Rattle.pf_anchor.specs.Configurations.{with_rulesets};
 ghost use Rattle.pf_table.specs.{Edits.{added, additions, deleted, deletions, replaced}, Tables.deciding};
@@ -18,7 +18,7 @@ use pf_anchor::{Config, Path, Placed, PlacedTable};
 use pf_rule::Packet;
 use pf_rule::sum::ruleset_sum;
 use pf_state::layouts::{EXPIRY_FROM, states_length};
-use pf_state::{Counts, StateName, StateTable, Step, any_inserts_due};
+use pf_state::{Counts, StateName, StateStep, StateTable, any_inserts_due};
 use pf_table::{Addition, Deletion, Entry, Table};
 use pf_ticket::{Defined, named_twice};
 use std::alloc::{AllocError, Global};
@@ -149,8 +149,8 @@ impl Durable {
         })
     }
 
-    // The same, all of it shared.
-    fn shared(&self) -> Result<Durable, AllocError>
+    // This once more, all of it shared. `AllocError`: nothing is made.
+    fn shared_all(&self) -> Result<Durable, AllocError>
         ensures { IfOk result (λ d. d ≡ self.now) }
     {
         Ok(Durable {
@@ -333,6 +333,14 @@ impl Durable {
         ensures { OrMemory Memory result (fits self.now (commits items.now)) }
     {
         check_names(alloc, items)?;
+        self.check_limits(alloc, items)
+    }
+
+    // The same of items that name no ruleset twice.
+    pub(crate) fn check_limits(&self, alloc: Global, items: &[Item]) -> Result<(), ChangeRefusal>
+        requires { twice_behind [] (map name_of items.now) ≡ None }
+        ensures { OrMemory Memory result (fits self.now (commits items.now)) }
+    {
         let tables = tables_in(alloc, items)?;
         let rulesets = rulesets_in(alloc, items)?;
         if self.config.would_be_too_many(alloc, rulesets.as_slice())? {
@@ -372,7 +380,7 @@ impl Durable {
         Ok(Durable {
             sum: self.sum_after(rulesets.as_slice(), &config)?,
             config: shared(alloc, config.with_tables(alloc, tables.as_slice())?)?,
-            ..self.shared()?
+            ..self.shared_all()?
         })
     }
 
@@ -389,7 +397,7 @@ impl Durable {
         let tables = [PlacedTable::new(alloc, (path.copied(), *name), table)?];
         Ok(Durable {
             config: shared(alloc, self.config.with_tables(alloc, &tables)?)?,
-            ..self.shared()?
+            ..self.shared_all()?
         })
     }
 
@@ -412,7 +420,7 @@ impl Durable {
     pub fn with_stepped(
         &self,
         alloc: Global,
-        steps: &[Step],
+        steps: &[StateStep],
     ) -> Result<(StateTable, Counts), ChangeRefusal>
         ensures fits { Meets Memory result (fits self.now (acts steps.now)) }
         ensures states { IfOk result (λ r. r.0 ≡ after self.now.states steps.now) }
@@ -451,7 +459,7 @@ impl Durable {
     {
         Ok(Durable {
             states: shared(alloc, states)?,
-            ..self.shared()?
+            ..self.shared_all()?
         })
     }
 
@@ -476,7 +484,7 @@ impl Durable {
         let left = Durable {
             tick,
             states: shared(alloc, states)?,
-            ..self.shared()?
+            ..self.shared_all()?
         };
         Ok((left, expired))
     }
@@ -487,7 +495,7 @@ impl Durable {
     {
         Ok(Durable {
             epoch: next,
-            ..self.shared()?
+            ..self.shared_all()?
         })
     }
 

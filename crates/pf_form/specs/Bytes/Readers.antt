@@ -1,22 +1,22 @@
 -- What the functions that read bytes return, and why bytes are no value's.
 use Rattle.std.specs.Prelude.{◌≡◌, ◌<◌, ℕ, List, [], ◌∷◌, ◌++◌, length, Result, Ok, Err, ◌⊎◌}
-use Rattle.pf_form.specs.declared.bytes.fault.{Fault.Fault, Stop.Stop}
+use Rattle.pf_form.specs.declared.bytes.fault.{Fault.Fault, Undecoded.Undecoded}
 use Rattle.pf_form.specs.{Bytes.BasicForms.{Read, ◌>>=◌}, Bytes.Forms.{Shape, Value, Form, reads, writes, Fits, Faults}}
 use Rattle.pf_form.specs.declared.bytes.fault.Fault.TheVariants as fault
-use Rattle.pf_form.specs.declared.bytes.fault.Stop.TheVariants as stop
+use Rattle.pf_form.specs.declared.bytes.fault.Undecoded.TheVariants as undecoded
 
 -- the fault of the reading, unless memory ran out
-abbrev pub Fails : {Y : Type 0} → Stop → Result Y Fault → Type 0
-Fails stop.Memory read = Unit {0}
-Fails (stop.Fault f) read = read ≡ Err f
+abbrev pub Fails : {Y : Type 0} → Undecoded → Result Y Fault → Type 0
+Fails undecoded.Memory read = Unit {0}
+Fails (undecoded.Fault f) read = read ≡ Err f
 
 -- what is returned, seen by view, and what is left
-abbrev pub Gives : {X A : Type 0} → (X → A) → Result X Stop → List ℕ → Read A → Type 0
+abbrev pub Gives : {X A : Type 0} → (X → A) → Result X Undecoded → List ℕ → Read A → Type 0
 Gives view (Ok x) after read = read ≡ Ok (view x, after)
 Gives view (Err s) after read = Fails s read
 
 -- The bytes move on as the form's reading does.
-abbrev pub Reads : {X : Type 0} {a : Shape} → (X → Value a) → Form a → Result X Stop → List ℕ → List ℕ → Type 0
+abbrev pub Reads : {X : Type 0} {a : Shape} → (X → Value a) → Form a → Result X Undecoded → List ℕ → List ℕ → Type 0
 Reads view f result before after = Gives view result after (reads f before)
 
 -- ---- whole texts
@@ -32,14 +32,14 @@ ended x = end_at x.1 >>= λ u. Ok x.0
 abbrev pub read_all : {a : Shape} → Form a → List ℕ → Result (Value a) Fault
 read_all f bytes = reads f bytes >>= ended
 
-abbrev pub GivesAll : {X A : Type 0} → (X → A) → Result X Stop → Result A Fault → Type 0
+abbrev pub GivesAll : {X A : Type 0} → (X → A) → Result X Undecoded → Result A Fault → Type 0
 GivesAll view (Ok x) read = read ≡ Ok (view x)
 GivesAll view (Err s) read = Fails s read
 
 -- this holds of the fault, if there is one
-abbrev pub IfFault : Stop → (Fault → Type 0) → Type 0
-IfFault stop.Memory P = Unit {0}
-IfFault (stop.Fault f) P = P f
+abbrev pub IfFault : Undecoded → (Fault → Type 0) → Type 0
+IfFault undecoded.Memory P = Unit {0}
+IfFault (undecoded.Fault f) P = P f
 
 -- ---- why bytes are no value's, by what is written and not by reading
 

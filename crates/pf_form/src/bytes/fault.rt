@@ -1,6 +1,6 @@
 //! Why bytes could not be read.
 ghost use Rattle.std.specs.Prelude.{◌≡◌};
-ghost use Rattle.pf_form.specs.declared.bytes.fault.Stop.TheVariants.{Memory};
+ghost use Rattle.pf_form.specs.declared.bytes.fault.Undecoded.TheVariants.{Memory};
 
 use std::alloc::{AllocError, AllocFailed};
 
@@ -16,25 +16,25 @@ pub enum Fault {
 
 /// Why bytes could not be read: they have a fault, or there was no memory for the value.
 #[derive(Clone, Copy, Debug, PartialEq, Eq)]
-pub enum Stop {
+pub enum Undecoded {
     /// Out of memory; nothing is said of the bytes.
     Memory,
     /// The bytes have this fault.
     Fault(Fault),
 }
 
-impl From<AllocError> for Stop {
+impl From<AllocError> for Undecoded {
     ghost from_gives = { λ _ e. e ≡ Memory };
 
-    fn from(_e: AllocError) -> Stop {
-        Stop::Memory
+    fn from(_e: AllocError) -> Undecoded {
+        Undecoded::Memory
     }
 }
 
-impl<T: Drop> From<AllocFailed<T>> for Stop {
+impl<T: Drop> From<AllocFailed<T>> for Undecoded {
     ghost from_gives = { λ _ e. e ≡ Memory };
 
-    fn from(_e: AllocFailed<T>) -> Stop {
-        Stop::Memory
+    fn from(_e: AllocFailed<T>) -> Undecoded {
+        Undecoded::Memory
     }
 }

@@ -2,7 +2,7 @@
 ghost use Rattle.std.specs.Prelude.{◌≡◌, ℕ, Bool, OnOk};
 ghost use Rattle.pf_form.specs.{Bytes.Forms.{Shape, Value, Form, onto, Fits}, Bytes.Readers.Reads};
 
-use crate::bytes::fault::Stop;
+use crate::bytes::fault::Undecoded;
 use crate::bytes::reading::Rest;
 use std::alloc::{AllocError, Global};
 
@@ -26,7 +26,7 @@ pub trait Layout: Drop + Sized {
     /// Takes a value from the front of the bytes.
     ///
     /// Fails with the first fault of its form there, or out of memory. How many bytes are left then isn't said.
-    fn read<'a>(alloc: Global, version: u8, from: &mut Rest<'a>) -> Result<Self, Stop>
+    fn read<'a>(alloc: Global, version: u8, from: &mut Rest<'a>) -> Result<Self, Undecoded>
         ensures { Reads plain (form version) result from.old.now from.new.now };
 
     /// Appends a value that fits its form to the bytes.

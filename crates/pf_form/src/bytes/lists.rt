@@ -2,7 +2,7 @@
 ghost use Rattle.std.specs.{Prelude.{◌≡◌, true, IfOk, OnOk, map, length}, List.AllByRecursion};
 ghost use Rattle.pf_form.specs.{Bytes.BasicForms.onto_each, Bytes.Forms.{Form, times, counted, onto, Fits}, Bytes.Lists.{ordered, in_order}, Bytes.Readers.Reads};
 
-use crate::bytes::fault::{Fault, Stop};
+use crate::bytes::fault::{Fault, Undecoded};
 use crate::bytes::layout::{Layout, Ordered};
 use crate::bytes::reading::{Rest, read_u32};
 use crate::bytes::writing::push_u32;
@@ -16,7 +16,7 @@ pub fn read_times<'a, T: Layout>(
     version: u8,
     count: usize,
     from: &mut Rest<'a>,
-) -> Result<Vec<T>, Stop>
+) -> Result<Vec<T>, Undecoded>
     ensures { Reads (λ v. map T.plain v.items) (times count (T.form version)) result from.old.now from.new.now }
 {
     let mut items = Vec::new(alloc);
@@ -34,7 +34,7 @@ pub fn read_list<'a, T: Layout>(
     alloc: Global,
     version: u8,
     from: &mut Rest<'a>,
-) -> Result<Vec<T>, Stop>
+) -> Result<Vec<T>, Undecoded>
     ensures { Reads (λ v. map T.plain v.items) (counted 4 (T.form version)) result from.old.now from.new.now }
 {
     let count = read_u32(from)?;
@@ -49,14 +49,14 @@ pub fn read_ordered_list<'a, T: Ordered>(
     alloc: Global,
     version: u8,
     from: &mut Rest<'a>,
-) -> Result<Vec<T>, Stop>
+) -> Result<Vec<T>, Undecoded>
     ensures read { Reads (λ v. map T.plain v.items) (ordered T.before 4 (T.form version)) result from.old.now from.new.now }
     ensures ordered { IfOk result (λ v. in_order T.before (map T.plain v.items) ≡ true) }
 {
     let left = from.len();
     let items = read_list(alloc, version, from)?;
     if !are_in_order(&items) {
-        return Err(Stop::Fault(Fault::Bad(left)));
+        return Err(Undecoded::Fault(Fault::Bad(left)));
     }
     Ok(items)
 }

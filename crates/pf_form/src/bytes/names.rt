@@ -2,7 +2,7 @@
 ghost use Rattle.std.specs.{Prelude.{◌≡◌, ◌≤◌, ◌++◌, length, replicate, nat_lt, IfOk, OnOk}, List.prefix_len};
 ghost use Rattle.pf_form.specs.{Bytes.Forms.{Form, onto}, Bytes.Names.{filled, are_zeros, padded, before_zero}, Bytes.Readers.Reads};
 
-use crate::bytes::fault::{Fault, Stop};
+use crate::bytes::fault::{Fault, Undecoded};
 use crate::bytes::reading::Rest;
 use crate::bytes::writing::push_bytes;
 use std::alloc::{AllocError, Global};
@@ -10,25 +10,29 @@ use std::alloc::{AllocError, Global};
 /// The name in a field of so many bytes: those before its first zero, or all. It takes no memory.
 ///
 /// Fails if fewer bytes are left; or, if another byte comes after a zero, at the field's first byte.
-pub fn read_filled<'a>(width: usize, from: &mut Rest<'a>) -> Result<&'a [u8], Stop>
+pub fn read_filled<'a>(width: usize, from: &mut Rest<'a>) -> Result<&'a [u8], Undecoded>
     ensures read { Reads (λ name. filled width name.now) (padded width) result from.old.now from.new.now }
     ensures name { IfOk result (λ name. before_zero (filled width name.now) ≡ name.now) }
 {
     let left = from.len();
     if left < width {
-        return Err(Stop::Fault(Fault::Short));
+        return Err(Undecoded::Fault(Fault::Short));
     }
     let (field, rest) = from.split_at(width);
     let (name, zeros) = field.split_at(name_length(field));
     if !are_zeros(zeros) {
-        return Err(Stop::Fault(Fault::Bad(left)));
+        return Err(Undecoded::Fault(Fault::Bad(left)));
     }
     *from = rest;
     Ok(name)
 }
 
 /// Like [`read_filled`], as a list of its own. Fails too when out of memory.
-pub fn read_padded<'a>(alloc: Global, width: usize, from: &mut Rest<'a>) -> Result<Vec<u8>, Stop>
+pub fn read_padded<'a>(
+    alloc: Global,
+    width: usize,
+    from: &mut Rest<'a>,
+) -> Result<Vec<u8>, Undecoded>
     ensures { Reads (λ v. filled width v.items) (padded width) result from.old.now from.new.now }
 {
     let name = read_filled(width, from)?;

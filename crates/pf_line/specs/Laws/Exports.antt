@@ -2,7 +2,7 @@
 use Rattle.std.specs.Prelude.{◌≡◌, ◌≤◌, ℕ, List, [], length, map, Some, Ok}
 use Rattle.hex.specs.Hex.{IsBytes}
 pub use Rattle.pf_state.specs.declared.peer.message.Message.{Message}
-pub use Rattle.pf_state.specs.declared.step.Step.{Step}
+pub use Rattle.pf_state.specs.declared.step.StateStep.{StateStep}
 use Rattle.pf_state.specs.{Peer.Written.{Each, message_bytes}, States.{PlainState, IsStates}, Failover.Outgoing.exported_messages, Laws.Failover.{IsState, state_there}}
 use Rattle.pf_anchor.specs.Rulesets.{rules_at}
 use Rattle.pf_core.specs.Durable.Changes.{PlainDurable, main_sum}

@@ -9,7 +9,9 @@ use crate::sum::host_form::TABLE_FIELD;
 use crate::{Comparison, Host, PortRange, PortTest, TableName};
 use pf_addr::path::read_name;
 use pf_addr::{Family, Net, read_addr};
-use pf_form::bytes::{Fault, Rest, Stop, expect, read_below, read_flag, read_u8, read_u16, takes};
+use pf_form::bytes::{
+    Fault, Rest, Undecoded, expect, read_below, read_flag, read_u8, read_u16, takes,
+};
 
 /// The operator for a number from 1 to 6.
 fn comparison_of(test: u8) -> Comparison
@@ -42,7 +44,7 @@ fn range_of(test: u8) -> PortRange
 
 /// The test of a port; always none if ports can't be tested.
 #[tactic(auto, unfolding(crate::specs::Sum::Layouts::port_test))]
-fn read_test<'a>(ports: bool, from: &mut Rest<'a>) -> Result<Option<PortTest>, Stop>
+fn read_test<'a>(ports: bool, from: &mut Rest<'a>) -> Result<Option<PortTest>, Undecoded>
     ensures read { Reads plain_test (port_test ports) result from.old.now from.new.now }
     ensures kept { IfOk result (λ p. IfSome p IsPortTest) }
     ensures none { IfOk result (λ p. ports ≡ false → p ≡ None) }
@@ -72,7 +74,7 @@ fn read_network_end<'a>(
     ports: bool,
     family: Option<Family>,
     from: &mut Rest<'a>,
-) -> Result<(Net, bool, Option<PortTest>), Stop>
+) -> Result<(Net, bool, Option<PortTest>), Undecoded>
     ensures read { Reads (λ e. (flag_byte e.1, (e.0.len, (plain_test e.2, first_number e.0)))) (network_end ports (plain_family family))
         result from.old.now from.new.now }
     ensures kept { IfOk result (λ e. (family ≡ Some e.0.family) × IsNetwork e.0) }
@@ -81,7 +83,7 @@ fn read_network_end<'a>(
 {
     let left = from.len();
     let Some(family) = family else {
-        return Err(Stop::Fault(Fault::Bad(left)));
+        return Err(Undecoded::Fault(Fault::Bad(left)));
     };
     let is_negated = read_flag(from)?;
     let length = read_u8(from)?;
@@ -89,7 +91,7 @@ fn read_network_end<'a>(
     let first = read_addr(family, from)?;
     expect(from, &[0; 32])?;
     let Some(net) = Net::starting_at(first, length) else {
-        return Err(Stop::Fault(Fault::Bad(left)));
+        return Err(Undecoded::Fault(Fault::Bad(left)));
     };
     // `family` promises that this is a network
     let _family = net.family();
@@ -101,7 +103,7 @@ fn read_network_end<'a>(
 fn read_table_end<'a>(
     ports: bool,
     from: &mut Rest<'a>,
-) -> Result<(TableName, bool, Option<PortTest>), Stop>
+) -> Result<(TableName, bool, Option<PortTest>), Undecoded>
     ensures read { Reads (λ e. (flag_byte e.1, (plain_test e.2, filled 32 e.0))) (table_end ports) result from.old.now from.new.now }
     ensures kept { IfOk result (λ e. IsTableName e.0) }
     ensures port { IfOk result (λ e. IfSome e.2 IsPortTest) }
@@ -123,7 +125,7 @@ pub(crate) fn read_end<'a>(
     ports: bool,
     family: Option<Family>,
     from: &mut Rest<'a>,
-) -> Result<End, Stop>
+) -> Result<End, Undecoded>
     ensures read { Reads (λ e. plain_end e.0 e.1) (end ports (plain_family family)) result from.old.now from.new.now }
     ensures kept { IfOk result (λ e. HostFits family e.0) }
     ensures port { IfOk result (λ e. IfSome e.1 IsPortTest) }

@@ -11,7 +11,7 @@ use crate::{Action, Direction, Effect, Interface, Label, Protocol, Rule};
 use pf_addr::path::{Reference, read_name};
 use pf_addr::{Family, read_family};
 use pf_form::bytes::{
-    Fault, Layout, Rest, Stop, expect, push_bytes, read_below, read_flag, read_u8, takes,
+    Fault, Layout, Rest, Undecoded, expect, push_bytes, read_below, read_flag, read_u8, takes,
 };
 use std::alloc::{AllocError, Global};
 
@@ -42,7 +42,7 @@ impl Layout for Rule {
     ghost before = { λ r s. true };
 
     #[tactic(auto, unfolding(crate::specs::Sum::Layouts::rule_layout))]
-    fn read<'a>(alloc: Global, version: u8, from: &mut Rest<'a>) -> Result<Rule, Stop> {
+    fn read<'a>(alloc: Global, version: u8, from: &mut Rest<'a>) -> Result<Rule, Undecoded> {
         let kind = read_below(3, from)?;
         let direction = read_direction(from)?;
         let quick = read_flag(from)?;
@@ -100,7 +100,7 @@ pub fn rules_fit(rules: &[Rule], version: u8)
 }
 
 /// A direction's byte: 0 any, 1 in, 2 out.
-fn read_direction<'a>(from: &mut Rest<'a>) -> Result<Option<Direction>, Stop>
+fn read_direction<'a>(from: &mut Rest<'a>) -> Result<Option<Direction>, Undecoded>
     ensures { Reads direction_byte (below 3) result from.old.now from.new.now }
 {
     Ok(match read_below(3, from)? {
@@ -112,7 +112,7 @@ fn read_direction<'a>(from: &mut Rest<'a>) -> Result<Option<Direction>, Stop>
 
 /// A family's byte, or 0 for none.
 #[tactic(auto, unfolding(crate::specs::Sum::Layouts::some_family), using(crate::proofs::RuleBytes::family_begins))]
-fn read_some_family<'a>(from: &mut Rest<'a>) -> Result<Option<Family>, Stop>
+fn read_some_family<'a>(from: &mut Rest<'a>) -> Result<Option<Family>, Undecoded>
     ensures { Reads plain_family some_family result from.old.now from.new.now }
 {
     if takes(from, 0)? {
@@ -122,7 +122,7 @@ fn read_some_family<'a>(from: &mut Rest<'a>) -> Result<Option<Family>, Stop>
 }
 
 /// A protocol's number, or 0 for none.
-fn read_protocol<'a>(from: &mut Rest<'a>) -> Result<Option<Protocol>, Stop>
+fn read_protocol<'a>(from: &mut Rest<'a>) -> Result<Option<Protocol>, Undecoded>
     ensures read { Reads (λ p. unwrap_or p 0) (Form.number 1) result from.old.now from.new.now }
     ensures kept { IfOk result (λ p. IfSome p IsProtocol) }
 {
@@ -135,7 +135,7 @@ fn read_protocol<'a>(from: &mut Rest<'a>) -> Result<Option<Protocol>, Stop>
 
 /// An interface's name in its field, or zeros for none.
 #[tactic(auto, unfolding(crate::specs::Sum::Layouts::interface), using(crate::proofs::RuleBytes::interface_begins))]
-fn read_interface<'a>(from: &mut Rest<'a>) -> Result<Option<Interface>, Stop>
+fn read_interface<'a>(from: &mut Rest<'a>) -> Result<Option<Interface>, Undecoded>
     ensures read { Reads plain_interface interface result from.old.now from.new.now }
     ensures kept { IfOk result (λ i. IfSome i IsInterfaceName) }
 {
@@ -167,7 +167,7 @@ fn read_ending<'a>(
     kind: u8,
     keeps: bool,
     from: &mut Rest<'a>,
-) -> Result<(Effect, Option<Label>), Stop>
+) -> Result<(Effect, Option<Label>), Undecoded>
     requires kind { kind < 3 }
     requires keeps { (kind == 1) ≡ false → keeps ≡ false }
     ensures read { Reads (λ e. plain_ending e.0 e.1) (named (has_labels version) (kind == 2)) result from.old.now from.new.now }
@@ -192,7 +192,7 @@ fn read_ending<'a>(
 
 /// A label's length, two zeros and the label; three zeros in a version without labels.
 #[tactic(auto, unfolding(crate::specs::Sum::Layouts::label_form))]
-fn read_label<'a>(version: u8, from: &mut Rest<'a>) -> Result<Option<Label>, Stop>
+fn read_label<'a>(version: u8, from: &mut Rest<'a>) -> Result<Option<Label>, Undecoded>
     ensures read { Reads plain_label (label_form (has_labels version)) result from.old.now from.new.now }
     ensures kept { IfOk result (λ l. IfSome l IsLabel) }
 {
@@ -209,17 +209,17 @@ fn read_label<'a>(version: u8, from: &mut Rest<'a>) -> Result<Option<Label>, Sto
     }
     match Label::from_ascii(bytes) {
         Ok(label) => Ok(Some(label)),
-        Err(_) => Err(Stop::Fault(Fault::Bad(left))),
+        Err(_) => Err(Undecoded::Fault(Fault::Bad(left))),
     }
 }
 
 /// The next `count` bytes. Fails if fewer are left.
-fn read_front<'a>(count: usize, from: &mut Rest<'a>) -> Result<&'a [u8], Stop>
+fn read_front<'a>(count: usize, from: &mut Rest<'a>) -> Result<&'a [u8], Undecoded>
     ensures read { Reads (λ b. b.now) (times count (Form.number 1)) result from.old.now from.new.now }
     ensures length { IfOk result (λ b. length b.now ≡ count) }
 {
     if from.len() < count {
-        return Err(Stop::Fault(Fault::Short));
+        return Err(Undecoded::Fault(Fault::Short));
     }
     let (front, rest) = from.split_at(count);
     *from = rest;

@@ -1,4 +1,4 @@
-//! The texts of a rule's tests, with a space before each word.
+//! The texts of a rule's tests, with a space before each word; and that of a protocol alone, without one.
 ghost use Rattle.std.specs.Prelude.{◌≡◌, ◌++◌, true, codes, decimal};
 ghost use Rattle.pf_addr.specs.Writing.{Continues};
 ghost use Rattle.pf_rule.specs.{Value.Spacing.{is_word, spaced}, Value.Tests.{direction_words, interface_words, family_words, protocol_word, protocol_words}, Value.Ports.{operator_word, port_words}};
@@ -50,7 +50,7 @@ pub fn write_interface<W: Write>(
     }
 }
 
-/// Writes a test of the protocol.
+/// Writes a test of the protocol after what was written so far.
 #[tactic(auto, using(crate::specs::Value::Spacing::continuing))]
 pub fn write_protocol<W: Write>(
     out: &mut W,
@@ -66,7 +66,8 @@ pub fn write_protocol<W: Write>(
     write_more_protocol(out, so_far, protocol)
 }
 
-/// Writes a protocol after what was written so far: its name, if it has one, or its number. Its errors are those of [`write_more`].
+/// Writes a protocol after what was written so far: its name, if it has one, or its number. What it writes is one word of a
+/// line. Its errors are those of [`write_more`].
 #[tactic(auto, using(crate::specs::Laws::Value::Tests::protocol_is_word))]
 pub fn write_more_protocol<W: Write>(
     out: &mut W,

@@ -1,6 +1,6 @@
 -- Laws of what a message asks for and of an export, as law functions promise them.
 use Rattle.std.specs.{Prelude.{◌≡◌, ℕ, ◌<◌, ◌≤◌, ◌^◌, ◌&&◌, false, nat_lt, cond, List, [], ◌∷◌, length, map}, List.{concat, flat_map, sum_by}, Str.bytes_eq}
-use Rattle.pf_state.specs.{declared.{peer.message.Group.Group, peer.message.Group.TheVariants.Inserts, peer.message.Group.TheVariants.Deletes, peer.message.Group.TheVariants.Clears, peer.message.Message.Message, peer.message.TheConstants.MESSAGE_LIMIT, binding.TheConstants.ALL_ONES, state.Bound.Bound, state.Bound.TheVariants.Rule, state.Bound.TheVariants.Default, step.Step.Step, step.Step.TheVariants.Insert, failover.outgoing.TheConstants.EXPORT_RECORDS}, Peer.Records.PlainInsert, Peer.Streams.{Reads, Unfinished}, Peer.Written.{Each, message_length, message_bytes}, Flows.IsFlow, States.{PlainState, IsStates}, Steps.{after, passes_limit, any_inserts_due}, Failover.Incoming.steps_of, Failover.Outgoing.{parts, exported_messages}}
+use Rattle.pf_state.specs.{declared.{peer.message.Group.Group, peer.message.Group.TheVariants.Inserts, peer.message.Group.TheVariants.Deletes, peer.message.Group.TheVariants.Clears, peer.message.Message.Message, peer.message.TheConstants.MESSAGE_LIMIT, binding.TheConstants.ALL_ONES, state.Bound.Bound, state.Bound.TheVariants.Rule, state.Bound.TheVariants.Default, step.StateStep.StateStep, step.StateStep.TheVariants.Insert, failover.outgoing.TheConstants.EXPORT_RECORDS}, Peer.Records.PlainInsert, Peer.Streams.{Reads, Unfinished}, Peer.Written.{Each, message_length, message_bytes}, Flows.IsFlow, States.{PlainState, IsStates}, Steps.{after, passes_limit, any_inserts_due}, Failover.Incoming.steps_of, Failover.Outgoing.{parts, exported_messages}}
 
 -- ---- a step for each record
 
@@ -67,7 +67,7 @@ TellsTheStates = (ours theirs : List ℕ) (count : ℕ) (es : List PlainState) �
     → flat_map (λ m. steps_of m theirs count) (exported_messages ours es) ≡ map (λ s. Insert (state_there ours theirs count s)) es
 
 -- these steps are taken if there are no states, no step leaves more states than the limit, and these are left
-pub record MakesStates (steps : List Step) (es : List PlainState) : Type 0 where
+pub record MakesStates (steps : List StateStep) (es : List PlainState) : Type 0 where
   pub left : after [] steps ≡ es
   pub fits : passes_limit [] steps ≡ false
 

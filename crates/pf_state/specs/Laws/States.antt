@@ -1,7 +1,7 @@
 -- Laws of flows, states, steps and bindings, as law functions promise them.
 use Rattle.std.specs.{Prelude.{◌≡◌, ◌≢◌, ℕ, ◌+◌, ◌<◌, ◌≤◌, ◌==◌, ◌&&◌, ◌↔◌, Bool, true, false, cond, List, [], ◌∷◌, length, take, Option, Some, None}, List.count_by, Ordering.eq_by_cmp}
 use Rattle.pf_rule.specs.Packets.{PlainPacket}
-use Rattle.pf_state.specs.{declared.{binding.TheConstants.ALL_ONES, limits.TheConstants.STATE_LIMIT, state.Bound.TheVariants.Rule, state.Bound.TheVariants.Default, state.Held.Held, state.StateName.StateName, step.Insertion.TheVariants.Stale, step.Step.Step, step.Step.TheVariants.Insert, step.Step.TheVariants.Delete, step.Step.TheVariants.Clear}, Flows.{PlainFlow, is_equal, turned, same_flow, flow_of}, States.{PlainState, name_order, held_at, state_of, NamesFlows, IsStates, stands, all_stand}, Steps.{insertion, has_effect, stepped, after, without_due, due_count, any_inserts_due, without_state, counts, passes_limit}, Bindings.{bound, exported}}
+use Rattle.pf_state.specs.{declared.{binding.TheConstants.ALL_ONES, limits.TheConstants.STATE_LIMIT, state.Bound.TheVariants.Rule, state.Bound.TheVariants.Default, state.Held.Held, state.StateName.StateName, step.Insertion.TheVariants.Stale, step.StateStep.StateStep, step.StateStep.TheVariants.Insert, step.StateStep.TheVariants.Delete, step.StateStep.TheVariants.Clear}, Flows.{PlainFlow, is_equal, turned, same_flow, flow_of}, States.{PlainState, name_order, held_at, state_of, NamesFlows, IsStates, stands, all_stand}, Steps.{insertion, has_effect, stepped, after, without_due, due_count, any_inserts_due, without_state, counts, passes_limit}, Bindings.{bound, exported}}
 
 -- ---- flows
 
@@ -65,30 +65,30 @@ NamesAlike = (a b : StateName) → (eq_by_cmp name_order a b ≡ true) ↔ (a �
 -- ---- what a batch changes
 
 -- what a step leaves under a name that held this
-abbrev pub left_by : List PlainState → Step → StateName → Option Held → Option Held
+abbrev pub left_by : List PlainState → StateStep → StateName → Option Held → Option Held
 left_by es (Insert s) q old = cond (has_effect (insertion es s) && eq_by_cmp name_order q s.0) (Some s.1) old
 left_by es (Delete n) q old = cond (eq_by_cmp name_order q n) None old
 left_by es (Clear creator) q old = cond (q.creator == creator) None old
 
 -- what steps in turn leave there: what the last one that affects the name does
-abbrev pub left_behind : List PlainState → List Step → StateName → Option Held → Option Held
+abbrev pub left_behind : List PlainState → List StateStep → StateName → Option Held → Option Held
 left_behind es [] q old = old
 left_behind es (x ∷ xs) q old = left_behind (stepped es x) xs q (left_by es x q old)
 
 abbrev pub LastStepStands : Type 0
-LastStepStands = (es : List PlainState) (steps : List Step) (q : StateName) → held_at q (after es steps) ≡ left_behind es steps q (held_at q es)
+LastStepStands = (es : List PlainState) (steps : List StateStep) (q : StateName) → held_at q (after es steps) ≡ left_behind es steps q (held_at q es)
 
 -- the order stays, and names and flows stay unique; so does the limit, if the batch isn't refused
-pub record LeavesStates (es : List PlainState) (steps : List Step) : Type 0 where
+pub record LeavesStates (es : List PlainState) (steps : List StateStep) : Type 0 where
   pub names : NamesFlows es → NamesFlows (after es steps)
   pub table : IsStates es → passes_limit es steps ≡ false → IsStates (after es steps)
 
 abbrev pub StaysStates : Type 0
-StaysStates = (es : List PlainState) (steps : List Step) → LeavesStates es steps
+StaysStates = (es : List PlainState) (steps : List StateStep) → LeavesStates es steps
 
 -- a batch is taken exactly if, after each front of it, there are no more states than the limit
 abbrev pub RefusedByAnyStep : Type 0
-RefusedByAnyStep = (es : List PlainState) (steps : List Step) → IsStates es
+RefusedByAnyStep = (es : List PlainState) (steps : List StateStep) → IsStates es
     → (passes_limit es steps ≡ false) ↔ ((k : ℕ) → length (after es (take k steps)) ≤ STATE_LIMIT)
 
 -- ---- ticks
@@ -110,7 +110,7 @@ TicksTakeOutTheDue = (es : List PlainState) (tick : ℕ) → NamesFlows es → T
 
 -- where no state is due, none is after steps that insert none that is, or with a state taken out
 pub record LeavesNoneDue (es : List PlainState) (tick : ℕ) : Type 0 where
-  pub steps : (steps : List Step) → any_inserts_due tick steps ≡ false → all_stand tick (after es steps) ≡ true
+  pub steps : (steps : List StateStep) → any_inserts_due tick steps ≡ false → all_stand tick (after es steps) ≡ true
   pub without : (n : StateName) → all_stand tick (without_state es n) ≡ true
 
 abbrev pub StepsLeaveNoneDue : Type 0
@@ -118,18 +118,18 @@ StepsLeaveNoneDue = (es : List PlainState) (tick : ℕ) → all_stand tick es �
 
 -- ---- what is counted
 
-abbrev pub is_insert : Step → Bool
+abbrev pub is_insert : StateStep → Bool
 is_insert (Insert s) = true
 is_insert (Delete n) = false
 is_insert (Clear creator) = false
 
 -- each insert is counted once, and the number of states changes by what is counted
-pub record AddsUp (es : List PlainState) (steps : List Step) : Type 0 where
+pub record AddsUp (es : List PlainState) (steps : List StateStep) : Type 0 where
   pub inserts : let c = counts es steps in c.inserted + (c.replaced + (c.stale + c.clash)) ≡ count_by is_insert steps
   pub states : length (after es steps) + (counts es steps).deleted ≡ length es + (counts es steps).inserted
 
 abbrev pub CountsAddUp : Type 0
-CountsAddUp = (es : List PlainState) (steps : List Step) → NamesFlows es → AddsUp es steps
+CountsAddUp = (es : List PlainState) (steps : List StateStep) → NamesFlows es → AddsUp es steps
 
 -- ---- bindings
 

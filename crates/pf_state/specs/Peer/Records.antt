@@ -7,8 +7,8 @@
 use Rattle.std.specs.Prelude.{◌≡◌, ◌<◌, ◌^◌, ℕ, false, List, ◌∷◌, ◌++◌, replicate, Option, Some, None, Result, Ok, Err}
 use Rattle.byteorder.specs.Endian.{big_bytes}
 use Rattle.pf_addr.specs.Address.{IsAddr, family_of}
-use Rattle.pf_form.specs.{declared.bytes.fault.{Fault.Fault, Stop.Stop}, Bytes.{Forms.{Shape, nat, both, Value, Form, number, pair}, Readers.read_all}}
-use Rattle.pf_form.specs.declared.bytes.fault.Stop.TheVariants as stop
+use Rattle.pf_form.specs.{declared.bytes.fault.{Fault.Fault, Undecoded.Undecoded}, Bytes.{Forms.{Shape, nat, both, Value, Form, number, pair}, Readers.read_all}}
+use Rattle.pf_form.specs.declared.bytes.fault.Undecoded.TheVariants as undecoded
 use Rattle.pf_rule.specs.{Bytes.{number_at, addr_bytes, direction_byte, family_byte}, Value.Values.{IsProtocol, has_ports}}
 use Rattle.pf_state.specs.{declared.{peer.record.InsertFields.InsertFields, peer.record.Delete.Delete, peer.record.Clear.Clear}, Flows.PlainFlow, Layouts.Flows.{FlowShape, flow_form, plain_flow, flow_in}}
 
@@ -80,10 +80,10 @@ unfoldable pub insert_of : List ℕ → Option PlainInsert
 insert_of r = insert_from (read_all insert_form r)
 
 -- what is read of a record, unless out of memory
-abbrev pub Says : {A : Type 0} → Result A Stop → Option A → Type 0
+abbrev pub Says : {A : Type 0} → Result A Undecoded → Option A → Type 0
 Says (Ok x) said = said ≡ Some x
-Says (Err stop.Memory) said = Unit {0}
-Says (Err (stop.Fault d)) said = said ≡ None
+Says (Err undecoded.Memory) said = Unit {0}
+Says (Err (undecoded.Fault d)) said = said ≡ None
 
 -- Of a delete the id and the creator count, of a clear the creator. Their other bytes may be anything.
 abbrev pub delete_of : List ℕ → Option Delete

@@ -3,7 +3,7 @@ ghost use Rattle.std.specs.Prelude.{◌≡◌, ◌++◌, map, IfOk, OnOk};
 ghost use Rattle.pf_state.specs.Failover.Incoming.{told_state, insert_step, delete_step, clear_step, group_steps, steps_of};
 
 use crate::peer::{Clear, Delete, Group, Insert, Message};
-use crate::{Held, State, StateName, Step, StepList, bind};
+use crate::{Held, State, StateName, StateStep, StepList, bind};
 use std::alloc::{AllocError, Global};
 
 /// The steps that a message asks for: one for each record, in the order of the groups and of the records in each. An insert binds its state
@@ -34,7 +34,7 @@ pub fn steps_of(
 
 fn push_group(
     alloc: Global,
-    steps: &mut Vec<Step>,
+    steps: &mut Vec<StateStep>,
     group: &Group,
     sum: &[u8; 16],
     current: &[u8; 16],
@@ -53,7 +53,7 @@ fn push_group(
 
 fn push_inserts(
     alloc: Global,
-    steps: &mut Vec<Step>,
+    steps: &mut Vec<StateStep>,
     inserts: &[Insert],
     sum: &[u8; 16],
     current: &[u8; 16],
@@ -63,16 +63,16 @@ fn push_inserts(
 {
     for insert in inserts {
         let state = told_state(alloc, insert, sum, current, rule_count)?;
-        steps.push(Step::Insert(state))?;
+        steps.push(StateStep::Insert(state))?;
     }
     Ok(())
 }
 
-fn push_deletes(steps: &mut Vec<Step>, deletes: &[Delete]) -> Result<(), AllocError>
+fn push_deletes(steps: &mut Vec<StateStep>, deletes: &[Delete]) -> Result<(), AllocError>
     ensures { OnOk result (steps.new.items ≡ steps.old.items ++ map delete_step deletes.now) }
 {
     for delete in deletes {
-        steps.push(Step::Delete(StateName {
+        steps.push(StateStep::Delete(StateName {
             id: delete.id,
             creator: delete.creator,
         }))?;
@@ -80,11 +80,11 @@ fn push_deletes(steps: &mut Vec<Step>, deletes: &[Delete]) -> Result<(), AllocEr
     Ok(())
 }
 
-fn push_clears(steps: &mut Vec<Step>, clears: &[Clear]) -> Result<(), AllocError>
+fn push_clears(steps: &mut Vec<StateStep>, clears: &[Clear]) -> Result<(), AllocError>
     ensures { OnOk result (steps.new.items ≡ steps.old.items ++ map clear_step clears.now) }
 {
     for clear in clears {
-        steps.push(Step::Clear {
+        steps.push(StateStep::Clear {
             creator: clear.creator,
         })?;
     }

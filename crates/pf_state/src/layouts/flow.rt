@@ -8,7 +8,7 @@ ghost use Rattle.pf_state.specs.Layouts.Flows.{direction_form, family_form, prot
 use crate::flow::Flow;
 use pf_addr::{Addr, Family};
 use pf_form::bytes::{
-    Fault, Layout, Rest, Stop, expect, push_bytes, push_u128, read_u8, read_u16, read_u32,
+    Fault, Layout, Rest, Undecoded, expect, push_bytes, push_u128, read_u8, read_u16, read_u32,
     read_u128,
 };
 use pf_rule::value::{Direction, Protocol};
@@ -35,7 +35,7 @@ impl Layout for Flow {
     ghost before = { λ a b. true };
 
     #[tactic(auto, unfolding(crate::specs::Layouts::Flows::flow_form))]
-    fn read<'a>(_alloc: Global, _version: u8, from: &mut Rest<'a>) -> Result<Flow, Stop> {
+    fn read<'a>(_alloc: Global, _version: u8, from: &mut Rest<'a>) -> Result<Flow, Undecoded> {
         let direction = read_direction(from)?;
         let family = read_family(from)?;
         let protocol = read_protocol(from)?;
@@ -96,43 +96,43 @@ fn push_ports(out: &mut Vec<u8>, source: u16, destination: u16) -> Result<(), Al
 }
 
 #[tactic(auto, unfolding(crate::specs::Layouts::Flows::direction_form))]
-fn read_direction<'a>(from: &mut Rest<'a>) -> Result<Direction, Stop>
+fn read_direction<'a>(from: &mut Rest<'a>) -> Result<Direction, Undecoded>
     ensures { Reads direction_byte direction_form result from.old.now from.new.now }
 {
     let left = from.len();
     match read_u8(from)? {
         IN => Ok(Direction::In),
         OUT => Ok(Direction::Out),
-        _ => Err(Stop::Fault(Fault::Bad(left))),
+        _ => Err(Undecoded::Fault(Fault::Bad(left))),
     }
 }
 
 #[tactic(auto, unfolding(crate::specs::Layouts::Flows::family_form))]
-fn read_family<'a>(from: &mut Rest<'a>) -> Result<Family, Stop>
+fn read_family<'a>(from: &mut Rest<'a>) -> Result<Family, Undecoded>
     ensures { Reads family_byte family_form result from.old.now from.new.now }
 {
     let left = from.len();
     match read_u8(from)? {
         FAMILY_4 => Ok(Family::V4),
         FAMILY_6 => Ok(Family::V6),
-        _ => Err(Stop::Fault(Fault::Bad(left))),
+        _ => Err(Undecoded::Fault(Fault::Bad(left))),
     }
 }
 
 #[tactic(auto, unfolding(crate::specs::Layouts::Flows::protocol_form))]
-fn read_protocol<'a>(from: &mut Rest<'a>) -> Result<Protocol, Stop>
+fn read_protocol<'a>(from: &mut Rest<'a>) -> Result<Protocol, Undecoded>
     ensures { Reads (λ p. p) protocol_form result from.old.now from.new.now }
 {
     let left = from.len();
     let number = read_u8(from)?;
     if number == 0 {
-        return Err(Stop::Fault(Fault::Bad(left)));
+        return Err(Undecoded::Fault(Fault::Bad(left)));
     }
     Ok(Protocol::new(number))
 }
 
 // An address of this family.
-fn read_addr<'a>(family: Family, from: &mut Rest<'a>) -> Result<Addr, Stop>
+fn read_addr<'a>(family: Family, from: &mut Rest<'a>) -> Result<Addr, Undecoded>
     ensures read { Reads plain_addr (addr_form (family_byte family)) result from.old.now from.new.now }
     ensures family { IfOk result (λ a. family_of a ≡ family) }
 {
@@ -148,7 +148,7 @@ fn read_addr<'a>(family: Family, from: &mut Rest<'a>) -> Result<Addr, Stop>
 
 // The ports of a flow of this protocol, of the source and of the destination.
 #[tactic(auto, unfolding(crate::specs::Layouts::Flows::ports_form))]
-fn read_ports<'a>(protocol: Protocol, from: &mut Rest<'a>) -> Result<(u16, u16), Stop>
+fn read_ports<'a>(protocol: Protocol, from: &mut Rest<'a>) -> Result<(u16, u16), Undecoded>
     ensures read { Reads {a = PortsShape} (λ p. (p.0, p.1)) (ports_form protocol) result from.old.now from.new.now }
     ensures allowed { IfOk result (λ p. (has_ports protocol || ((p.0 == 0) && (p.1 == 0))) ≡ true) }
 {
@@ -157,7 +157,7 @@ fn read_ports<'a>(protocol: Protocol, from: &mut Rest<'a>) -> Result<(u16, u16),
     let destination = read_u16(from)?;
     let has_none = source == 0 && destination == 0;
     if !(protocol.has_ports() || has_none) {
-        return Err(Stop::Fault(Fault::Bad(left)));
+        return Err(Undecoded::Fault(Fault::Bad(left)));
     }
     Ok((source, destination))
 }

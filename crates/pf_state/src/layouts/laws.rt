@@ -1,7 +1,7 @@
 //! Laws of the layouts. Each function does nothing; its contract is the law.
 ghost use Rattle.std.specs.Prelude.{◌≡◌, ◌+◌, ◌*◌, ℕ, true, List, length};
 ghost use Rattle.pf_form.specs.Bytes.Forms.{length_of};
-ghost use Rattle.pf_state.specs.declared.step.Step.{Step};
+ghost use Rattle.pf_state.specs.declared.step.StateStep.{StateStep};
 ghost use Rattle.pf_state.specs.{Flows.PlainFlow, States.{PlainState, is_whole, are_whole}, Layouts.{Flows.{plain_flow, flow_in}, States.{state_form, plain_state, state_in, states_form, plain_states}, Steps.{plain_step, step_in}}};
 
 /// Plain data determine a flow, a state or a step: no two have the same.
@@ -9,7 +9,7 @@ ghost use Rattle.pf_state.specs.{Flows.PlainFlow, States.{PlainState, is_whole, 
 pub fn layouts_tell_states_and_steps()
     ensures flow { (f : PlainFlow) → flow_in (plain_flow f) ≡ f }
     ensures state { (s : PlainState) → state_in (plain_state s) ≡ s }
-    ensures step { (s : Step) → step_in (plain_step s) ≡ s }
+    ensures step { (s : StateStep) → step_in (plain_step s) ≡ s }
 {}
 
 /// In each version a state takes 96 bytes, and a list of states four more than all of them.

@@ -8,9 +8,9 @@ use crate::layouts::state::{EXPIRY_FROM, STATE_BYTES, StoredState, push_state};
 use crate::layouts::step::push_step;
 use crate::limits::STATE_LIMIT;
 use crate::state::{State, tell_whole};
-use crate::step::{Step, StepList};
+use crate::step::{StateStep, StepList};
 use crate::table::StateTable;
-use pf_form::bytes::{Fault, Rest, Stop, are_in_order, push_u32, read_list};
+use pf_form::bytes::{Fault, Rest, Undecoded, are_in_order, push_u32, read_list};
 use std::alloc::{AllocError, Global};
 
 /// Appends a table's states to the bytes, as this version has them, which has to allow them, in the order of their names; they fit their
@@ -32,14 +32,18 @@ pub fn push_states(out: &mut Vec<u8>, version: u8, table: &StateTable) -> Result
 ///
 /// Fails with the first fault of its form there, or when out of memory. How many bytes are left then is unspecified. States that make no
 /// table, such as two of one flow, are one fault of them all, at their number.
-pub fn read_states<'a>(alloc: Global, version: u8, from: &mut Rest<'a>) -> Result<StateTable, Stop>
+pub fn read_states<'a>(
+    alloc: Global,
+    version: u8,
+    from: &mut Rest<'a>,
+) -> Result<StateTable, Undecoded>
     ensures { Reads plain_states (states_form version) result from.old.now from.new.now }
 {
     let left = from.len();
     let rows = read_list::<StoredState>(alloc, version, from)?;
     match table_of(alloc, &rows)? {
         Some(table) => Ok(table),
-        None => Err(Stop::Fault(Fault::Bad(left))),
+        None => Err(Undecoded::Fault(Fault::Bad(left))),
     }
 }
 
@@ -75,10 +79,14 @@ fn states_of(alloc: Global, rows: &[StoredState]) -> Result<Vec<State>, AllocErr
 /// Reads the steps at the front of the bytes, which are of this version.
 ///
 /// Fails with the first fault of their form there, or when out of memory. How many bytes are left then is unspecified.
-pub fn read_steps<'a>(alloc: Global, version: u8, from: &mut Rest<'a>) -> Result<StepList, Stop>
+pub fn read_steps<'a>(
+    alloc: Global,
+    version: u8,
+    from: &mut Rest<'a>,
+) -> Result<StepList, Undecoded>
     ensures { Reads plain_steps (steps_form version) result from.old.now from.new.now }
 {
-    let steps = read_list::<Step>(alloc, version, from)?;
+    let steps = read_list::<StateStep>(alloc, version, from)?;
     Ok(StepList::new(steps))
 }
 
@@ -99,7 +107,7 @@ pub fn push_steps(out: &mut Vec<u8>, version: u8, steps: &StepList) -> Result<()
 }
 
 /// Whether a version allows all of these steps. It takes no memory.
-pub fn steps_are_allowed_in(steps: &[Step], version: u8) -> bool
+pub fn steps_are_allowed_in(steps: &[StateStep], version: u8) -> bool
     ensures { result ≡ allows_steps version steps.now }
 {
     steps.iter().all(|step| step.is_allowed_in(version))

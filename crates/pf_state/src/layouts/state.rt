@@ -8,7 +8,7 @@ use crate::layouts::flow::{direction_byte, push_flow};
 use crate::state::{Bound, Held, State, StateName};
 use pf_addr::Addr;
 use pf_form::bytes::{
-    Layout, Ordered, Rest, Stop, expect, push_bytes, push_u32, push_u64, read_array, read_u32,
+    Layout, Ordered, Rest, Undecoded, expect, push_bytes, push_u32, push_u64, read_array, read_u32,
     read_u64, takes,
 };
 use std::alloc::{AllocError, Global};
@@ -37,7 +37,7 @@ impl Layout for StoredState {
 
     ghost before = { state_before };
 
-    fn read<'a>(alloc: Global, version: u8, from: &mut Rest<'a>) -> Result<StoredState, Stop> {
+    fn read<'a>(alloc: Global, version: u8, from: &mut Rest<'a>) -> Result<StoredState, Undecoded> {
         let state = read_state(alloc, version, from)?;
         Ok(StoredState { state })
     }
@@ -56,7 +56,7 @@ impl Ordered for StoredState {
 
 /// Reads the name at the front of the bytes: an id in eight bytes and a creator in four. Fails if fewer are left.
 #[tactic(auto, unfolding(crate::specs::Layouts::States::name_form))]
-pub fn read_name<'a>(from: &mut Rest<'a>) -> Result<StateName, Stop>
+pub fn read_name<'a>(from: &mut Rest<'a>) -> Result<StateName, Undecoded>
     ensures { Reads plain_name name_form result from.old.now from.new.now }
 {
     let id = read_u64(from)?;
@@ -78,7 +78,7 @@ pub fn push_name(out: &mut Vec<u8>, name: StateName) -> Result<(), AllocError>
 ///
 /// Fails with the first fault of its form there, or when out of memory. How many bytes are left then is unspecified.
 #[tactic(auto, unfolding(crate::specs::Layouts::States::state_form))]
-pub fn read_state<'a>(alloc: Global, version: u8, from: &mut Rest<'a>) -> Result<State, Stop>
+pub fn read_state<'a>(alloc: Global, version: u8, from: &mut Rest<'a>) -> Result<State, Undecoded>
     ensures { Reads plain_state (state_form version) result from.old.now from.new.now }
 {
     let name = read_name(from)?;
@@ -100,7 +100,7 @@ pub fn push_state(out: &mut Vec<u8>, version: u8, state: &State) -> Result<(), A
 }
 
 #[tactic(auto, unfolding(crate::specs::Layouts::States::held_form))]
-fn read_held<'a>(alloc: Global, version: u8, from: &mut Rest<'a>) -> Result<Held, Stop>
+fn read_held<'a>(alloc: Global, version: u8, from: &mut Rest<'a>) -> Result<Held, Undecoded>
     ensures { Reads plain_held (held_form version) result from.old.now from.new.now }
 {
     let generation = read_u32(from)?;
@@ -118,7 +118,7 @@ fn read_held<'a>(alloc: Global, version: u8, from: &mut Rest<'a>) -> Result<Held
 
 // An expiry; zeros for none in a version without expiries.
 #[tactic(auto, unfolding(crate::specs::Layouts::States::expiry_form))]
-fn read_expiry<'a>(version: u8, from: &mut Rest<'a>) -> Result<u64, Stop>
+fn read_expiry<'a>(version: u8, from: &mut Rest<'a>) -> Result<u64, Undecoded>
     ensures { Reads (λ n. n) (expiry_form (has_expiry version)) result from.old.now from.new.now }
 {
     if version < EXPIRY_FROM {
@@ -129,7 +129,7 @@ fn read_expiry<'a>(version: u8, from: &mut Rest<'a>) -> Result<u64, Stop>
 }
 
 #[tactic(auto, unfolding(crate::specs::Layouts::States::bound_form))]
-fn read_bound<'a>(from: &mut Rest<'a>) -> Result<Bound, Stop>
+fn read_bound<'a>(from: &mut Rest<'a>) -> Result<Bound, Undecoded>
     ensures { Reads plain_bound bound_form result from.old.now from.new.now }
 {
     if takes(from, 0)? {

@@ -7,8 +7,10 @@ use crate::layouts::state::{
     EXPIRY_FROM, STATE_BYTES, push_name, push_state, read_name, read_state,
 };
 use crate::state::tell_whole;
-use crate::step::Step;
-use pf_form::bytes::{Layout, Rest, Stop, expect, push_bytes, push_key, push_u32, read_u32, takes};
+use crate::step::StateStep;
+use pf_form::bytes::{
+    Layout, Rest, Undecoded, expect, push_bytes, push_key, push_u32, read_u32, takes,
+};
 use std::alloc::{AllocError, Global};
 
 const INSERT: u8 = 1;
@@ -17,7 +19,7 @@ const DELETE: u8 = 2;
 
 const CLEAR: u8 = 3;
 
-impl Layout for Step {
+impl Layout for StateStep {
     ghost use Rattle.std.specs.Prelude.{true};
     ghost use Rattle.pf_state.specs.Layouts.Steps.{StepShape, step_form, plain_step};
 
@@ -30,18 +32,18 @@ impl Layout for Step {
     ghost before = { λ a b. true };
 
     #[tactic(auto, unfolding(crate::specs::Layouts::Steps::step_form))]
-    fn read<'a>(alloc: Global, version: u8, from: &mut Rest<'a>) -> Result<Step, Stop> {
+    fn read<'a>(alloc: Global, version: u8, from: &mut Rest<'a>) -> Result<StateStep, Undecoded> {
         if takes(from, INSERT)? {
             let state = read_state(alloc, version, from)?;
-            return Ok(Step::Insert(state));
+            return Ok(StateStep::Insert(state));
         }
         if takes(from, DELETE)? {
             let name = read_name(from)?;
-            return Ok(Step::Delete(name));
+            return Ok(StateStep::Delete(name));
         }
         expect(from, &[CLEAR])?;
         let creator = read_u32(from)?;
-        Ok(Step::Clear { creator })
+        Ok(StateStep::Clear { creator })
     }
 
     #[tactic(auto, using(crate::proofs::Expiries::step_is_allowed))]
@@ -53,21 +55,21 @@ impl Layout for Step {
 /// Appends a step to the bytes, as this version has it, which has to allow it; it fits its form. Fails only when out of memory, and then
 /// what was appended is unspecified.
 #[tactic(auto, unfolding(crate::specs::Layouts::Steps::step_form))]
-pub fn push_step(out: &mut Vec<u8>, version: u8, step: &Step) -> Result<(), AllocError>
+pub fn push_step(out: &mut Vec<u8>, version: u8, step: &StateStep) -> Result<(), AllocError>
     requires { allows_step version step.now ≡ true }
     ensures written { OnOk result (out.new.items ≡ onto (step_form version) (plain_step step.now) out.old.items) }
     ensures fits { OnOk result (Fits (step_form version) (plain_step step.now)) }
 {
     match step {
-        Step::Insert(state) => {
+        StateStep::Insert(state) => {
             push_key(out, INSERT)?;
             push_state(out, version, state)
         }
-        Step::Delete(name) => {
+        StateStep::Delete(name) => {
             push_key(out, DELETE)?;
             push_name(out, *name)
         }
-        Step::Clear { creator } => {
+        StateStep::Clear { creator } => {
             push_bytes(out, &[CLEAR])?;
             push_u32(out, *creator)
         }
@@ -76,27 +78,27 @@ pub fn push_step(out: &mut Vec<u8>, version: u8, step: &Step) -> Result<(), Allo
 
 /// How many bytes a stored step takes, in each version. It looks at no state.
 #[tactic(auto, using(crate::proofs::Widths::state_long), unfolding(crate::specs::Layouts::Steps::step_form, crate::specs::Layouts::States::name_form))]
-pub fn step_length(step: &Step) -> usize
+pub fn step_length(step: &StateStep) -> usize
     ensures { (version : ℕ) → result ≡ length_of (step_form version) (plain_step step.now) }
 {
     match step {
-        Step::Insert(state) => {
+        StateStep::Insert(state) => {
             tell_whole(state);
             1 + STATE_BYTES
         }
-        Step::Delete(_) => 13,
-        Step::Clear { .. } => 5,
+        StateStep::Delete(_) => 13,
+        StateStep::Clear { .. } => 5,
     }
 }
 
-impl Step {
+impl StateStep {
     /// Whether a version allows the step: one before [`EXPIRY_FROM`] allows no insert of a state with an expiry.
     pub fn is_allowed_in(&self, version: u8) -> bool
         ensures { result ≡ allows_step version self.now }
     {
         match self {
-            Step::Insert(state) => version >= EXPIRY_FROM || state.value().expiry == 0,
-            Step::Delete(_) | Step::Clear { .. } => true,
+            StateStep::Insert(state) => version >= EXPIRY_FROM || state.value().expiry == 0,
+            StateStep::Delete(_) | StateStep::Clear { .. } => true,
         }
     }
 }

@@ -7,7 +7,7 @@ use crate::peer::fault::{PeerFault, ReadError};
 use crate::peer::fields::{MESSAGE_HEADER, u16_at};
 use crate::peer::message::{CLEAR, DELETE, Group, INSERT, Message, Records};
 use crate::peer::record::{RECORD, Record};
-use pf_form::bytes::Stop;
+use pf_form::bytes::Undecoded;
 use std::alloc::{AllocError, Global};
 
 /// How many bytes the header of a group has.
@@ -99,8 +99,8 @@ fn records_of<T: Record>(alloc: Global, count: usize, bytes: &[u8]) -> Result<Re
         let (record, behind) = rest.split_at(RECORD);
         match T::from_row(alloc, record) {
             Ok(read) => records.push(read)?,
-            Err(Stop::Memory) => return Err(ReadError::Memory),
-            Err(Stop::Fault(_)) => return Err(ReadError::Fault(PeerFault::BadRecord)),
+            Err(Undecoded::Memory) => return Err(ReadError::Memory),
+            Err(Undecoded::Fault(_)) => return Err(ReadError::Fault(PeerFault::BadRecord)),
         }
         rest = behind;
     }

@@ -3,7 +3,7 @@
 use crate::flow::Flow;
 use crate::layouts::push_flow;
 use crate::peer::record::{Insert, InsertFields};
-use pf_form::bytes::{Layout, Rest, Stop, push_u32, push_u64, read_u32, read_u64};
+use pf_form::bytes::{Layout, Rest, Undecoded, push_u32, push_u64, read_u32, read_u64};
 use std::alloc::{AllocError, Global};
 
 impl Layout for Insert {
@@ -19,7 +19,7 @@ impl Layout for Insert {
     ghost before = { λ a b. true };
 
     #[tactic(auto, unfolding(crate::specs::Peer::Records::insert_form))]
-    fn read<'a>(alloc: Global, version: u8, from: &mut Rest<'a>) -> Result<Insert, Stop> {
+    fn read<'a>(alloc: Global, version: u8, from: &mut Rest<'a>) -> Result<Insert, Undecoded> {
         let id = read_u64(from)?;
         let creator = read_u32(from)?;
         let generation = read_u32(from)?;

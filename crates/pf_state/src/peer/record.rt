@@ -3,9 +3,9 @@ ghost use Rattle.std.specs.Prelude.{◌≡◌, ◌++◌, length, Option, List, �
 ghost use Rattle.pf_state.specs.Peer.Records.{IsInsert, told_flow, Says};
 
 use crate::flow::Flow;
-use crate::peer::fields::{VERSION, push_u32, push_u64, u32_at, u64_at};
+use crate::peer::fields::{VERSION, u32_at, u64_at};
 use pf_addr::Addr;
-use pf_form::bytes::{Layout, Stop, decode};
+use pf_form::bytes::{Layout, Undecoded, decode, push_u32, push_u64};
 use pf_rule::value::{Direction, Protocol};
 use std::alloc::{AllocError, Global};
 use std::marker::Model;
@@ -120,7 +120,7 @@ pub trait Record: Drop + Sized {
     ghost keeps: { Self → Type 0 };
 
     /// Reads the record from the bytes. Fails if a field has an invalid value, or when out of memory.
-    fn from_row(alloc: Global, row: &[u8]) -> Result<Self, Stop>
+    fn from_row(alloc: Global, row: &[u8]) -> Result<Self, Undecoded>
         requires { length row.now ≡ RECORD }
         ensures { Says result (reading row.now) };
 
@@ -140,7 +140,7 @@ impl Record for Insert {
     ghost keeps = { IsInsert };
 
     #[tactic(auto, unfolding(crate::specs::Peer::Records::insert_of))]
-    fn from_row(alloc: Global, row: &[u8]) -> Result<Insert, Stop> {
+    fn from_row(alloc: Global, row: &[u8]) -> Result<Insert, Undecoded> {
         decode::<Insert>(alloc, VERSION, row)
     }
 
@@ -163,13 +163,14 @@ impl Record for Delete {
 
     ghost keeps = { IsDelete };
 
-    fn from_row(_alloc: Global, row: &[u8]) -> Result<Delete, Stop> {
+    fn from_row(_alloc: Global, row: &[u8]) -> Result<Delete, Undecoded> {
         Ok(Delete {
             id: u64_at(0, row),
             creator: u32_at(8, row),
         })
     }
 
+    #[tactic(auto, unfolding(pf_form::specs::Bytes::BasicForms::number_bytes))]
     fn push(&self, out: &mut Vec<u8>) -> Result<(), AllocError> {
         push_u64(out, self.id)?;
         push_u32(out, self.creator)?;
@@ -187,12 +188,13 @@ impl Record for Clear {
 
     ghost keeps = { IsClear };
 
-    fn from_row(_alloc: Global, row: &[u8]) -> Result<Clear, Stop> {
+    fn from_row(_alloc: Global, row: &[u8]) -> Result<Clear, Undecoded> {
         Ok(Clear {
             creator: u32_at(8, row),
         })
     }
 
+    #[tactic(auto, unfolding(pf_form::specs::Bytes::BasicForms::number_bytes))]
     fn push(&self, out: &mut Vec<u8>) -> Result<(), AllocError> {
         out.extend_from_slice(&[0; 8])?;
         push_u32(out, self.creator)?;

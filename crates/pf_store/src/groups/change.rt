@@ -13,7 +13,7 @@ use crate::groups::telling::tells;
 use pf_addr::path::{Path, TableName};
 use pf_core::{Change, ChangeKind, EntryList};
 use pf_form::bytes::{
-    Fault, Layout, Rest, Stop, expect, push_fitting, push_key, push_u32, push_u64, read_u32,
+    Fault, Layout, Rest, Undecoded, expect, push_fitting, push_key, push_u32, push_u64, read_u32,
     read_u64, takes,
 };
 use pf_state::layouts::{
@@ -54,7 +54,7 @@ impl Layout for Recorded {
 
     ghost before = { λ a b. true };
 
-    fn read<'a>(alloc: Global, version: u8, from: &mut Rest<'a>) -> Result<Recorded, Stop> {
+    fn read<'a>(alloc: Global, version: u8, from: &mut Rest<'a>) -> Result<Recorded, Undecoded> {
         read_record(alloc, version, from)
     }
 
@@ -74,7 +74,7 @@ struct TableEdit {
 }
 
 #[tactic(auto, unfolding(crate::specs::Groups::edit_form))]
-fn read_edit<'a>(alloc: Global, version: u8, from: &mut Rest<'a>) -> Result<TableEdit, Stop>
+fn read_edit<'a>(alloc: Global, version: u8, from: &mut Rest<'a>) -> Result<TableEdit, Undecoded>
     ensures { Reads {a = EditShape} (λ e. (e.path, (e.name, plain_entries e.entries))) edit_form result from.old.now from.new.now }
 {
     let path = Path::read(alloc, version, from)?;
@@ -107,7 +107,7 @@ fn push_edit(
 
 // Reads what is recorded from the front of the bytes.
 #[tactic(auto, unfolding(crate::specs::Groups::change_form))]
-fn read_record<'a>(alloc: Global, version: u8, from: &mut Rest<'a>) -> Result<Recorded, Stop>
+fn read_record<'a>(alloc: Global, version: u8, from: &mut Rest<'a>) -> Result<Recorded, Undecoded>
     ensures { Reads plain_record (change_form version) result from.old.now from.new.now }
 {
     if takes(from, COMMIT)? {
@@ -140,13 +140,13 @@ fn read_record<'a>(alloc: Global, version: u8, from: &mut Rest<'a>) -> Result<Re
 
 // A tick, behind its kind; none in a version without expiries.
 #[tactic(auto, unfolding(crate::specs::Groups::expire_form))]
-fn read_expire<'a>(version: u8, from: &mut Rest<'a>) -> Result<u64, Stop>
+fn read_expire<'a>(version: u8, from: &mut Rest<'a>) -> Result<u64, Undecoded>
     ensures read { Reads (λ n. n) (expire_form (has_expiry version)) result from.old.now from.new.now }
     ensures kind { IfOk result (λ n. writes (expire_form (has_expiry version)) n ≡ 8 ∷ number_bytes 8 n) }
 {
     let left = from.len();
     if version < EXPIRY_FROM {
-        return Err(Stop::Fault(Fault::Bad(left)));
+        return Err(Undecoded::Fault(Fault::Bad(left)));
     }
     expect(from, &[EXPIRE])?;
     read_u64(from)

@@ -11,7 +11,7 @@ use crate::groups::recorded::Recorded;
 use crate::groups::telling::{tell_change, tells};
 use pf_core::GROUP_LIMIT;
 use pf_form::bytes::{
-    Fault, Layout, Rest, Stop, decode, push_bytes, push_u8, push_u32, read_times, read_u8,
+    Fault, Layout, Rest, Undecoded, decode, push_bytes, push_u8, push_u32, read_times, read_u8,
 };
 use pf_journal::Record;
 use std::alloc::{AllocError, Global};
@@ -36,11 +36,11 @@ impl Layout for StoredGroup {
     ghost before = { λ a b. true };
 
     #[tactic(auto, unfolding(crate::specs::Groups::group_form), using(crate::proofs::Taken::group_read, crate::proofs::Taken::group_refused))]
-    fn read<'a>(alloc: Global, version: u8, from: &mut Rest<'a>) -> Result<StoredGroup, Stop> {
+    fn read<'a>(alloc: Global, version: u8, from: &mut Rest<'a>) -> Result<StoredGroup, Undecoded> {
         let left = from.len();
         let records = read_records(alloc, version, from)?;
         if !is_group(records.as_slice()) {
-            return Err(Stop::Fault(Fault::Bad(left)));
+            return Err(Undecoded::Fault(Fault::Bad(left)));
         }
         Ok(StoredGroup { records })
     }
@@ -53,7 +53,11 @@ impl Layout for StoredGroup {
 }
 
 // Reads changes and openings after their number in one byte.
-fn read_records<'a>(alloc: Global, version: u8, from: &mut Rest<'a>) -> Result<Vec<Recorded>, Stop>
+fn read_records<'a>(
+    alloc: Global,
+    version: u8,
+    from: &mut Rest<'a>,
+) -> Result<Vec<Recorded>, Undecoded>
     ensures { Reads (λ v. map plain_record v.items) (counted 1 (change_form version)) result from.old.now from.new.now }
 {
     let count = read_u8(from)?;
@@ -232,7 +236,7 @@ pub fn read_group(alloc: Global, version: u8, bytes: &[u8]) -> Result<Vec<Record
             tell_records(group.records.as_slice());
             Ok(group.records)
         }
-        Err(Stop::Memory) => Err(GroupFault::Memory),
-        Err(Stop::Fault(_)) => Err(GroupFault::NoForm),
+        Err(Undecoded::Memory) => Err(GroupFault::Memory),
+        Err(Undecoded::Fault(_)) => Err(GroupFault::NoForm),
     }
 }

@@ -11,7 +11,7 @@ use pf_addr::path::Path;
 use pf_anchor::{Placed, RULE_LIMIT, RuleList};
 use pf_core::Item;
 use pf_form::bytes::{
-    Fault, Layout, Rest, Stop, expect, push_bytes, push_fitting, push_key, push_u8, push_u32,
+    Fault, Layout, Rest, Undecoded, expect, push_bytes, push_fitting, push_key, push_u8, push_u32,
     read_list, read_ordered_list, read_times, read_u8, takes, write_list,
 };
 use pf_rule::Rule;
@@ -42,7 +42,7 @@ impl Layout for StoredItem {
     ghost before = { λ a b. true };
 
     #[tactic(auto, unfolding(crate::specs::Groups::item_form))]
-    fn read<'a>(alloc: Global, version: u8, from: &mut Rest<'a>) -> Result<StoredItem, Stop> {
+    fn read<'a>(alloc: Global, version: u8, from: &mut Rest<'a>) -> Result<StoredItem, Undecoded> {
         if takes(from, RULES)? {
             let (path, rules) = read_rules(alloc, version, from)?;
             let item = Item::Rules(Placed::new(alloc, path, rules)?);
@@ -82,7 +82,7 @@ pub(crate) fn read_rules<'a>(
     alloc: Global,
     version: u8,
     from: &mut Rest<'a>,
-) -> Result<(Path, RuleList), Stop>
+) -> Result<(Path, RuleList), Undecoded>
     ensures { Reads {a = RulesShape} (λ r. (r.0, map plain_rule r.1)) (rules_form version) result from.old.now from.new.now }
 {
     let path = Path::read(alloc, version, from)?;
@@ -91,20 +91,28 @@ pub(crate) fn read_rules<'a>(
 }
 
 #[tactic(auto, unfolding(pf_anchor::specs::Forms::rule_list_form))]
-fn read_rule_list<'a>(alloc: Global, version: u8, from: &mut Rest<'a>) -> Result<RuleList, Stop>
+fn read_rule_list<'a>(
+    alloc: Global,
+    version: u8,
+    from: &mut Rest<'a>,
+) -> Result<RuleList, Undecoded>
     ensures { Reads (λ l. map plain_rule l) (rule_list_form version) result from.old.now from.new.now }
 {
     let left = from.len();
     let rules = read_list::<Rule>(alloc, version, from)?;
     if rules.len() > RULE_LIMIT {
-        return Err(Stop::Fault(Fault::Bad(left)));
+        return Err(Undecoded::Fault(Fault::Bad(left)));
     }
     Ok(RuleList::of(alloc, rules)?)
 }
 
 // Reads a path and the tables there that were defined.
 #[tactic(auto, unfolding(crate::specs::Groups::tables_form))]
-fn read_tables<'a>(alloc: Global, version: u8, from: &mut Rest<'a>) -> Result<(Path, Defined), Stop>
+fn read_tables<'a>(
+    alloc: Global,
+    version: u8,
+    from: &mut Rest<'a>,
+) -> Result<(Path, Defined), Undecoded>
     ensures { Reads {a = TablesShape} (λ r. (r.0, map plain_named r.1)) tables_form result from.old.now from.new.now }
 {
     let path = Path::read(alloc, version, from)?;
@@ -113,13 +121,13 @@ fn read_tables<'a>(alloc: Global, version: u8, from: &mut Rest<'a>) -> Result<(P
 }
 
 #[tactic(auto, unfolding(crate::specs::Groups::defined_form))]
-fn read_defined<'a>(alloc: Global, version: u8, from: &mut Rest<'a>) -> Result<Defined, Stop>
+fn read_defined<'a>(alloc: Global, version: u8, from: &mut Rest<'a>) -> Result<Defined, Undecoded>
     ensures { Reads (λ d. map plain_named d) defined_form result from.old.now from.new.now }
 {
     let left = from.len();
     let rows = read_ordered_list::<StoredTable>(alloc, version, from)?;
     if rows.len() > OFFERED_TABLE_LIMIT {
-        return Err(Stop::Fault(Fault::Bad(left)));
+        return Err(Undecoded::Fault(Fault::Bad(left)));
     }
     let tables = tables_of(alloc, rows)?;
     Ok(Defined::of(alloc, &tables)?)
@@ -210,14 +218,14 @@ pub(crate) fn read_items<'a>(
     alloc: Global,
     version: u8,
     from: &mut Rest<'a>,
-) -> Result<Vec<Item>, Stop>
+) -> Result<Vec<Item>, Undecoded>
     ensures { Reads (λ v. map plain_item v.items) (items_form version) result from.old.now from.new.now }
 {
     let left = from.len();
     let rows = read_rows(alloc, version, from)?;
     let items = items_of(alloc, rows)?;
     if !is_commit(&items) {
-        return Err(Stop::Fault(Fault::Bad(left)));
+        return Err(Undecoded::Fault(Fault::Bad(left)));
     }
     Ok(items)
 }
@@ -229,7 +237,11 @@ fn items_of(alloc: Global, rows: Vec<StoredItem>) -> Result<Vec<Item>, AllocErro
 }
 
 // Reads items after their number in one byte.
-fn read_rows<'a>(alloc: Global, version: u8, from: &mut Rest<'a>) -> Result<Vec<StoredItem>, Stop>
+fn read_rows<'a>(
+    alloc: Global,
+    version: u8,
+    from: &mut Rest<'a>,
+) -> Result<Vec<StoredItem>, Undecoded>
     ensures { Reads (λ v. map (λ row. plain_item row.item) v.items) (counted 1 (item_form version)) result from.old.now from.new.now }
 {
     let count = read_u8(from)?;

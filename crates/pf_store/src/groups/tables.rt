@@ -6,7 +6,7 @@ ghost use Rattle.pf_anchor.specs.Forms.{plain_entries, entries_form, named_form,
 
 use pf_addr::path::TableName;
 use pf_form::bytes::{
-    Fault, Layout, Ordered, Rest, Stop, push_fitting, push_list, push_u32, read_list,
+    Fault, Layout, Ordered, Rest, Undecoded, push_fitting, push_list, push_u32, read_list,
     read_ordered_list,
 };
 use pf_table::{Entry, TABLE_LIMIT, Table};
@@ -31,7 +31,7 @@ pub(crate) fn read_entries<'a>(
     alloc: Global,
     version: u8,
     from: &mut Rest<'a>,
-) -> Result<Vec<Entry>, Stop>
+) -> Result<Vec<Entry>, Undecoded>
     ensures { Reads (λ v. plain_entries v.items) (counted 4 entry) result from.old.now from.new.now }
 {
     read_list::<Entry>(alloc, version, from)
@@ -56,7 +56,7 @@ impl Layout for StoredTable {
     ghost before = { named_before };
 
     #[tactic(auto, unfolding(pf_anchor::specs::Forms::named_form))]
-    fn read<'a>(alloc: Global, version: u8, from: &mut Rest<'a>) -> Result<StoredTable, Stop> {
+    fn read<'a>(alloc: Global, version: u8, from: &mut Rest<'a>) -> Result<StoredTable, Undecoded> {
         let name = TableName::read(alloc, version, from)?;
         let table = read_table(alloc, version, from)?;
         Ok(StoredTable {
@@ -77,13 +77,17 @@ impl Ordered for StoredTable {
 
 /// Reads entries in a table's order, at most as many as a table may have. Fails with the first fault there, or when out of memory.
 #[tactic(auto, unfolding(pf_anchor::specs::Forms::entries_form), using(pf_table::proofs::TableRows::in_order_is))]
-pub(crate) fn read_table<'a>(alloc: Global, version: u8, from: &mut Rest<'a>) -> Result<Table, Stop>
+pub(crate) fn read_table<'a>(
+    alloc: Global,
+    version: u8,
+    from: &mut Rest<'a>,
+) -> Result<Table, Undecoded>
     ensures { Reads plain_entries entries_form result from.old.now from.new.now }
 {
     let left = from.len();
     let entries = read_ordered_list::<Entry>(alloc, version, from)?;
     if entries.len() > TABLE_LIMIT {
-        return Err(Stop::Fault(Fault::Bad(left)));
+        return Err(Undecoded::Fault(Fault::Bad(left)));
     }
     Ok(Table::of(alloc, &entries)?)
 }

@@ -15,7 +15,9 @@ use crate::snapshots::tables::{push_tables, read_tables};
 use crate::snapshots::telling::tell_durable;
 use pf_anchor::{Config, Placed, PlacedTable};
 use pf_core::Durable;
-use pf_form::bytes::{Fault, Layout, Rest, Stop, decode, push_u32, push_u64, read_u32, read_u64};
+use pf_form::bytes::{
+    Fault, Layout, Rest, Undecoded, decode, push_u32, push_u64, read_u32, read_u64,
+};
 use pf_state::layouts::{EXPIRY_FROM, push_states, read_states};
 use std::alloc::{AllocError, Global};
 
@@ -38,7 +40,7 @@ impl Layout for Snapshot {
     ghost before = { λ a b. true };
 
     #[tactic(auto, unfolding(pf_core::specs::Durable::Forms::durable_form))]
-    fn read<'a>(alloc: Global, version: u8, from: &mut Rest<'a>) -> Result<Snapshot, Stop> {
+    fn read<'a>(alloc: Global, version: u8, from: &mut Rest<'a>) -> Result<Snapshot, Undecoded> {
         let left = from.len();
         let epoch = read_u32(from)?;
         let tick = read_tick(version, from)?;
@@ -46,7 +48,7 @@ impl Layout for Snapshot {
         let tables = read_tables(alloc, version, from)?;
         let states = read_states(alloc, version, from)?;
         if !states.all_stand(tick) {
-            return Err(Stop::Fault(Fault::Bad(left)));
+            return Err(Undecoded::Fault(Fault::Bad(left)));
         }
         let config = config_of(alloc, &rulesets, &tables)?;
         Ok(Snapshot {
@@ -63,7 +65,7 @@ impl Layout for Snapshot {
 
 // A tick; none, for 0, in a version without expiries.
 #[tactic(auto, unfolding(pf_core::specs::Durable::Forms::tick_form))]
-fn read_tick<'a>(version: u8, from: &mut Rest<'a>) -> Result<u64, Stop>
+fn read_tick<'a>(version: u8, from: &mut Rest<'a>) -> Result<u64, Undecoded>
     ensures { Reads (λ n. n) (tick_form (has_expiry version)) result from.old.now from.new.now }
 {
     if version < EXPIRY_FROM {
@@ -172,7 +174,7 @@ pub fn read_durable(alloc: Global, version: u8, bytes: &[u8]) -> Result<Durable,
             tell_durable(&snapshot.durable);
             Ok(snapshot.durable)
         }
-        Err(Stop::Memory) => Err(GroupFault::Memory),
-        Err(Stop::Fault(_)) => Err(GroupFault::NoForm),
+        Err(Undecoded::Memory) => Err(GroupFault::Memory),
+        Err(Undecoded::Fault(_)) => Err(GroupFault::NoForm),
     }
 }

@@ -7,7 +7,7 @@ ghost use Rattle.pf_anchor.specs.Forms.{has_some, rulesets_form, plain_ruled, al
 
 use crate::groups::{push_rules, read_rules};
 use pf_anchor::{Config, Path, Placed, RULESET_LIMIT};
-use pf_form::bytes::{Fault, Layout, Ordered, Rest, Stop, push_u32, read_ordered_list};
+use pf_form::bytes::{Fault, Layout, Ordered, Rest, Undecoded, push_u32, read_ordered_list};
 use std::alloc::{AllocError, Global};
 
 // A ruleset, as a snapshot has it.
@@ -27,7 +27,11 @@ impl Layout for StoredRuleset {
 
     ghost before = { ruleset_before };
 
-    fn read<'a>(alloc: Global, version: u8, from: &mut Rest<'a>) -> Result<StoredRuleset, Stop> {
+    fn read<'a>(
+        alloc: Global,
+        version: u8,
+        from: &mut Rest<'a>,
+    ) -> Result<StoredRuleset, Undecoded> {
         let (path, rules) = read_rules(alloc, version, from)?;
         Ok(StoredRuleset {
             placed: Placed::new(alloc, path, rules)?,
@@ -80,7 +84,7 @@ pub(crate) fn read_rulesets<'a>(
     alloc: Global,
     version: u8,
     from: &mut Rest<'a>,
-) -> Result<Vec<Placed>, Stop>
+) -> Result<Vec<Placed>, Undecoded>
     ensures read { Reads (λ v. map plain_ruled v.items) (rulesets_form version) result from.old.now from.new.now }
     ensures sorted { IfOk result (λ v. T (is_sorted path_order v.items)) }
     ensures filled { IfOk result (λ v. list_all (λ r. has_some r.1) v.items ≡ true) }
@@ -88,7 +92,7 @@ pub(crate) fn read_rulesets<'a>(
     let left = from.len();
     let rows = read_ordered_list::<StoredRuleset>(alloc, version, from)?;
     if !are_rulesets(&rows) {
-        return Err(Stop::Fault(Fault::Bad(left)));
+        return Err(Undecoded::Fault(Fault::Bad(left)));
     }
     Ok(placed_in(alloc, rows)?)
 }

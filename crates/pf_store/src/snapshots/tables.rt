@@ -8,7 +8,7 @@ use crate::groups::{push_table, read_table};
 use pf_addr::path::TableName;
 use pf_anchor::{Config, Path, PlacedTable, TABLE_COUNT_LIMIT};
 use pf_form::bytes::{
-    Fault, Layout, Ordered, Rest, Stop, push_fitting, push_u32, read_ordered_list,
+    Fault, Layout, Ordered, Rest, Undecoded, push_fitting, push_u32, read_ordered_list,
 };
 use std::alloc::{AllocError, Global};
 
@@ -30,7 +30,11 @@ impl Layout for StoredPlaced {
     ghost before = { placed_before };
 
     #[tactic(auto, unfolding(pf_anchor::specs::Forms::placed_form, pf_anchor::specs::Forms::named_form))]
-    fn read<'a>(alloc: Global, version: u8, from: &mut Rest<'a>) -> Result<StoredPlaced, Stop> {
+    fn read<'a>(
+        alloc: Global,
+        version: u8,
+        from: &mut Rest<'a>,
+    ) -> Result<StoredPlaced, Undecoded> {
         let path = Path::read(alloc, version, from)?;
         let name = TableName::read(alloc, version, from)?;
         let table = read_table(alloc, version, from)?;
@@ -84,7 +88,7 @@ pub(crate) fn read_tables<'a>(
     alloc: Global,
     version: u8,
     from: &mut Rest<'a>,
-) -> Result<Vec<PlacedTable>, Stop>
+) -> Result<Vec<PlacedTable>, Undecoded>
     ensures read { Reads (λ v. map plain_tabled v.items) kept_tables_form result from.old.now from.new.now }
     ensures sorted { IfOk result (λ v. T (is_sorted table_order v.items)) }
     ensures filled { IfOk result (λ v. list_all (λ t. has_some t.1) v.items ≡ true) }
@@ -92,7 +96,7 @@ pub(crate) fn read_tables<'a>(
     let left = from.len();
     let rows = read_ordered_list::<StoredPlaced>(alloc, version, from)?;
     if !are_tables(&rows) {
-        return Err(Stop::Fault(Fault::Bad(left)));
+        return Err(Undecoded::Fault(Fault::Bad(left)));
     }
     Ok(placed_in(alloc, rows)?)
 }

@@ -10,7 +10,7 @@ use pf_addr::path::{Path, TableName};
 use pf_anchor::{named_table_length, ruleset_length};
 use pf_core::{Change, ChangeKind, Durable, Item};
 use pf_snap::BANK_HEADER;
-use pf_state::Step;
+use pf_state::StateStep;
 use pf_state::layouts::step_length;
 use pf_table::Entry;
 use pf_ticket::{Defined, DefinedTable};
@@ -163,7 +163,7 @@ fn behind_edit(path: &Path, name: &TableName, entries: &[Entry], room: usize) ->
     room.checked_sub(entries.len().saturating_mul(20))
 }
 
-fn behind_steps(steps: &[Step], room: usize) -> Option<usize>
+fn behind_steps(steps: &[StateStep], room: usize) -> Option<usize>
     ensures { MatchOption result (room < total step_length steps.now) (λ left. room ≡ total step_length steps.now + left) }
 {
     let mut left = room;

@@ -121,8 +121,8 @@ main_path (x ∷ p) b none is = let filled : (length (x ∷ p) == 0) ≡ false =
 pub evaluate_targets-evaluate-requires : goal.evaluate_targets-evaluate-requires
 evaluate_targets-evaluate-requires t c =
     let main = main_path c.args.path.now c.is_empty.result c.if-not-is_empty.false (c.is_empty.ensures ∙ ap (λ (w : List ℕ). length w == 0) c.as_bytes.ensures.value) in
-    let at = ap (λ (p : List ℕ). path_within p c.args.reference.now.names) main ∙ c.from_main.ensures in
-    let deeper = leads_deeper c.args.path.now c.args.reference.now.names c.from_main.result.bytes.now at in
+    let at = ap (λ (p : List ℕ). path_within p c.args.reference.now.names) main ∙ c.path_from_main.ensures in
+    let deeper = leads_deeper c.args.path.now c.args.reference.now.names c.path_from_main.result.bytes.now at in
     let same = ap (λ (e : PlainPlaced). depth e.0) c.in-Some.ensures.rules in
     (omega (arith, c.decreases, deeper.0, deeper.1, same), tt)
 
@@ -130,49 +130,49 @@ pub evaluate_targets-returns-in-Some : goal.evaluate_targets-returns-in-Some
 evaluate_targets-returns-in-Some t c =
     let f = evaluation c.args.config.now.rulesets (matching c.args.config.now.tables c.args.packet.now) in
     let main = main_path c.args.path.now c.is_empty.result c.if-not-is_empty.false (c.is_empty.ensures ∙ ap (λ (w : List ℕ). length w == 0) c.as_bytes.ensures.value) in
-    let at = ap (λ (p : List ℕ). path_within p c.args.reference.now.names) main ∙ c.from_main.ensures in
+    let at = ap (λ (p : List ℕ). path_within p c.args.reference.now.names) main ∙ c.path_from_main.ensures in
     let plain = sym c.is_wildcard.ensures ∙ c.if-is_wildcard.false in
     c.evaluate.ensures ∙ ap f c.in-Some.ensures.rules
-    ∙ sym (ap (in_turn f) (targets_from c.args.config.now.rulesets c.args.path.now c.args.reference.now c.from_main.result.bytes.now false at plain)
-    ∙ plain_turn f c.args.config.now.rulesets c.from_main.result.bytes.now c.placed_at.ensures.map.sorted (no_rules c.args.config.now.rulesets (matching c.args.config.now.tables c.args.packet.now) c.from_main.result.bytes.now))
+    ∙ sym (ap (in_turn f) (targets_from c.args.config.now.rulesets c.args.path.now c.args.reference.now c.path_from_main.result.bytes.now false at plain)
+    ∙ plain_turn f c.args.config.now.rulesets c.path_from_main.result.bytes.now c.placed_at.ensures.map.sorted (no_rules c.args.config.now.rulesets (matching c.args.config.now.tables c.args.packet.now) c.path_from_main.result.bytes.now))
 
 pub evaluate_targets-returns-in-None : goal.evaluate_targets-returns-in-None
 evaluate_targets-returns-in-None t c =
     let f = evaluation c.args.config.now.rulesets (matching c.args.config.now.tables c.args.packet.now) in
     let main = main_path c.args.path.now c.is_empty.result c.if-not-is_empty.false (c.is_empty.ensures ∙ ap (λ (w : List ℕ). length w == 0) c.as_bytes.ensures.value) in
-    let at = ap (λ (p : List ℕ). path_within p c.args.reference.now.names) main ∙ c.from_main.ensures in
+    let at = ap (λ (p : List ℕ). path_within p c.args.reference.now.names) main ∙ c.path_from_main.ensures in
     let plain = sym c.is_wildcard.ensures ∙ c.if-is_wildcard.false in
-    let nothing = no_rules c.args.config.now.rulesets (matching c.args.config.now.tables c.args.packet.now) c.from_main.result.bytes.now in
-    sym (ap (in_turn f) (targets_from c.args.config.now.rulesets c.args.path.now c.args.reference.now c.from_main.result.bytes.now false at plain)
-    ∙ plain_turn f c.args.config.now.rulesets c.from_main.result.bytes.now c.placed_at.ensures.map.sorted nothing
-    ∙ ap (λ (rs : List PlainRule). f (ruled c.from_main.result.bytes.now rs)) c.in-None.ensures.rules ∙ nothing)
+    let nothing = no_rules c.args.config.now.rulesets (matching c.args.config.now.tables c.args.packet.now) c.path_from_main.result.bytes.now in
+    sym (ap (in_turn f) (targets_from c.args.config.now.rulesets c.args.path.now c.args.reference.now c.path_from_main.result.bytes.now false at plain)
+    ∙ plain_turn f c.args.config.now.rulesets c.path_from_main.result.bytes.now c.placed_at.ensures.map.sorted nothing
+    ∙ ap (λ (rs : List PlainRule). f (ruled c.path_from_main.result.bytes.now rs)) c.in-None.ensures.rules ∙ nothing)
 
-pub evaluate_within-returns-in_default : goal.evaluate_within-returns-in_default
-evaluate_within-returns-in_default t c =
+pub evaluate_joined-returns-in_default : goal.evaluate_joined-returns-in_default
+evaluate_joined-returns-in_default t c =
     let none = sym (ap (path_within c.args.path.now) c.names.ensures.value) ∙ sym c.joined-reached.ensures ∙ c.in_default.is in
     sym (ap (in_turn (evaluation c.args.config.now.rulesets (matching c.args.config.now.tables c.args.packet.now))) (no_targets c.args.config.now.rulesets c.args.path.now c.args.reference.now none))
 
-pub evaluate_within-evaluate_children-requires : goal.evaluate_within-evaluate_children-requires
-evaluate_within-evaluate_children-requires t c =
+pub evaluate_joined-evaluate_children-requires : goal.evaluate_joined-evaluate_children-requires
+evaluate_joined-evaluate_children-requires t c =
     let at = sym (ap (path_within c.args.path.now) c.names.ensures.value) ∙ sym c.joined-reached.ensures ∙ c.in-Some.is in
     let deeper = leads_deeper c.args.path.now c.args.reference.now.names c.in-Some.base at in
     (omega (arith, c.decreases, deeper.0, deeper.1), tt)
 
-pub evaluate_within-returns-then-is_wildcard : goal.evaluate_within-returns-then-is_wildcard
-evaluate_within-returns-then-is_wildcard t c =
+pub evaluate_joined-returns-then-is_wildcard : goal.evaluate_joined-returns-then-is_wildcard
+evaluate_joined-returns-then-is_wildcard t c =
     let at = sym (ap (path_within c.args.path.now) c.names.ensures.value) ∙ sym c.joined-reached.ensures ∙ c.in-Some.is in
     let wildcard = sym c.is_wildcard.ensures ∙ c.if-is_wildcard.true in
     c.evaluate_children.ensures ∙ sym (ap (in_turn (evaluation c.args.config.now.rulesets (matching c.args.config.now.tables c.args.packet.now))) (targets_from c.args.config.now.rulesets c.args.path.now c.args.reference.now c.in-Some.base true at wildcard))
 
-pub evaluate_within-evaluate-requires : goal.evaluate_within-evaluate-requires
-evaluate_within-evaluate-requires t c =
+pub evaluate_joined-evaluate-requires : goal.evaluate_joined-evaluate-requires
+evaluate_joined-evaluate-requires t c =
     let at = sym (ap (path_within c.args.path.now) c.names.ensures.value) ∙ sym c.joined-reached.ensures ∙ c.in-Some.is in
     let deeper = leads_deeper c.args.path.now c.args.reference.now.names c.in-Some.base at in
     let same = ap (λ (e : PlainPlaced). depth e.0) c.in-Some-placed_at.ensures.rules in
     (omega (arith, c.decreases, deeper.0, deeper.1, same), tt)
 
-pub evaluate_within-returns-in-Some-placed_at : goal.evaluate_within-returns-in-Some-placed_at
-evaluate_within-returns-in-Some-placed_at t c =
+pub evaluate_joined-returns-in-Some-placed_at : goal.evaluate_joined-returns-in-Some-placed_at
+evaluate_joined-returns-in-Some-placed_at t c =
     let f = evaluation c.args.config.now.rulesets (matching c.args.config.now.tables c.args.packet.now) in
     let at = sym (ap (path_within c.args.path.now) c.names.ensures.value) ∙ sym c.joined-reached.ensures ∙ c.in-Some.is in
     let plain = sym c.is_wildcard.ensures ∙ c.if-is_wildcard.false in
@@ -180,8 +180,8 @@ evaluate_within-returns-in-Some-placed_at t c =
     ∙ sym (ap (in_turn f) (targets_from c.args.config.now.rulesets c.args.path.now c.args.reference.now c.in-Some.base false at plain)
     ∙ plain_turn f c.args.config.now.rulesets c.in-Some.base c.placed_at.ensures.map.sorted (no_rules c.args.config.now.rulesets (matching c.args.config.now.tables c.args.packet.now) c.in-Some.base))
 
-pub evaluate_within-returns-in-None : goal.evaluate_within-returns-in-None
-evaluate_within-returns-in-None t c =
+pub evaluate_joined-returns-in-None : goal.evaluate_joined-returns-in-None
+evaluate_joined-returns-in-None t c =
     let f = evaluation c.args.config.now.rulesets (matching c.args.config.now.tables c.args.packet.now) in
     let at = sym (ap (path_within c.args.path.now) c.names.ensures.value) ∙ sym c.joined-reached.ensures ∙ c.in-Some.is in
     let plain = sym c.is_wildcard.ensures ∙ c.if-is_wildcard.false in

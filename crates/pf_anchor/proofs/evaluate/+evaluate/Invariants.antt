@@ -20,8 +20,8 @@ decreases-effected l = 5 * (DEPTH_LIMIT - depth l.placed.now.0) + 2
 abbrev pub decreases-evaluate_targets : goal.decreases-evaluate_targets
 decreases-evaluate_targets l = 5 * (DEPTH_LIMIT - depth l.path.now) + 1
 
-abbrev pub decreases-evaluate_within : goal.decreases-evaluate_within
-decreases-evaluate_within l = 5 * (DEPTH_LIMIT - depth l.path.now)
+abbrev pub decreases-evaluate_joined : goal.decreases-evaluate_joined
+decreases-evaluate_joined l = 5 * (DEPTH_LIMIT - depth l.path.now)
 
 abbrev pub decreases-evaluate_children : goal.decreases-evaluate_children
 decreases-evaluate_children l = 5 * (DEPTH_LIMIT - depth l.path.now) + 1

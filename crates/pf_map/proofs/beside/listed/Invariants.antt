@@ -3,4 +3,4 @@ use Rattle.pf_map.specs.MapParts.{joined}
 use Rattle.pf_map.proofs.beside.listed.Given as goal
 
 abbrev pub invariant-loop-slot : goal.invariant-loop-slot
-invariant-loop-slot g l = map g.E.Held.pair l.list.items ≡ joined (take l.slot-index l.slots)
+invariant-loop-slot g l = map g.E.Holder.pair l.list.items ≡ joined (take l.slot-index l.slots)

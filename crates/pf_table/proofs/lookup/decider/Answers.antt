@@ -1,9 +1,9 @@
-use Rattle.std.proofs.Common.{◌≡◌, ◌≢◌, ◌<◌, arith, None, ◌∙◌, sym, ap, subst}
-use Rattle.pf_addr.specs.{declared.addr.Addr.Addr, Address.{PlainNet, family_of, width, network_from}, Spelling.first_addr}
+use Rattle.std.proofs.Common.{◌≡◌, ◌≢◌, ◌<◌, true, false, arith, None, ◌∙◌, sym, ap, subst}
+use Rattle.pf_addr.specs.{declared.addr.Addr.Addr, Address.{PlainNet, contains, family_of, width, network_from}, Spelling.first_addr}
 use Rattle.pf_table.specs.Shared.{Share}
 use Rattle.pf_addr.specs.NetOrder.{net_order}
 use Rattle.pf_map.specs.Maps.{at_or_before}
-use Rattle.pf_table.proofs.Lookups.{NoneLonger, Passes, none_longer_at_first, none_left, page_sorted, longest_decides, first_passes, none_so_short, other_family, shorter}
+use Rattle.pf_table.proofs.Lookups.{NoneLonger, Passes, none_longer_at_first, none_left, candidate_decides, candidate_passes, none_so_short, other_family, shorter}
 use Rattle.pf_table.proofs.lookup.decider.Goals as goal
 
 pub shorter-init : goal.shorter-init
@@ -15,39 +15,40 @@ shorter-init c =
           c.requires.table.networks whole;
     }
 
-pub returns-in_err-page : goal.returns-in_err-page
-returns-in_err-page c =
+pub returns-in_err-entry : goal.returns-in_err-entry
+returns-in_err-entry c =
     let none : at_or_before net_order (network_from c.args.addr c.shorter.len) c.args.entries.now ≡ None =
-    ap (λ (n : PlainNet). at_or_before net_order n c.args.entries.now) (sym c.new.ensures) ∙ c.in_err-page.ensures in
+    ap (λ (n : PlainNet). at_or_before net_order n c.args.entries.now) (sym c.new.ensures) ∙ c.in_err-entry.ensures in
     c.from_residual.ensures ∙ sym (none_left c.args.entries.now c.args.addr c.shorter.len c.shorter.invariant.most none)
 
-pub longest_in-requires : goal.longest_in-requires
-longest_in-requires c =
-    page_sorted c.args.entries.now c.in_ok-page.page.now c.args.addr c.shorter.len c.new.result c.requires.table.sorted c.shorter.invariant.most
-    c.new.ensures c.in_ok-page.ensures
-
-pub returns-in-Some : goal.returns-in-Some
-returns-in-Some c =
-    sym (longest_decides c.args.entries.now c.in_ok-page.page.now c.args.addr c.shorter.len c.new.result c.requires.table.sorted
-    c.shorter.invariant.most c.new.ensures c.in_ok-page.ensures c.in-Some.entry c.in-Some.ensures)
+pub returns-then-contains : goal.returns-then-contains
+returns-then-contains c =
+    let holds : contains c.in_ok-entry.entry.0 c.args.addr ≡ true =
+    ap (λ (n : PlainNet). contains n c.args.addr) (sym c.net-net.ensures.value) ∙ sym c.contains.ensures ∙ c.if-contains.true in
+    sym (candidate_decides c.args.entries.now c.args.addr c.shorter.len c.new.result c.requires.table.sorted
+    c.shorter.invariant.most c.new.ensures c.in_ok-entry.entry c.in_ok-entry.ensures holds)
 
 pub returns-in_err-len : goal.returns-in_err-len
 returns-in_err-len c =
-    let first = c.first_entry.result.now in
-    let passes : Passes c.args.addr c.shorter.len c.args.entries.now first =
-    first_passes c.args.entries.now c.in_ok-page.page.now c.args.addr c.shorter.len c.new.result c.requires.table.sorted
-    c.shorter.invariant.most c.new.ensures c.in_ok-page.ensures first c.first_entry.ensures c.in_default.ensures in
-    let other : first.0.family ≢ family_of c.args.addr =
-    λ same. c.in_err-len.ensures (sym same ∙ sym (c.addr.ensures.family ∙ ap (λ (n : PlainNet). n.family) c.net-first.ensures.value)) in
-    c.from_residual-in_err-len.ensures ∙ sym (other_family c.args.entries.now c.args.addr c.shorter.len first c.shorter.invariant.most passes other)
+    let entry = c.in_ok-entry.entry in
+    let misses : contains entry.0 c.args.addr ≡ false =
+    ap (λ (n : PlainNet). contains n c.args.addr) (sym c.net-net.ensures.value) ∙ sym c.contains.ensures ∙ c.if-contains.false in
+    let passes : Passes c.args.addr c.shorter.len c.args.entries.now entry =
+    candidate_passes c.args.entries.now c.args.addr c.shorter.len c.new.result c.requires.table.sorted
+    c.shorter.invariant.most c.new.ensures entry c.in_ok-entry.ensures misses in
+    let other : entry.0.family ≢ family_of c.args.addr =
+    λ same. c.in_err-len.ensures (sym same ∙ sym (c.addr.ensures.family ∙ ap (λ (n : PlainNet). n.family) c.net-net.ensures.value)) in
+    c.from_residual-in_err-len.ensures ∙ sym (other_family c.args.entries.now c.args.addr c.shorter.len entry c.shorter.invariant.most passes other)
 
 step : (c : goal.In_ok-len) → NoneLonger c.args.entries.now c.args.addr c.in_ok-len.len × (c.in_ok-len.len < c.shorter.len)
 step c =
-    let entry = c.first_entry.result.now in
+    let entry = c.in_ok-entry.entry in
+    let misses : contains entry.0 c.args.addr ≡ false =
+    ap (λ (n : PlainNet). contains n c.args.addr) (sym c.net-net.ensures.value) ∙ sym c.contains.ensures ∙ c.if-contains.false in
     let passes : Passes c.args.addr c.shorter.len c.args.entries.now entry =
-    first_passes c.args.entries.now c.in_ok-page.page.now c.args.addr c.shorter.len c.new.result c.requires.table.sorted
-    c.shorter.invariant.most c.new.ensures c.in_ok-page.ensures entry c.first_entry.ensures c.in_default.ensures in
-    let first : c.addr.result ≡ first_addr entry.0 = c.addr.ensures.value ∙ ap first_addr c.net-first.ensures.value in
+    candidate_passes c.args.entries.now c.args.addr c.shorter.len c.new.result c.requires.table.sorted
+    c.shorter.invariant.most c.new.ensures entry c.in_ok-entry.ensures misses in
+    let first : c.addr.result ≡ first_addr entry.0 = c.addr.ensures.value ∙ ap first_addr c.net-net.ensures.value in
     let share : Share c.args.addr (first_addr entry.0) c.in_ok-len.len =
     subst (λ (b : Addr). Share c.args.addr b c.in_ok-len.len) first c.in_ok-len.ensures in
     shorter c.args.entries.now c.args.addr c.shorter.len entry c.in_ok-len.len c.requires.table.networks c.shorter.invariant.within passes share

@@ -62,8 +62,8 @@ returns-in-Ok-Done-clause-leads g c =
     let before = free-before g (goal.at.returns-in-Ok-Done-clause-leads g c).After-step_ready in
     let e = rw c.in-Ok-Done.field-0-is at c.in-Ok-Done.ensures in
     let f : ℕ = g.D.Disk.fault_count s.store.disk in
-    subst (λ (l : PlainBook g.row.D.Denot). (h : CurrentOpening) → IsAt h (world_book l) → Leads h new (call c.args.command.now r) (upshot (length s.shower.shown) (nat_lt (g.D.Disk.fault_count l.disk) f))) c.self.view_is
-    (λ h at. no-fault h new (call c.args.command.now r) (length s.shower.shown) (nat_lt f f) (not-more f f (omega arith))
+    subst (λ (l : PlainBook g.row.D.Denot). (h : CurrentOpening) → IsAt h (world_book l) → Leads h new (call c.args.command.now r) (upshot (length (g.S.Publisher.plain s.shower).shown) (nat_lt (g.D.Disk.fault_count l.disk) f))) c.self.view_is
+    (λ h at. no-fault h new (call c.args.command.now r) (length (g.S.Publisher.plain s.shower).shown) (nat_lt f f) (not-more f f (omega arith))
     (answer-leads h b c.step_ready.new.self c.args.command.now c.in-Ok-Done.answer at c.self.invariant.folded before e.reply (ap (λ (w : PlainCore). w.tickets) e.left)))
 
 pub returns-in-Ok-Done-clause-any_moment : goal.returns-in-Ok-Done-clause-any_moment

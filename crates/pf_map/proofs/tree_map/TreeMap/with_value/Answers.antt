@@ -9,7 +9,7 @@ pub invariant_of-result : goal.invariant_of-result
 invariant_of-result g c =
     let key = g.Q.Probe.key c.args.sought.now in
     let sorted = c.in_ok-into_slots.ensures.sorted in
-    let has = c.is_some.ensures ∙ is_some-map (λ e. (g.E.Held.pair e.now).1) c.args.new in
+    let has = c.is_some.ensures ∙ is_some-map (λ e. (g.E.Holder.pair e.now).1) c.args.new in
     rw (c.in_ok-whole.ensures, c.in_ok-slots.ensures, c.in_ok-into_slots.ensures.value) (
       stays_sorted _ g.met.K.Key.total c.args.self key _ sorted,
       recounted g.met.K.Key.total c.args.self key _ c.self.inside.count c.in_ok-count.count c.args.had c.is_some.result

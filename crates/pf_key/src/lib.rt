@@ -1,7 +1,13 @@
-//! Keys, and what is looked for by them.
+//! Keys: what maps are ordered by, and what is looked for by them.
+//!
+//! It stands on nothing of the others, so that names, paths and networks can say how they are keys without the maps (`pf_map`) that they are
+//! keys of. Of a key it knows that it stands in a total order, and a number that rises with it; pairs of keys are keys. Read specs/Keys.antt
+//! first. Each clause of [`Key`] and [`Probe`] is proved of each type that says how it is a key; nothing here is only tested.
+#![tactic(auto)]
+
 ghost use Rattle.std.specs.{Prelude.{◌≡◌, ℕ}, Cmp.{IsTotalOrder, then_total, on_total}, FinMap.IsAntisymmetric, Ordering.eq_by_cmp};
 ghost use Rattle.std.specs.declared.cmp.Ordering.{Ordering};
-ghost use Rattle.pf_map.specs.{Hints.{RisesWith, pairs_rise}, Pairs.{pair_order, pairs_alike}};
+ghost use Rattle.pf_key.specs.Keys.{RisesWith, pairs_rise, pair_order, pairs_alike};
 
 use std::cmp::Ordering;
 
