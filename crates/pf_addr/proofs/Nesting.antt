@@ -1,10 +1,11 @@
 -- Paths within one another: which bytes the code compares, and that what is within a path is deeper.
 use Rattle.std.proofs.{Common.{◌≡◌, ◌≢◌, ℕ, ◌+◌, ◌==◌, ◌<◌, ◌≤◌, Bool, true, false, cond, List, [], ◌∷◌, ◌++◌, length, take, drop, Some, None, Option, refl, sym, ap, subst, ◌∙◌, append_assoc, arith}, Math.Seq.{take-append_seam, drop-append_seam}, lemmas.Bool.Decides.nat_tests, lemmas.List.{take-append-drop, append_cancel_left, length-append}, lemmas.List.Sums.{sum_by-append, sum_by-cons}, lemmas.Slice.Eq.bytes_eq-Decides}
-use Rattle.std.specs.{Prelude.{◌&&◌, ◌||◌, nat_lt, not, count_by, if◌then◌else◌}, List.list_any, Option.{is_none, option_or}}
+use Rattle.std.specs.{Prelude.{◌||◌, nat_lt, not, count_by, if◌then◌else◌}, List.list_any, Option.{is_none, option_or}}
 use Rattle.pf_addr.specs.declared.path.limits.TheConstants.{PATH_LIMIT, DEPTH_LIMIT}
 use Rattle.pf_form.specs.declared.form.fault.Kind.{Kind}
 use Rattle.pf_addr.specs.{Path.Paths.{is_slash, components, first_fault, depth_fault, path_fault}, Path.Nested.{depth, front, within, path_within, is_single, is_child}, Path.References.{PlainReference, ending}, Path.ReferenceGrammar.IsReference, Laws.Path.Nested.{NoDeeper, LeadsDeeper, ChildHasOneMore, EachIsAChild}}
 use Rattle.pf_addr.proofs.{PathTexts.count_components, PathsRead.{none_parts, none_of, names_found}}
+use Rattle.std.proofs.lemmas.Bool.{and_parts}
 
 -- ---- one component more
 
@@ -18,17 +19,13 @@ child_is p q x is =
     let rest_is : drop (length (front p)) q ≡ x = ap (drop (length (front p))) is ∙ drop-append_seam (front p) x in
     rw (rest_is, (bytes_eq-Decides (take (length (front p)) q) (front p)).1 front_is) refl
 
-both : (a b : Bool) → (a && b) ≡ true → (a ≡ true) × (b ≡ true)
-both true b h = (refl, h)
-both false b h = absurd (cc (h))
-
 not_true : (b : Bool) → not b ≡ true → b ≡ false
 not_true true h = absurd (cc (h))
 not_true false h = refl
 
 pub child_begins : (p q : List ℕ) → is_child p q ≡ true → q ≡ within p (drop (length (front p)) q)
 child_begins p q is =
-    sym (take-append-drop (length (front p)) q) ∙ ap (λ (a : List ℕ). a ++ drop (length (front p)) q) ((bytes_eq-Decides (take (length (front p)) q) (front p)).0 (both _ _ is).0)
+    sym (take-append-drop (length (front p)) q) ∙ ap (λ (a : List ℕ). a ++ drop (length (front p)) q) ((bytes_eq-Decides (take (length (front p)) q) (front p)).0 (and_parts _ _ is).0)
 
 pub no_child : (p q : List ℕ) → ((x : List ℕ) → q ≢ within p x) → is_child p q ≡ false
 no_child p q none = by (is_child p q) refl where
@@ -97,7 +94,7 @@ leads_deeper p names q is = by (path_fault (within p names)) refl is where
 
 single_parts : (x : List ℕ) → is_single x ≡ true → (0 < length x) × (count_by is_slash x ≡ 0)
 single_parts x is =
-    let parts = both (nat_lt 0 (length x)) (not (list_any is_slash x)) is in
+    let parts = and_parts (nat_lt 0 (length x)) (not (list_any is_slash x)) is in
     let some = parts.0 in
     (grind (arith, nat_tests), none_left x (not_true (list_any is_slash x) parts.1))
 
@@ -110,7 +107,7 @@ one_deeper (b ∷ bs) x is =
 pub has_one_more : ChildHasOneMore
 has_one_more p q is =
     let begins = child_begins p q is in
-    let single = (both _ _ is).1 in
+    let single = (and_parts _ _ is).1 in
     (drop (length (front p)) q, (begins, single, ap depth begins ∙ one_deeper p _ single))
 
 pub each_is_child : EachIsAChild

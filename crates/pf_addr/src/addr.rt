@@ -68,7 +68,7 @@ impl Addr {
         read_address(4, text)
     }
 
-    /// As [`Addr::from_ascii`].
+    /// The same for a `str`; its faults are those of [`Addr::from_ascii`].
     pub fn parse(text: &str) -> Result<Addr, AddrFault>
         ensures found { IfOk result (λ a. SpellsAddr text.now a) }
         ensures only { (a : Addr) → SpellsAddr text.now a → result ≡ Ok a }

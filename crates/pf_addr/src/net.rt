@@ -118,7 +118,7 @@ impl Net {
         Net::with_or_without_len(text)
     }
 
-    /// As [`Net::from_ascii`].
+    /// The same for a `str`; its faults are those of [`Net::from_ascii`].
     pub fn parse(text: &str) -> Result<Net, AddrFault>
         ensures found { IfOk result (λ n. SpellsNet text.now n) }
         ensures only { (n : PlainNet) → SpellsNet text.now n → result ≡ Ok n }

@@ -1,10 +1,11 @@
 -- A rule before other rules, rules in parts, and where a ruleset ends.
 use Rattle.std.proofs.Common.{◌≡◌, ℕ, ◌+◌, Bool, true, false, cond, List, [], ◌∷◌, ◌++◌, length, Option, Some, None, refl, sym, ap, ◌∙◌, arith}
-use Rattle.std.specs.{Prelude.◌||◌, List.list_any}
+use Rattle.std.specs.List.{list_any}
 use Rattle.pf_addr.specs.{Path.Paths.main, Path.References.PlainReference}
 use Rattle.pf_rule.specs.Rules.{PlainRule}
 use Rattle.pf_anchor.specs.{declared.{evaluated.Evaluated.Evaluated, evaluated.Evaluated.TheVariants.Open, evaluated.Evaluated.TheVariants.Ended}, Matches.{PlainMatch, found}, Rulesets.{PlainPlaced, ruled, targets}, Evaluation.{Tests, and_then, settled, in_turn, effected, evaluation, matching, last_of, verdict_by, rules_at_path}, Laws.Evaluation.{IsAnchor, OwnMatch, EndsOutside, NothingWithin, MatchWithin, QuickEnds, EndsTheVerdict, InTwoParts, PassedOver}}
 use Rattle.pf_anchor.proofs.Evaluations.{none_and_then, and_then_assoc, unrolled}
+use Rattle.std.proofs.lemmas.Bool.{or_parts}
 
 rule_is : (f : PlainPlaced → Evaluated PlainMatch) (c : List PlainPlaced) (tests : Tests) (p : List ℕ) (n : ℕ) (r : PlainRule) (rs : List PlainRule) (x : Evaluated PlainMatch) →
     tests p r ≡ true → effected f c p n r.effect ≡ x → rules_at_path f c tests p n (r ∷ rs) ≡ and_then (settled r.quick x) (rules_at_path f c tests p (n + 1) rs)
@@ -44,14 +45,10 @@ in_two_parts f c tests p n (r ∷ front) back =
     ap (and_then said) (in_two_parts f c tests p (n + 1) front back ∙ ap (λ (k : ℕ). and_then (rules_at_path f c tests p (n + 1) front) (rules_at_path f c tests p k back)) same)
     ∙ sym (and_then_assoc said (rules_at_path f c tests p (n + 1) front) (rules_at_path f c tests p (n + length (r ∷ front)) back))
 
-neither : (a b : Bool) → (a || b) ≡ false → (a ≡ false) × (b ≡ false)
-neither true b h = absurd (cc (h))
-neither false b h = (refl, h)
-
 pub passes_over : PassedOver
 passes_over f c tests p n [] h = refl
 passes_over f c tests p n (r ∷ rs) h =
-    let parts = neither (tests p r) (list_any (tests p) rs) h in
+    let parts = or_parts (tests p r) (list_any (tests p) rs) h in
     ap (λ (b : Bool). and_then (cond b (settled r.quick (effected f c p n r.effect)) (Open None)) (rules_at_path f c tests p (n + 1) rs)) parts.0
     ∙ ap (and_then (Open None)) (passes_over f c tests p (n + 1) rs parts.1)
 

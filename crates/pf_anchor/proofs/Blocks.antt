@@ -8,6 +8,7 @@ use Rattle.pf_lanes.specs.{Masks.{is_set, AreEnds}, Answered.{bit_by, block_mark
 use Rattle.pf_lanes.proofs.{Bits.{none_set, is_set-and}, Counted.taken_above, Places.eight_get}
 use Rattle.pf_anchor.specs.{Blocks.AreStops, declared.{evaluated.Evaluated.Evaluated, evaluated.Evaluated.TheVariants.Open, evaluated.Evaluated.TheVariants.Ended}, Matches.{PlainMatch, found}, Rulesets.PlainPlaced, Evaluation.{and_then, settled, effected, rules_give}}
 use Rattle.pf_anchor.proofs.{Evaluations.{none_and_then, and_then_assoc}, Turns.then_open}
+use Rattle.pf_map.proofs.Tests.{same_entry}
 
 -- ---- a block, and the rules after it
 
@@ -69,9 +70,6 @@ neither : (a b : Bool) → (a || b) ≡ false → a ≡ false
 neither false b e = refl
 neither true b e = e
 
-some_is : {A : Type 0} (x y : A) → Some x ≡ Some y → x ≡ y
-some_is x y e = cc e
-
 -- a rule before the last one that matches doesn't end the evaluation
 left_open : (f : PlainPlaced → Evaluated PlainMatch) (c : List PlainPlaced) (p : List ℕ) (n : ℕ) (b q : Bool) (e : Effect) → (b ≡ true → (q || is_anchor e) ≡ false) →
     (o : Option PlainMatch) × (cond b (settled q (effected f c p n e)) (Open None) ≡ Open o)
@@ -91,7 +89,7 @@ last_stands : (f : PlainPlaced → Evaluated PlainMatch) (c : List PlainPlaced) 
     IsLast test rs lane r → r.effect ≡ Decide a → rules_give (λ k x. effected f c p k x.effect) test n rs ≡ Open (Some (found p (n + lane) a))
 last_stands f c p test n [] lane r a is decides = absurd (cc (is.there))
 last_stands f c p test n (x ∷ xs) zero r a is decides =
-    let same = some_is x r is.there in
+    let same = same_entry x r is.there in
     let m : test x ≡ true = ap test same ∙ is.matches in
     let q : x.quick ≡ false = neither x.quick (is_anchor x.effect) (is.free 0 m) in
     let e : x.effect ≡ Decide a = ap (λ (y : PlainRule). y.effect) same ∙ decides in

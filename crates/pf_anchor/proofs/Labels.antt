@@ -3,6 +3,7 @@ use Rattle.std.proofs.{Common.{◌≡◌, ◌+◌, ◌*◌, ◌<◌, ◌≤◌, 
 use Rattle.std.specs.{Prelude.{All, is_none, unwrap_or}}
 use Rattle.pf_rule.specs.{declared.rule.Effect.{Effect, TheVariants.Decide, TheVariants.Evaluate}, Rules.{PlainRule, LabelFits, IsRule}, Sum.{Forms.label_bytes, Layouts.{has_labels, allows}}}
 use Rattle.pf_anchor.specs.Forms.{allows_rules, labels_length}
+use Rattle.std.proofs.Math.Bool.{or-true}
 
 -- ---- how long they are
 
@@ -35,10 +36,6 @@ labels_taken rs i r within here =
 
 -- ---- which versions allow them
 
-or_true : (b : Bool) → (b || true) ≡ true
-or_true true = refl
-or_true false = refl
-
 pub all_allowed : (version : ℕ) (rs : List PlainRule) → has_labels version ≡ true → allows_rules version rs ≡ true
 all_allowed version [] new = refl
 all_allowed version (r ∷ rs) new = rw (new, all_allowed version rs new) refl
@@ -53,7 +50,7 @@ none_labelled version [] are none = refl
 none_labelled version (r ∷ rs) are none =
     let here : length (label_bytes r) ≡ 0 = omega (arith, one_more r rs, none) in
     let rest : labels_length rs ≡ 0 = omega (arith, one_more r rs, none) in
-    rw (without r.effect r.label (All-head IsRule r rs are).label here, or_true (has_labels version), none_labelled version rs (All-tail IsRule r rs are) rest) refl
+    rw (without r.effect r.label (All-head IsRule r rs are).label here, or-true (has_labels version), none_labelled version rs (All-tail IsRule r rs are) rest) refl
 
 no_bytes : (l : Option (List ℕ)) → is_none l ≡ true → length (unwrap_or l []) ≡ 0
 no_bytes None is = refl

@@ -5,6 +5,7 @@ use Rattle.pf_addr.specs.Path.Paths.{main}
 use Rattle.pf_rule.specs.{Rules.PlainRule, declared.{rule.Action.Action, rule.Effect.Effect, rule.Effect.TheVariants.Decide, rule.Effect.TheVariants.Evaluate}}
 use Rattle.pf_anchor.specs.{declared.{evaluated.Evaluated.Evaluated, evaluated.Evaluated.TheVariants.Open, evaluated.Evaluated.TheVariants.Ended}, Matches.{PlainMatch, found}, Rulesets.{PlainPlaced, ruled, rules_at}, Evaluation.{and_then, settled, effected, rules_give, evaluation, matching, last_of, verdict_by}, Laws.Evaluation.{IsDeciding, TellsWhatDecides, decides}}
 use Rattle.pf_anchor.proofs.Evaluations.{none_and_then, unrolled}
+use Rattle.std.proofs.lemmas.Bool.{and_parts}
 
 -- what rules from a number on give: nothing, or the rule that decides
 abbrev GivesDeciding : (PlainRule → Bool) → List ℕ → ℕ → List PlainRule → Evaluated PlainMatch → Type 0
@@ -42,14 +43,10 @@ step f c test p k x xs y false q (Decide a) is quick effect plain (inl none) = i
 step f c test p k x xs y false q (Decide a) is quick effect plain (inr found_is) =
     further test p k x xs found_is.0 found_is.1.0 found_is.1.1.0 (and_then (Open None) y) (rw is refl) found_is.1.1.1.0 found_is.1.1.1.1 (ap last_of (none_and_then y) ∙ found_is.1.1.1.2)
 
-both : (a b : Bool) → (a && b) ≡ true → (a ≡ true) × (b ≡ true)
-both true b h = (refl, h)
-both false b h = absurd (cc (h))
-
 finds : (f : PlainPlaced → Evaluated PlainMatch) (c : List PlainPlaced) (test : PlainRule → Bool) (p : List ℕ) (k : ℕ) (rules : List PlainRule) → list_all decides rules ≡ true → GivesDeciding test p k rules (rules_give (λ n r. effected f c p n r.effect) test k rules)
 finds f c test p k [] plain = inl (refl, refl)
 finds f c test p k (x ∷ xs) plain =
-    let parts = both (decides x) (list_all decides xs) plain in
+    let parts = and_parts (decides x) (list_all decides xs) plain in
     step f c test p k x xs (rules_give (λ n r. effected f c p n r.effect) test (k + 1) xs) (test x) x.quick x.effect refl refl refl parts.0 (finds f c test p (k + 1) xs parts.1)
 
 pub tells_what_decides : TellsWhatDecides

@@ -6,6 +6,7 @@ use Rattle.pf_addr.specs.{Path.Nested.is_child, Path.Paths.{path_order, same_pat
 use Rattle.pf_rule.specs.Rules.{PlainRule}
 use Rattle.pf_anchor.specs.{Laws.Configurations.{ReplacesInTurn, StaysMap, OneMap, in_order, ChildrenHaveRules}, Rulesets.{PlainPlaced, ruled, rules_in}}
 use Rattle.pf_map.proofs.ListMaps.{lists_replaced, list_maps_stay, one_list_map}
+use Rattle.pf_map.proofs.Tests.{first_of, second_of, both_of}
 
 -- ---- replaced
 
@@ -37,26 +38,14 @@ paths_kept test (e ∷ c) = by (test e.0) (paths_kept test c) where
   by true rest = ap (λ (paths : List (List ℕ)). e.0 ∷ paths) rest
   by false rest = rest
 
-pub both_hold : (a b : Bool) → T a → T b → T (a && b)
-both_hold true b p q = q
-both_hold false b p q = p
-
-pub first_holds : (a b : Bool) → T (a && b) → T a
-first_holds true b p = tt
-first_holds false b p = p
-
-pub second_holds : (a b : Bool) → T (a && b) → T b
-second_holds true b p = p
-second_holds false b p = absurd p
-
 -- the paths of a map are in its order
 below_keys : (k : List ℕ) (es : List PlainPlaced) → T (below_all path_order k es) → T (below_all path_order k (map (λ q. ruled q []) (map (λ (e : PlainPlaced). e.0) es)))
 below_keys k [] h = h
-below_keys k (e ∷ es) h = both_hold _ _ (first_holds _ _ h) (below_keys k es (second_holds _ _ h))
+below_keys k (e ∷ es) h = both_of _ _ (first_of _ _ h) (below_keys k es (second_of _ _ h))
 
 keys_sorted : (es : List PlainPlaced) → T (is_sorted path_order es) → T (in_order (map (λ (e : PlainPlaced). e.0) es))
 keys_sorted [] h = h
-keys_sorted (e ∷ es) h = both_hold _ _ (below_keys e.0 es (first_holds _ _ h)) (keys_sorted es (second_holds _ _ h))
+keys_sorted (e ∷ es) h = both_of _ _ (below_keys e.0 es (first_of _ _ h)) (keys_sorted es (second_of _ _ h))
 
 has_rules : (v : Option (List PlainRule)) → v ≢ Some [] → is_some v ≡ not (length (rules_in v) == 0)
 has_rules None some = refl

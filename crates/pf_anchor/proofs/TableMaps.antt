@@ -1,11 +1,11 @@
 -- The map of tables: what a change leaves of it, and which table answers a rule.
-use Rattle.std.proofs.{Common.{◌≡◌, ◌≢◌, ◌⊎◌, inl, inr, ℕ, ◌+◌, ◌≤◌, Bool, true, false, not, cond, List, length, [], ◌∷◌, Option, None, refl, sym, ap, ◌∙◌}, lemmas.Cmp.{eq_by_cmp_equiv, nat_list_cmp_total, on_total, then_total}}
-use Rattle.std.specs.{declared.{cmp.Ordering.Ordering, cmp.Ordering.TheVariants.Less, cmp.Ordering.TheVariants.Equal, cmp.Ordering.TheVariants.Greater}, Prelude.fold, Cmp.IsTotalOrder, FinMap.{IsAntisymmetric, slice_cmp-IsAntisymmetric, nat_cmp-IsAntisymmetric}, Option.{option_map_or, option_or}, Ordering.eq_by_cmp}
+use Rattle.std.proofs.{Common.{◌≡◌, ◌≢◌, ◌⊎◌, inl, inr, ℕ, Bool, true, false, not, cond, List, [], ◌∷◌, Option, None, refl, sym, ap, ◌∙◌}, lemmas.Cmp.{eq_by_cmp_equiv, nat_list_cmp_total, on_total, then_total}}
+use Rattle.std.specs.{declared.{cmp.Ordering.Ordering, cmp.Ordering.TheVariants.Less, cmp.Ordering.TheVariants.Equal, cmp.Ordering.TheVariants.Greater}, Cmp.IsTotalOrder, FinMap.{IsAntisymmetric, slice_cmp-IsAntisymmetric, nat_cmp-IsAntisymmetric}, Option.{option_map_or, option_or}, Ordering.eq_by_cmp}
 use Rattle.pf_addr.specs.declared.addr.Addr.{Addr}
 use Rattle.pf_table.specs.{Entries.PlainEntry, Tables.table_holds}
 use Rattle.pf_key.specs.Keys.{pairs_alike}
 use Rattle.pf_map.specs.ListMaps.{list_in, unless_empty}
-use Rattle.pf_map.proofs.{Maps.replaces_the_key, ListMaps.{lists_replaced, list_maps_stay, one_list_map, lists_grow}}
+use Rattle.pf_map.proofs.{Maps.replaces_the_key, ListMaps.{lists_replaced, list_maps_stay, one_list_map}}
 use Rattle.pf_addr.specs.{Path.Names.name_order, Path.Paths.{main, path_order}}
 use Rattle.pf_rule.specs.declared.host.host.Host.TheVariants.{Table}
 use Rattle.pf_rule.specs.Host.Hosts.{host_holds}
@@ -75,10 +75,6 @@ other_paths_stay ts p name es q other differ =
 
 pub leaves_the_other : LeavesTheOther
 leaves_the_other c rulesets tables = (refl, refl)
-
--- each replaced table adds at most one entry
-pub tables_grow : (items ts : List PlainPlacedTable) → length (fold with_table ts items) ≤ length ts + length items
-tables_grow items ts = lists_grow table_order items ts
 
 -- ---- which table answers
 

@@ -1,17 +1,12 @@
 -- Rulesets in turn: what a reference leads to, as the code finds it.
-use Rattle.std.proofs.{Common.{◌≡◌, ℕ, ◌<◌, ◌≤◌, ◌+◌, T, Bool, true, false, cond, List, [], ◌∷◌, ◌++◌, Option, Some, None, refl, sym, ap, ◌∙◌, arith}, lemmas.Cmp.{alike_right, eq_by_cmp_equiv, nat_list_cmp_total}, lemmas.List.map-append, lemmas.List.Elements.filter-append}
-use Rattle.std.specs.{Prelude.{filter, map}, FinMap.{find, is_sorted, slice_cmp-IsAntisymmetric, nat_cmp-IsAntisymmetric}, FinMap.Entries.{same_entries, find-where_key, is_sorted-where_key}, Option.{option_map_or, option_or}, Ordering.is_eq}
+use Rattle.std.proofs.{Common.{◌≡◌, ℕ, ◌<◌, ◌≤◌, ◌+◌, T, Bool, true, false, cond, List, [], ◌∷◌, ◌++◌, Option, Some, None, refl, sym, ap, ◌∙◌, arith}, lemmas.Cmp.{alike_right, eq_by_cmp_equiv, nat_list_cmp_total}}
+use Rattle.std.specs.{Prelude.filter, FinMap.{find, is_sorted, slice_cmp-IsAntisymmetric, nat_cmp-IsAntisymmetric}, FinMap.Entries.{same_entries, find-where_key, is_sorted-where_key}, Option.{option_map_or, option_or}, Ordering.is_eq}
 use Rattle.pf_addr.specs.declared.path.limits.TheConstants.{DEPTH_LIMIT}
 use Rattle.pf_addr.specs.{Path.Paths.{path_order, same_path, is_path}, Path.Nested.{depth, path_within, is_child}, Path.References.PlainReference}
 use Rattle.pf_addr.proofs.{PathsRead.same_path_is, Nesting.{path_few, has_one_more}}
 use Rattle.pf_rule.specs.Rules.{PlainRule}
-use Rattle.pf_anchor.specs.{declared.{evaluated.Evaluated.Evaluated, evaluated.Evaluated.TheVariants.Open}, Rulesets.{PlainPlaced, ruled, rules_in, rules_at, leads_from, targets, children}, Evaluation.{and_then, settled, rules_give, in_turn}}
+use Rattle.pf_anchor.specs.{declared.{evaluated.Evaluated.Evaluated, evaluated.Evaluated.TheVariants.Open}, Rulesets.{PlainPlaced, ruled, rules_in, rules_at, leads_from, targets}, Evaluation.{and_then, settled, rules_give, in_turn}}
 use Rattle.pf_anchor.proofs.Evaluations.{none_and_then, and_then_none, and_then_assoc}
-
-pub placed_is : (e : PlainPlaced) (p : List ℕ) (es rest : List PlainPlaced) → same_path p e.0 ≡ true → rules_at p es ≡ rules_at p (e ∷ rest) → e ≡ ruled p (rules_at p es)
-placed_is e p es rest same found =
-    let here : rules_at p es ≡ e.1 = found ∙ rw same refl in
-    ap (λ (q : List ℕ). ruled q e.1) (sym (same_path_is p e.0 same)) ∙ ap (λ (rs : List PlainRule). ruled p rs) (sym here)
 
 -- ---- one after the other
 
@@ -105,8 +100,3 @@ plain_turn f c p sorted nothing = ap (in_turn f) (one_there c p sorted) ∙ by (
 
 pub child_deeper : (p q : List ℕ) → is_child p q ≡ true → is_path q ≡ true → (depth p < depth q) × (depth q ≤ DEPTH_LIMIT)
 child_deeper p q is path = let more = (has_one_more p q is).1.2 in (omega (arith, more), path_few q path)
-
--- ---- children
-
-pub children_append : (a b : List PlainPlaced) (p : List ℕ) → children (a ++ b) p ≡ children a p ++ children b p
-children_append a b p = ap (filter (is_child p)) (map-append (λ (e : PlainPlaced). e.0) a b) ∙ filter-append (is_child p) (map (λ (e : PlainPlaced). e.0) a) (map (λ (e : PlainPlaced). e.0) b)

@@ -11,7 +11,7 @@ use crate::rule_list::RuleList;
 use crate::rulesets::{EachRuleset, Placed, Rulesets, in_columns};
 use crate::tables::{EachTable, Place, PlacedTable, Tables};
 use pf_addr::path::{Path, TableName};
-use pf_key::Probe;
+use pf_key::Sought;
 use pf_map::PagedMap;
 use pf_table::Table;
 use std::alloc::{AllocError, Global};
@@ -216,7 +216,7 @@ impl Config {
     }
 
     /// The ruleset at a path, if it has rules.
-    pub(crate) fn placed_at<Q: Probe<Path>>(&self, path: &Q) -> Option<&Placed>
+    pub(crate) fn placed_at<Q: Sought<Path>>(&self, path: &Q) -> Option<&Placed>
         ensures rules { MatchOption result (rules_at (Q.key path.now) self.now.rulesets ≡ []) (λ p. p.now
             ≡ ruled (Q.key path.now) (rules_at (Q.key path.now) self.now.rulesets)) }
         ensures map { IsMap self.now.rulesets }

@@ -10,7 +10,7 @@
 //!
 //! `config` is the type, over what the maps hold: `rulesets`, `tables` and `rule_list`, which don't use it. `evaluate` is judging, over
 //! `config`, and uses `evaluated` (what was found so far) and `named_tables` (the table that a rule names), which `config` doesn't.
-//! `verdict` is what an evaluation answers, `fault` why something isn't put at a path, and `laws` may name all.
+//! `verdict` is what an evaluation answers, `fault` and `limits` say why something isn't put at a path, and `laws` may use all.
 //!
 //! Proved: what each change leaves of both maps, how many bytes they take, and that `Config::judge` finds what the evaluation of
 //! specs/Evaluation.antt finds (the contracts of `Config`, `RuleList` and the lengths); that evaluation is the one solution of its

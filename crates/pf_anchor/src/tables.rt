@@ -4,7 +4,7 @@ ghost use Rattle.pf_form.specs.Bytes.Forms.{length_of};
 ghost use Rattle.pf_anchor.specs.Forms.{named_form, plain_named};
 
 use pf_addr::path::{Path, TableName};
-use pf_key::{Key, Probe};
+use pf_key::{Key, Sought};
 use pf_map::{Entries, KeyValue, PagedMap, Weigher};
 use pf_table::Table;
 use std::cmp::Ordering;
@@ -61,7 +61,7 @@ pub(crate) struct Place<'a> {
     pub name: &'a TableName,
 }
 
-impl<'a> Probe<(Path, TableName)> for Place<'a> {
+impl<'a> Sought<(Path, TableName)> for Place<'a> {
     ghost key = { λ p. (p.path.now, p.name.now) };
 
     fn order(&self, other: &(Path, TableName)) -> Ordering {

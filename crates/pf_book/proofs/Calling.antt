@@ -42,10 +42,6 @@ durable-is h b at folded = folded.durable ∙ ap (λ (k : PlainDurable). after k
 free-too : (h : CurrentOpening) (b : WorldBook) (c : Command) → IsAt h b → IsFree b c → (may_change c && is_halted h.pending) ≡ false
 free-too h b c at free = ap (λ (gs : List (List PlainChange)). may_change c && is_halted gs) (sym at.pending) ∙ free
 
--- and if none is pending
-pub is-free : (b : WorldBook) (c : Command) → b.pending ≡ [] → IsFree b c
-is-free b c none = ap (λ (gs : List (List PlainChange)). may_change c && is_halted gs) none ∙ and-false (may_change c)
-
 -- the step that is taken is the one by the world's tickets and by what the world keeps
 own-step : (h : CurrentOpening) (b : WorldBook) (c : Command) (r : Result Step Refusal) → IsAt h b → IsFolded b → Steps b c r → (r ≡ Err Memory → ⊥) → r ≡ step_by h.tickets (durable_of h) c
 own-step h b c r at folded steps other =
@@ -78,9 +74,6 @@ no-fault h new c shown failed is leads = subst (λ (x : Bool). Leads h new c (up
 
 pub not-more : (n m : ℕ) → m ≡ n + 0 → nat_lt n m ≡ false
 not-more n m is = grind (arith, nat_tests, is)
-
-pub one-more : (n m : ℕ) → m ≡ n + 1 → nat_lt n m ≡ true
-one-more n m is = grind (arith, nat_tests, is)
 
 -- ---- nothing is kept
 

@@ -1,17 +1,17 @@
 -- One more command of a group.
-use Rattle.std.proofs.{Common.{◌≡◌, ◌≢◌, cond, nat_lt, ℕ, zero, suc, ◌+◌, ◌<◌, ◌≤◌, ◌&&◌, Bool, true, false, List, [], ◌∷◌, ◌++◌, length, get_or, Option, None, Some, Result, Ok, Err, refl, sym, ap, ◌∙◌, subst, arith, append_assoc, append-nil, length-append}, lemmas.{Bool.Decides.nat_tests, Iterator.Adapters.position_from-zero, List.map-append}}
-use Rattle.std.specs.{Prelude.{flat_map, not, nat_le, position, ◌==◌, ◌||◌}, List.{AllByRecursion, list_all, position_from}}
+use Rattle.std.proofs.{Common.{◌≡◌, ◌≢◌, cond, ℕ, ◌+◌, ◌<◌, ◌≤◌, ◌&&◌, Bool, true, false, List, [], ◌∷◌, ◌++◌, length, Option, None, Some, Result, Ok, Err, refl, sym, ap, ◌∙◌, subst, arith, append_assoc, append-nil, length-append}, lemmas.{Bool.Decides.nat_tests, Iterator.Adapters.position_from-zero, List.map-append}}
+use Rattle.std.specs.{Prelude.{flat_map, not, position}, List.{AllByRecursion, list_all, position_from}}
 use Rattle.pf_core.specs.Refusing.{unless, refused_at, AreBothPassed, both_passed, not_refused}
 use Rattle.pf_ticket.specs.{Laws.Tickets.IsWithin as AreTicketsWithin, Mentions.{after as moved_by, switches}, Tickets.PlainTickets}
-use Rattle.pf_core.specs.declared.{command.Command.Command, command.Command.TheVariants.History, command.HistoryCommand.HistoryCommand, reply.Answer.Answer, reply.Outcome.Outcome, reply.Refusal.Refusal, reply.Refusal.TheVariants.{BadCount, NotGrouped, Memory}, group.TheConstants.GROUP_LIMIT, reply.Reply.Reply, step.ReadyStep.ReadyStep, step.Step.Step, step.Step.TheVariants.{Done, Wants, OfHistory}}
+use Rattle.pf_core.specs.declared.{command.Command.Command, reply.Refusal.Refusal, reply.Refusal.TheVariants.{BadCount, NotGrouped, Memory}, group.TheConstants.GROUP_LIMIT, reply.Reply.Reply, step.ReadyStep.ReadyStep, step.Step.Step, step.Step.TheVariants.{Done, Wants, OfHistory}}
 use Rattle.pf_core.specs.declared.step.ReadyStep.TheVariants as made
-use Rattle.pf_core.specs.{Commands.{step_by, may_be_grouped, bad_number, group_words, mentioned}, Durable.Changes.{PlainDurable, PlainChange, after, voided_by, fits}, Laws.Wanted.{left_is, wants_what_fits}, Nexts.{PlainNext, next_with}, Cores.{PlainCore, core_with, left_behind, answered, stepped, plain, IsMadeFrom}, Worlds.{CurrentOpening, log_of, durable_of, flat, step_in, reply_to, changes_of, amid, changes_due, replies_due}}
-use Rattle.pf_core.proofs.Courses.{IsOfGroup, told, wanted, refused, step-amid, unhalted-in, step-there, left-there, log-amid}
-use Rattle.pf_store.specs.{Groups.{can_be_wanted, is_group, made_all}, Stores.{FollowInTurn}}
+use Rattle.pf_core.specs.{Commands.{step_by, may_be_grouped, bad_number, group_words}, Durable.Changes.{PlainDurable, PlainChange, after, voided_by, fits}, Laws.Wanted.wants_what_fits, Nexts.PlainNext, Cores.{PlainCore, left_behind, plain, IsMadeFrom}, Worlds.{CurrentOpening, log_of, durable_of, step_in, reply_to, changes_of, amid, changes_due, replies_due}}
+use Rattle.pf_core.proofs.Courses.{step-there, left-there, log-amid}
+use Rattle.pf_store.specs.{Groups.{can_be_wanted, made_all}, Stores.FollowInTurn}
 use Rattle.pf_store.specs.declared.groups.recorded.Recorded.TheVariants as recorded
 use Rattle.pf_store.proofs.Leading.{follow_push, left_by_made}
 use Rattle.pf_book.specs.{Books.left_together, Courses.{IsCalm, ready_of, found_by, left_to}}
-use Rattle.pf_book.proofs.Wanting.{wanted-can, with_tickets}
+use Rattle.pf_book.proofs.Wanting.{wanted-can}
 
 -- ---- what is left so far
 
@@ -40,10 +40,6 @@ left-on d changes before (Err e) is from = still-ready d changes before is
 pub none-ready : (d : PlainDurable) (changes : List PlainChange) → None ≡ ready_of d changes → changes ≡ []
 none-ready d [] is = refl
 none-ready d (e ∷ es) is = absurd (cc (is))
-
-pub ready-left : (d : PlainDurable) (changes : List PlainChange) (n : PlainNext) → Some n ≡ ready_of d changes → n ≡ left_together d changes
-ready-left d [] n is = absurd (cc (is))
-ready-left d (e ∷ es) n is = cc (is)
 
 pub ready-some : (d : PlainDurable) (changes : List PlainChange) (n : PlainNext) → Some n ≡ ready_of d changes → 0 < length changes
 ready-some d [] n is = absurd (cc (is))
@@ -122,36 +118,6 @@ few-on changes changes' s wants = omega (arith, ap length wants, length-append c
   one (Ok (OfHistory x)) = omega arith
   one (Err e) = omega arith
 
--- ---- a group's command
-
-pub never-history : (t : PlainTickets) (d : PlainDurable) (c : Command) (s : Result Step Refusal) → may_be_grouped c ≡ true → (s ≢ Err Memory → s ≡ step_by t d c) → (x : HistoryCommand) → s ≢ Ok (OfHistory x)
-never-history t d c s may steps x is =
-    let own : step_by t d c ≡ Ok (OfHistory x) = sym (steps (λ m. cc (m, is))) ∙ is in
-    let asked : c ≡ History x = left_is t d c x own in
-    cc (ap may_be_grouped asked, may)
-
-unmentioned : (c : Command) (s : Result Step Refusal) → IsOfGroup c s → (a : Answer) → s ≡ Ok (Done a) → mentioned c ≡ []
-unmentioned _ _ (told c x none silent) a is = none
-unmentioned _ _ (wanted c e o mentions) a is = absurd (cc (is))
-unmentioned _ _ (refused c e) a is = absurd (cc (is))
-
--- it leaves the core as it is until its change is accepted
-pub still-whole : (w : PlainCore) (c : Command) (s : Result Step Refusal) → may_be_grouped c ≡ true → (s ≢ Err Memory → s ≡ step_by w.tickets w.durable c) → stepped w c s ≡ w
-still-whole w c (Ok (Done a)) may steps =
-    let h : CurrentOpening = with_tickets w.tickets w.durable in
-    let own : step_by w.tickets w.durable c ≡ Ok (Done a) = sym (steps (λ m. cc (m))) in
-    let none : mentioned c ≡ [] = unmentioned c (step_in h c) (step-amid h c may) a (unhalted-in h c refl ∙ own) in
-    ap (λ ms. core_with w.durable (moved_by w.tickets ms)) none
-still-whole w c (Ok (Wants e o)) may steps = refl
-still-whole w c (Ok (OfHistory x)) may steps = refl
-still-whole w c (Err e) may steps = refl
-
--- if all commands may be grouped each of them may
-pub may-at : (commands : List Command) (i : ℕ) (c : Command) → AllByRecursion (λ c. may_be_grouped c ≡ true) commands → i < length commands → c ≡ get_or commands i c → may_be_grouped c ≡ true
-may-at [] i c all low is = absurd (omega (arith, low))
-may-at (x ∷ xs) zero c all low is = ap may_be_grouped is ∙ all.0
-may-at (x ∷ xs) (suc i) c all low is = may-at xs i c all.1 (omega (arith, low)) is
-
 -- ---- a group's own words
 
 none-unfit : (i : ℕ) (commands : List Command) → position_from (λ (c : Command). not (may_be_grouped c)) i commands ≡ None → AllByRecursion (λ c. may_be_grouped c ≡ true) commands
@@ -184,9 +150,3 @@ well commands is =
       may = none-unfit 0 commands (sym (position_from-zero (λ (c : Command). not (may_be_grouped c)) commands) ∙ none-refused kinds both.second);
       few = few (length commands) (not_refused (bad_number (length commands)) BadCount both.first);
     }
-
--- so a record may keep as many changes as it has
-pub enough : (es : List PlainChange) (commands : List Command) → AreWell commands → 0 < length es → length es ≤ length commands → is_group es ≡ true
-enough es commands w some low = by (length es) some (omega (arith, low, w.few)) where
-  by : (n : ℕ) → 0 < n → n ≤ GROUP_LIMIT → (not (n == 0) && nat_le n GROUP_LIMIT) ≡ true
-  by n some low = grind (arith, nat_tests, some, low)

@@ -1,11 +1,12 @@
 -- When changes find room on the device together.
 use Rattle.std.proofs.{Common.{◌≡◌, ◌<◌, ◌≤◌, ℕ, Bool, true, false, List, [], ◌∷◌, ◌++◌, length, refl, ap, sym, ◌∙◌, subst, arith}, lemmas.{Bool.Decides.nat_tests, List.length-map, List.Sums.fold-append}}
-use Rattle.std.specs.{Prelude.{not, nat_le, ◌==◌, ◌&&◌}, List.list_all}
+use Rattle.std.specs.{Prelude.{not, nat_le, ◌==◌}, List.list_all}
 use Rattle.pf_core.specs.{Durable.Changes.{PlainDurable, PlainChange, applied, after}, WorldBooks.WorldBook, Worlds.{flat, is_fault}, declared.{group.TheConstants.GROUP_LIMIT, reply.Refusal.Refusal, reply.Refusal.TheVariants.{HistoryFull, Full}}}
 use Rattle.pf_store.specs.{Groups.{have_form, has_form, is_group, made_all}, Lengths.payload_length, Rooms.group_fits, Stores.{FindsRoom, HasRoom}}
 use Rattle.pf_store.specs.declared.groups.recorded.Recorded.TheVariants as recorded
 use Rattle.pf_store.proofs.RoomForGroups.{group-fits}
 use Rattle.pf_book.specs.Books.{HasNoRoom, IsUnkept}
+use Rattle.std.proofs.lemmas.Bool.{and_parts}
 
 left-is : (base d next : PlainDurable) (groups : List (List PlainChange)) (es : List PlainChange) → d ≡ after base (flat groups) → next ≡ after d es → next ≡ after base (flat groups ++ es)
 left-is base d next groups es kept left = left ∙ ap (λ (k : PlainDurable). after k es) kept ∙ sym (fold-append applied base (flat groups) es)
@@ -42,10 +43,6 @@ device-full size base d next groups es kept left none =
 
 -- ---- a group that has bytes
 
-both : (a b : Bool) → (a && b) ≡ true → (a ≡ true) × (b ≡ true)
-both true b is = (refl, is)
-both false b is = absurd (cc (is))
-
 -- it has a change
 pub some-formed : (es : List PlainChange) → have_form (made_all es) ≡ true → 0 < length es
 some-formed [] formed = absurd (cc (formed))
@@ -54,8 +51,8 @@ some-formed (e ∷ es) formed = omega arith
 -- and no more than a group may have
 pub few-formed : (es : List PlainChange) → have_form (made_all es) ≡ true → length es ≤ GROUP_LIMIT
 few-formed es formed =
-    let group : is_group (made_all es) ≡ true = (both (is_group (made_all es)) (list_all has_form (made_all es)) formed).0 in
-    let few : nat_le (length (made_all es)) GROUP_LIMIT ≡ true = (both (not (length (made_all es) == 0)) (nat_le (length (made_all es)) GROUP_LIMIT) group).1 in
+    let group : is_group (made_all es) ≡ true = (and_parts (is_group (made_all es)) (list_all has_form (made_all es)) formed).0 in
+    let few : nat_le (length (made_all es)) GROUP_LIMIT ≡ true = (and_parts (not (length (made_all es) == 0)) (nat_le (length (made_all es)) GROUP_LIMIT) group).1 in
     let same : length (made_all es) ≡ length es = length-map es recorded.Made in
     grind (arith, nat_tests, few, same)
 

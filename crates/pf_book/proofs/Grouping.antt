@@ -6,7 +6,7 @@ use Rattle.pf_core.specs.Refusing.{and_then, unless, refused_at, AreBothPassed, 
 use Rattle.pf_ticket.specs.{Tickets.PlainTickets, Mentions.{after as moved_by, switches}}
 use Rattle.pf_core.specs.declared.{command.Command.Command, reply.Refusal.Refusal, reply.Refusal.TheVariants.{Halted, BadCount, NotGrouped, HistoryFull, Full, Fault, Memory}, reply.Reply.Reply, step.Step.Step, step.Step.TheVariants.{Done, Wants, OfHistory}}
 use Rattle.pf_core.specs.{Commands.{bad_number, group_words, may_be_grouped}, Durable.Changes.{PlainDurable, PlainChange, after, voided_by}, WorldBooks.{WorldBook, IsFolded, IsAt, LeadsGroup}, Cores.PlainCore, Worlds.{Setting, CurrentOpening, down, grouping, Upshot, upshot, flat, log_of, is_halted, is_fault, step_in, reply_to, changes_of, room_for, grouped, amid, changes_with, changes_due, replies_due, group_start, group_check, replies_unless, due_group, group_all, kept_groups, shown_by, as_stored, GroupStandsIn, LegalReplies}}
-use Rattle.pf_core.proofs.{Courses.{durable-amid, length-with, log-amid, IsOfGroup, told, wanted, refused, step-amid, MayBeGrouped, IsTaken, taken-group, told_as, IsAccepted, accepted}, GroupLeads.{IsShownSo, shown-due, shown-stored, refused-group-leads, fault-group-leads, kept-group-leads}, Groups.rooms-found}
+use Rattle.pf_core.proofs.{Courses.{not-halted, durable-amid, length-with, log-amid, IsOfGroup, told, wanted, refused, step-amid, MayBeGrouped, IsTaken, taken-group, told_as, IsAccepted, accepted}, GroupLeads.{IsShownSo, shown-due, shown-stored, refused-group-leads, fault-group-leads, kept-group-leads}, Groups.rooms-found}
 use Rattle.pf_store.specs.Stores.{Holds, HoldsEither}
 use Rattle.pf_disk.specs.Disk.{EachMoment, IsImage}
 use Rattle.pf_disk.proofs.Moments.{weakened}
@@ -95,10 +95,6 @@ take-grouped (e ∷ es) = refl
 -- the refusal of a group before its commands are run, if any
 abbrev pub begins : WorldBook → List Command → Result (Unit {0}) Refusal
 begins b commands = and_then (unless (is_halted b.pending) Halted) (group_words commands)
-
-not-halted : (gs : List (List PlainChange)) → is_halted gs ≡ false → gs ≡ []
-not-halted [] is = refl
-not-halted (g ∷ gs) is = absurd (cc (is))
 
 pub record IsBegun (b : WorldBook) (commands : List Command) : Type 0 where
   pub none : b.pending ≡ []

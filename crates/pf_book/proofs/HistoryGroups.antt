@@ -6,6 +6,7 @@ use Rattle.pf_core.specs.{Durable.Changes.PlainChange, Worlds.{flat, grouped, is
 use Rattle.pf_core.proofs.Prefixes.{flat-append}
 use Rattle.pf_past.proofs.Prefixes.{prefix_self, prefix_trans}
 use Rattle.pf_book.specs.Books.{BookParts, cut}
+use Rattle.pf_core.proofs.Courses.{flat-grouped}
 
 map-take : {A B : Type 0} (f : A → B) (xs : List A) (n : ℕ) → map f (take n xs) ≡ take n (map f xs)
 map-take f xs zero = refl
@@ -91,10 +92,6 @@ flat-more gs group = flat-append gs (group ∷ []) ∙ ap (λ (l : List PlainCha
 pub grouped-some : (es : List PlainChange) → 0 < length es → grouped es ≡ es ∷ []
 grouped-some [] some = absurd (omega (arith, some))
 grouped-some (e ∷ es) some = refl
-
-pub flat-grouped : (es : List PlainChange) → flat (grouped es) ≡ es
-flat-grouped [] = refl
-flat-grouped (e ∷ es) = append-nil (e ∷ es)
 
 none-grouped : (es : List PlainChange) → grouped es ≡ [] → es ≡ []
 none-grouped [] is = refl

@@ -56,14 +56,6 @@ module _ {D : Type 0} (seen : D → List ℕ) (unsynced : D → ℕ → Bool) (m
       (started moment left_since view.disk (IsNoLaterThan (view.generation + 1)) (λ c left. generations c (only c left))))
       (λ base. subst (λ (d : D). EachMoment moment left_since view.disk d LeavesRoom) (sym disk) (started moment left_since view.disk LeavesRoom (λ c left. roomy base c (only c left))))
 
-  pub same-openable : (view old : PlainBook D) → view ≡ old
-      → ((c : List ℕ) → left_since view.disk (moment view.disk) c → IsImage (seen view.disk) (unsynced view.disk) c)
-      → ((c : List ℕ) → IsImage (seen view.disk) (unsynced view.disk) c → IsNoLaterThan (view.generation + 1) c)
-      → (IsRoomy view.size view.base → (c : List ℕ) → IsImage (seen view.disk) (unsynced view.disk) c → LeavesRoom c)
-      → StaysOpenable moment left_since old old
-  same-openable view old is only generations roomy =
-      subst (λ (l : PlainBook D). StaysOpenable moment left_since l l) is (still-openable view view view refl refl refl refl only generations roomy)
-
   -- nor was any after another call
   pub then-still : (old mid new : PlainBook D) → StaysOpenable moment left_since old mid → new.disk ≡ mid.disk → new.generation ≡ mid.generation → new.size ≡ mid.size
       → StaysOpenable moment left_since old new

@@ -4,6 +4,7 @@ ghost use Rattle.std.specs.{Arc.arc_value, List.list_all, Option.option_map};
 ghost use Rattle.pf_disk.specs.Disk.{EachMoment, IsImage};
 ghost use Rattle.pf_core.specs.declared.reply.Refusal.TheVariants as told;
 ghost use Rattle.pf_core.specs.{Calls.call, Commands.may_change, Durable.Changes.{PlainDurable, applied, after, fits, verdict}, WorldBooks.{IsAt, IsFolded, StandsFor, Leads}, Cores.left_by, Worlds.{CurrentOpening, idle, calling, begun, upshot, Event, called, opened, is_fault, flat, raised, last_epoch, down, state_after, IsWorld, LegalReply, shown_by}};
+ghost use Rattle.pf_store.specs.declared.store.fault.OpenFault.TheVariants as open_fault;
 ghost use Rattle.pf_store.specs.{Groups.{can_be_wanted, is_group, made_all}, Stores.{FindsRoom, FollowInTurn, HoldsEither}};
 ghost use Rattle.pf_view.specs.Seers.{IsNewSeer, IsNewShower};
 ghost use Rattle.pf_book.specs.Receipts.{IsGiven, IsReached};
@@ -147,7 +148,7 @@ impl<D: Disk + Drop, J: Chapter, S: Publisher<J> + Drop> Book<D, J, S> {
         ensures size { IfOk result (λ b. b.size ≡ opening.size) }
         ensures generation { IfOk result (λ b. b.generation ≡ opening.generation) }
         ensures device_err { IfErr result (λ e. e.1 ≡ opening.disk) }
-        ensures refused { IfErr result (λ e. IsUnshown e.0) }
+        ensures refused { IfErr result (λ e. e.0 ≡ open_fault.Memory) }
 
         // If the device held what some world leaves, but for the epoch, the Book stands for that world with an opening at its end.
         ensures worlds { IfOk result (λ b. (first d : PlainDurable) (world : List Event) → IsWorld first world → state_after (down first) world ≡ down d
@@ -331,7 +332,7 @@ impl<D: Disk + Drop, J: Chapter, S: Publisher<J> + Drop> Book<D, J, S> {
     }
 
     // Answers what is asked of the history itself.
-    fn tell(&mut self, command: HistoryCommand) -> Reply
+    fn answer_history(&mut self, command: HistoryCommand) -> Reply
         ensures device { self.new.disk ≡ self.old.disk }
         ensures size { self.new.size ≡ self.old.size }
         ensures generation { self.new.generation ≡ self.old.generation }
@@ -376,7 +377,7 @@ impl<D: Disk + Drop, J: Chapter, S: Publisher<J> + Drop> Book<D, J, S> {
         match self.core.step_ready(command) {
             Ok(ReadyStep::Done(answer)) => (Reply::Answer(answer), None),
             Ok(ReadyStep::Wants(change, next, outcome)) => self.make(change, next, outcome),
-            Ok(ReadyStep::OfHistory(command)) => (self.tell(command), None),
+            Ok(ReadyStep::OfHistory(command)) => (self.answer_history(command), None),
             Err(refusal) => (Reply::Refused(refusal), None),
         }
     }
@@ -432,7 +433,7 @@ impl<D: Disk + Drop, J: Chapter, S: Publisher<J> + Drop> Book<D, J, S> {
     }
 
     // Between two calls each image holds what a crash then leaves of the opening.
-    pub(crate) fn rests(&self)
+    pub(crate) fn between_calls(&self)
         ensures images { (h : CurrentOpening) → IsAt h (world_book self.now) → (c : List ℕ)
             → IsImage (D.seen self.now.disk) (D.unsynced self.now.disk) c → HoldsLeft h idle c }
         ensures openable { IsOpenable D.seen D.unsynced self.now }

@@ -41,7 +41,7 @@ impl<D: Disk + Drop, J: Chapter, S: Publisher<J> + Drop> Locked<D, J, S> {
         ensures stays { StaysUnlessKept result.0 self.old self.new }
     {
         let answer = self.book.answer(command, last);
-        self.book.rests();
+        self.book.between_calls();
         answer
     }
 
@@ -60,7 +60,7 @@ impl<D: Disk + Drop, J: Chapter, S: Publisher<J> + Drop> Locked<D, J, S> {
         ensures stays { StaysUnlessAnyKept (replies_of (told result)) self.old self.new }
     {
         let answers = self.book.answer_all(commands, last);
-        self.book.rests();
+        self.book.between_calls();
         answers
     }
 }
@@ -128,7 +128,7 @@ impl<D: Disk + Drop, J: Chapter, S: Publisher<J> + Drop> Shared<D, J, S> {
     {
         let Shared { locked } = self;
         let Locked { book } = locked.into_inner();
-        book.rests();
+        book.between_calls();
         book
     }
 }

@@ -10,7 +10,7 @@ use Rattle.pf_core.proofs.{Prefixes.flat-append, LongerWorlds.none-of-none, Step
 
 -- ---- the changes so far
 
-flat-grouped : (es : List PlainChange) → flat (grouped es) ≡ es
+pub flat-grouped : (es : List PlainChange) → flat (grouped es) ≡ es
 flat-grouped [] = refl
 flat-grouped (e ∷ es) = append-nil (e ∷ es)
 
@@ -209,7 +209,7 @@ pub record IsTaken (h : CurrentOpening) (commands : List Command) : Type 0 where
   pub room : room_for h (changes_due h [] commands) ≡ Ok tt
   pub group : group_all h commands ≡ grouped (changes_due h [] commands)
 
-not-halted : (gs : List (List PlainChange)) → is_halted gs ≡ false → gs ≡ []
+pub not-halted : (gs : List (List PlainChange)) → is_halted gs ≡ false → gs ≡ []
 not-halted [] is = refl
 not-halted (g ∷ gs) is = absurd (cc (is))
 

@@ -1,6 +1,6 @@
 -- What changes leave.
-use Rattle.std.proofs.{Common.{◌≡◌, ◌≢◌, ◌⊎◌, inl, inr, ℕ, Bool, true, false, cond, ◌&&◌, List, [], ◌∷◌, refl, ap, ◌∙◌, subst}, lemmas.Cmp.eq_by_cmp_equiv}
-use Rattle.std.specs.{declared.{cmp.Ordering.Ordering, cmp.Ordering.TheVariants.Less, cmp.Ordering.TheVariants.Equal, cmp.Ordering.TheVariants.Greater}, FinMap.{slice_cmp-IsAntisymmetric, nat_cmp-IsAntisymmetric}, Ordering.{is_eq, eq_by_cmp, ordering_then}}
+use Rattle.std.proofs.{Common.{◌≡◌, ◌≢◌, ◌⊎◌, inl, inr, ℕ, Bool, true, false, cond, ◌&&◌, List, [], ◌∷◌, refl, sym, ap, ◌∙◌, subst}, lemmas.Cmp.eq_by_cmp_equiv}
+use Rattle.std.specs.{FinMap.{slice_cmp-IsAntisymmetric, nat_cmp-IsAntisymmetric}, Ordering.eq_by_cmp}
 use Rattle.pf_addr.proofs.PathsRead.{same_path_is}
 use Rattle.pf_addr.specs.{Path.Names.name_order, Path.Paths.{path_order, same_path}}
 use Rattle.pf_table.specs.{Edits.{added, deleted, replaced}, Entries.PlainEntry}
@@ -8,6 +8,8 @@ use Rattle.pf_anchor.specs.Tables.{placed_table, table_order}
 use Rattle.pf_anchor.proofs.{RulesetMaps.{map_all, replaced_in_turn}, TableMaps.{table_order_total, tables_replaced, table_maps_stay}}
 use Rattle.pf_core.specs.{Durable.Changes.{PlainDurable, rulesets_in, tables_in, entries_at, with_entries}, Laws.Durable.{ReplacesExactly, IsEdited, EditsExactly, DeletesNothing, StepsExactly}}
 use Rattle.pf_core.proofs.TableCounts.{deleted-none}
+use Rattle.pf_map.proofs.Tests.{equal_of}
+use Rattle.std.specs.Cmp.{tied_then}
 
 pub replaces_exactly : ReplacesExactly
 replaces_exactly d items is = record {
@@ -21,26 +23,16 @@ replaces_exactly d items is = record {
 
 -- ---- keys of tables
 
-then-equal : (r s : Ordering) → is_eq (ordering_then r s) ≡ (is_eq r && is_eq s)
-then-equal Less s = refl
-then-equal Equal s = refl
-then-equal Greater s = refl
-
 -- the keys of two tables are equal if their paths and names are
 pub same-keys : (p q name other : List ℕ) → eq_by_cmp table_order (p, name) (q, other) ≡ (same_path p q && eq_by_cmp name_order name other)
-same-keys p q name other = then-equal (path_order p q) (name_order name other)
-
-pub equal-is : (r : Ordering) → is_eq r ≡ true → r ≡ Equal
-equal-is Less h = absurd (cc (h))
-equal-is Equal h = refl
-equal-is Greater h = absurd (cc (h))
+same-keys p q name other = sym (tied_then (path_order p q) (name_order name other))
 
 -- keys that aren't equal don't tie
 keys-differ : (p q name other : List ℕ) → (p ≢ q) ⊎ (name ≢ other) → eq_by_cmp table_order (p, name) (q, other) ≡ false
 keys-differ p q name other differ = same-keys p q name other ∙ by (same_path p q) (eq_by_cmp name_order name other) refl refl differ where
   by : (a b : Bool) → same_path p q ≡ a → eq_by_cmp name_order name other ≡ b → (p ≢ q) ⊎ (name ≢ other) → (a && b) ≡ false
   by true true paths names (inl apart) = absurd (apart (same_path_is p q paths))
-  by true true paths names (inr apart) = absurd (apart ((slice_cmp-IsAntisymmetric nat_cmp-IsAntisymmetric) name other (equal-is (name_order name other) names)))
+  by true true paths names (inr apart) = absurd (apart ((slice_cmp-IsAntisymmetric nat_cmp-IsAntisymmetric) name other (equal_of (name_order name other) names)))
   by true false paths names h = refl
   by false b paths names h = refl
 

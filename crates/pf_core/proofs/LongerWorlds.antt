@@ -1,7 +1,7 @@
 -- Longer worlds, one event at a time.
-use Rattle.std.proofs.{Common.{Result, ◌≡◌, ℕ, ◌<◌, ◌≤◌, Bool, true, false, cond, inl, inr, List, [], ◌∷◌, ◌++◌, refl, sym, ap, ◌∙◌, subst, append-nil}, lemmas.List.Sums.{fold-append, fold_push}}
+use Rattle.std.proofs.{Common.{Result, ◌≡◌, ◌<◌, Bool, true, false, cond, inl, inr, List, [], ◌∷◌, ◌++◌, refl, sym, ap, ◌∙◌, subst, append-nil}, lemmas.List.Sums.{fold-append, fold_push}}
 use Rattle.std.specs.Prelude.{fold, ⊤}
-use Rattle.pf_core.specs.{declared.{command.Command.Command, reply.Refusal.Refusal, reply.Refusal.TheVariants.Fault, reply.Refusal.TheVariants.Memory, reply.Reply.Reply, reply.Reply.TheVariants.Applied, reply.Reply.TheVariants.Refused}, Calls.{Call, call, mentions_of, mentions_of_group}, Durable.Changes.{PlainDurable, PlainChange}, WorldBooks.{WorldBook, IsAt, IsFolded, StandsFor, Leads, LeadsGroup}, Cores.PlainCore, Laws.{Openings.CrashesAreEvents, Worlds.{mentions_by, mentions_since, TicketsAreOfTheCalls}}, Worlds.{Setting, CurrentOpening, State, up, down, begun, raised, flat, step_in, due, group_in, Upshot, upshot, Event, called, called_group, entered, learned, crashed, opened, refused_opening, acked_by, is_fault, pending_by, shown_by, heard, heard_group, sighted, SawNoMore, next, StandsIn, LegalReply, last_epoch, IsLegal, state_after, IsLegalFrom, IsWorld}}
+use Rattle.pf_core.specs.{declared.{command.Command.Command, reply.Refusal.Refusal, reply.Refusal.TheVariants.Fault, reply.Refusal.TheVariants.Memory, reply.Reply.Reply, reply.Reply.TheVariants.Applied, reply.Reply.TheVariants.Refused}, Calls.{Call, call, mentions_of, mentions_of_group}, Durable.Changes.{PlainDurable, PlainChange}, WorldBooks.{WorldBook, IsAt, IsFolded, StandsFor, Leads, LeadsGroup}, Cores.PlainCore, Laws.{Openings.CrashesAreEvents, Worlds.{mentions_by, mentions_since, TicketsAreOfTheCalls}}, Worlds.{Setting, CurrentOpening, State, up, down, begun, raised, flat, step_in, due, group_in, Upshot, upshot, Event, called, called_group, entered, learned, crashed, opened, refused_opening, acked_by, is_fault, pending_by, shown_by, heard, heard_group, next, StandsIn, LegalReply, last_epoch, IsLegal, state_after, IsLegalFrom, IsWorld}}
 use Rattle.pf_ticket.specs.{Tickets.{PlainTickets, fresh}, Mentions.{Mention, moved, after, opened as left_by}}
 use Rattle.pf_core.proofs.{Prefixes.flat-append, Groups.refused-group}
 
@@ -26,10 +26,6 @@ stands-by first new world e st h legal comes now is at folded = record {
   folded = folded;
 }
 
--- what is seen changes nothing else
-sighted-at : (h : CurrentOpening) (b : WorldBook) (worker n : ℕ) → IsAt h b → IsAt (sighted h worker n) b
-sighted-at h b worker n at = record { base = at.base; tickets = at.tickets; acked = at.acked; pending = at.pending; shown = at.shown; setting = at.setting }
-
 pub stands-on : (first : PlainDurable) (old new : WorldBook) (world : List Event) (c : Call) (t : Upshot) → (stands : StandsFor first old world) → Leads stands.held new c t → IsFolded new → StandsFor first new (world ++ called c t ∷ [])
 stands-on first old new world c t stands leads folded = stands-by first new world (called c t) (up stands.held) (heard stands.held c t) stands.legal stands.comes leads.legal refl leads.at folded
 
@@ -37,20 +33,6 @@ pub stands-on-group : (first : PlainDurable) (old new : WorldBook) (world : List
     → StandsFor first new (world ++ called_group commands result t ∷ [])
 stands-on-group first old new world commands result t stands leads folded =
     stands-by first new world (called_group commands result t) (up stands.held) (heard_group stands.held commands result t) stands.legal stands.comes leads.legal refl leads.at folded
-
--- a worker may judge by what is shown, if it saw and learnt of no more
-pub stands-entered : (first : PlainDurable) (b : WorldBook) (world : List Event) (worker n : ℕ) → (stands : StandsFor first b world) → SawNoMore stands.held.sights worker n → n ≤ b.shown → StandsFor first b (world ++ entered worker n ∷ [])
-stands-entered first b world worker n stands no_more low =
-    let h : CurrentOpening = stands.held in
-    let shown : n ≤ h.shown = subst (λ (m : ℕ). n ≤ m) stands.at.shown low in
-    stands-by first b world (entered worker n) (up h) (sighted h worker n) stands.legal stands.comes (no_more, shown) refl (sighted-at h b worker n stands.at) stands.folded
-
--- a worker may learn of what is shown
-pub stands-learned : (first : PlainDurable) (b : WorldBook) (world : List Event) (worker n : ℕ) → (stands : StandsFor first b world) → n ≤ b.shown → StandsFor first b (world ++ learned worker n ∷ [])
-stands-learned first b world worker n stands low =
-    let h : CurrentOpening = stands.held in
-    let shown : n ≤ h.shown = subst (λ (m : ℕ). n ≤ m) stands.at.shown low in
-    stands-by first b world (learned worker n) (up h) (sighted h worker n) stands.legal stands.comes shown refl (sighted-at h b worker n stands.at) stands.folded
 
 -- an opening has begun
 pub stands-opened : (first : PlainDurable) (new : WorldBook) (setting : Setting) → first.epoch < last_epoch → IsAt (begun setting (raised first)) new → IsFolded new → StandsFor first new (opened setting ∷ [])

@@ -10,15 +10,8 @@ use Rattle.pf_anchor.proofs.{RulesetMaps.replaced_in_turn, TableMaps.tables_repl
 use Rattle.pf_ticket.specs.{declared.{entry.RulesetTicket.RulesetTicket, name.RulesetKind.RulesetKind, name.RulesetKind.TheVariants.Filter, name.RulesetKind.TheVariants.Table, name.RulesetName.RulesetName, refusal.TicketRefusal.TheVariants.BadCount, refusal.TicketRefusal.TheVariants.Twice, refusal.TicketRefusal.TheVariants.Busy}, Laws.Names.{paths_alike, name_is}, Names.{same_kind, same_name, is_named, names_of, filter_at, table_ruleset_at, IsDistinct}, Replies.{bad_count, twice_behind, twice_in, busy_in, list_check, commit_check}, Mentions.{Mention, switched, switches, dropped, named_in, after}, NamedTables.PlainDefinedTable, Tickets.{Loaded, PlainTickets, offered_as, loaded, offer_at, ticket_in, valid_ticket, content}}
 use Rattle.pf_ticket.proofs.{Moves.{leaves_the_others as mentions_leave, commit_takes_out, gives-named}, Twice.otherwise_once}
 use Rattle.pf_core.specs.{declared.{durable.change.Item.Item, command.Command.TheVariants.Transact, command.Command.TheVariants.Edit, command.Command.TheVariants.States as OfStates, command.Command.TheVariants.Ask, command.Command.TheVariants.History, command.Transaction.TheVariants.Begin, command.Transaction.TheVariants.Add, command.Transaction.TheVariants.Define, command.Transaction.TheVariants.Commit, command.Transaction.TheVariants.Rollback}, Commands.{item_of, items, mentioned, is_accepted}, Durable.Changes.{PlainDurable, PlainChange, name_of, commits, rulesets_in, placed, tables_in, entries_at, applied}, Laws.Commands.{tables_offered, AreTablesSwitched, AreSwitched, SwitchesAll, LeaveTheOtherKind, KeepsNoneValid, MentionsTheNamed, LeavesTheOthers, RefusedMentionNothing}, Laws.Wanted.{IsCommitted, names-items, wants_commit}}
-use Rattle.pf_core.proofs.Edited.{same-keys, equal-is}
-
-first_holds : (a b : Bool) → T (a && b) → T a
-first_holds true b h = tt
-first_holds false b h = h
-
-second_holds : (a b : Bool) → T (a && b) → T b
-second_holds true b h = h
-second_holds false b h = absurd h
+use Rattle.pf_core.proofs.Edited.{same-keys}
+use Rattle.pf_map.proofs.Tests.{first_of, second_of, equal_of}
 
 -- ---- each ruleset by itself
 
@@ -93,17 +86,17 @@ not-equal Greater h = refl
 below-none : (name : List ℕ) (tables : List PlainDefinedTable) → T (below_all name_order name tables) → find name_order name tables ≡ None
 below-none name [] h = refl
 below-none name (t ∷ ts) h =
-    ap (λ (b : Bool). cond b (Some t.1) (find name_order name ts)) (not-equal (name_order name t.0) (first_holds (is_lt (name_order name t.0)) (below_all name_order name ts) h))
-    ∙ below-none name ts (second_holds (is_lt (name_order name t.0)) (below_all name_order name ts) h)
+    ap (λ (b : Bool). cond b (Some t.1) (find name_order name ts)) (not-equal (name_order name t.0) (first_of (is_lt (name_order name t.0)) (below_all name_order name ts) h))
+    ∙ below-none name ts (second_of (is_lt (name_order name t.0)) (below_all name_order name ts) h)
 
 -- of tables in the order of their names the one of this name is read
 read-of-name : (p : List ℕ) (tables : List PlainDefinedTable) (name : List ℕ) (old : List PlainEntry) → T (is_sorted name_order tables) → list_by table_order (placed p tables) (p, name) old ≡ unwrap_or (find name_order name tables) old
 read-of-name p [] name old sorted = refl
-read-of-name p (t ∷ ts) name old sorted = by (eq_by_cmp name_order name t.0) refl (read-of-name p ts name old (second_holds (below_all name_order t.0 ts) (is_sorted name_order ts) sorted)) where
+read-of-name p (t ∷ ts) name old sorted = by (eq_by_cmp name_order name t.0) refl (read-of-name p ts name old (second_of (below_all name_order t.0 ts) (is_sorted name_order ts) sorted)) where
   by : (b : Bool) → eq_by_cmp name_order name t.0 ≡ b → list_by table_order (placed p ts) (p, name) old ≡ unwrap_or (find name_order name ts) old → list_by table_order (placed p (t ∷ ts)) (p, name) old ≡ unwrap_or (cond b (Some t.1) (find name_order name ts)) old
   by true is rest =
-      let one : name ≡ t.0 = (slice_cmp-IsAntisymmetric nat_cmp-IsAntisymmetric) name t.0 (equal-is (name_order name t.0) is) in
-      let none : find name_order name ts ≡ None = ap (λ (n : List ℕ). find name_order n ts) one ∙ below-none t.0 ts (first_holds (below_all name_order t.0 ts) (is_sorted name_order ts) sorted) in
+      let one : name ≡ t.0 = (slice_cmp-IsAntisymmetric nat_cmp-IsAntisymmetric) name t.0 (equal_of (name_order name t.0) is) in
+      let none : find name_order name ts ≡ None = ap (λ (n : List ℕ). find name_order n ts) one ∙ below-none t.0 ts (first_of (below_all name_order t.0 ts) (is_sorted name_order ts) sorted) in
       ap (λ (b : Bool). list_by table_order (placed p ts) (p, name) (cond b t.1 old)) (same-names p t.0 name ∙ is) ∙ none-of-name p ts name t.1 none
   by false is rest = ap (λ (b : Bool). list_by table_order (placed p ts) (p, name) (cond b t.1 old)) (same-names p t.0 name ∙ is) ∙ rest
 

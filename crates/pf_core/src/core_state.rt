@@ -10,7 +10,7 @@ ghost use Rattle.pf_core.specs.{Commands.{item_of, items, commit_step, rollback_
 use crate::command::{Command, Question, Transaction};
 use crate::durable::{Change, Durable, Item};
 use crate::next::Next;
-use crate::reply::{Answer, NamedTables, Outcome, Refusal, StateList};
+use crate::reply::{Answer, Outcome, PlacedTables, Refusal, StateList};
 use crate::state_command::change_states;
 use crate::step::{ReadyStep, Step, wants};
 use crate::table_edit::edit;
@@ -60,7 +60,7 @@ fn take_items(
 {
     let mut taken = Vec::with_capacity(alloc, entries.len())?;
     for entry in entries {
-        let offered = tickets.contents_behind(before, &entry.name)?;
+        let offered = tickets.contents_after(before, &entry.name)?;
         taken.push(item_of(alloc, &entry.name, offered)?)?;
     }
     Ok(taken)
@@ -77,7 +77,7 @@ fn commit(
     ensures reply { OrMemory true (plain result) (commit_step (after tickets.now (switches before.now)) durable.now entries.now) }
     ensures made { IsMadeFrom (next_with durable.now before.now) result }
 {
-    tickets.check_behind(before, entries)?;
+    tickets.check_all_after(before, entries)?;
     let items = take_items(alloc, tickets, before, entries)?;
     // the tickets' check has found that no name comes twice
     durable.check_limits(alloc, items.as_slice())?;
@@ -160,7 +160,7 @@ fn answer(alloc: Global, durable: &Durable, question: &Question) -> Result<Answe
             address,
         } => Ok(Answer::Tested(durable.lookup(path, name, *address))),
         Question::ShowRules(path) => Ok(Answer::Rules(durable.config().rules_at(path)?)),
-        Question::ShowTables(path) => Ok(Answer::Tables(NamedTables::new(
+        Question::ShowTables(path) => Ok(Answer::Tables(PlacedTables::new(
             durable.config().tables_at(alloc, path)?,
         ))),
         Question::ShowStates => {
@@ -237,7 +237,8 @@ impl Core {
         alone(self.step_ready(command))
     }
 
-    /// The step of one command, as `step` gives it, with what its change leaves, as `prepare` would make it of the core as it is.
+    /// The step of one command, as `step` gives it, with what its change leaves, as `prepare` would make it of the core as it is. Its
+    /// refusals are those of `step`; out of memory for what the change leaves, it is refused too, and the core stays as it is.
     pub fn step_ready(&mut self, command: &Command) -> Result<ReadyStep, Refusal>
         ensures reply { OrMemory (takes_memory self.old.durable command.now) (plain result)
             (step_by self.old.tickets self.old.durable command.now) }
@@ -274,7 +275,8 @@ impl Core {
     }
 
     /// The step of a later command of a group, as `step` would give it after what the earlier ones left was accepted. The core stays as it
-    /// is, and has to be the one that `before` was prepared of. The command has to be one that a group may have.
+    /// is, and has to be the one that `before` was prepared of. The command has to be one that a group may have. Its refusals are those of
+    /// `step`.
     pub fn step_from(&self, before: &Next, later: &Command) -> Result<Step, Refusal>
         requires { may_be_grouped later.now ≡ true }
         ensures { OrMemory (takes_memory before.now.durable later.now) result
@@ -283,7 +285,8 @@ impl Core {
         alone(self.step_ready_from(before, later))
     }
 
-    /// The same, with what its change leaves after those of the earlier commands, as `prepare_from` would make it.
+    /// As `step_from`, with what the command's change leaves after those of the earlier ones, as `prepare_from` would make it. Its refusals
+    /// are those of `step_ready`.
     pub fn step_ready_from(&self, before: &Next, later: &Command) -> Result<ReadyStep, Refusal>
         requires { may_be_grouped later.now ≡ true }
         ensures reply { OrMemory (takes_memory before.now.durable later.now) (plain result)

@@ -15,7 +15,7 @@
 //! `durable` is what is kept and its changes. It uses no other module, and knows of tickets only the names of rulesets and the lists of
 //! defined tables. `command` and `reply` are values over it; `group` says which commands may be kept together; `step` and `next` are what a
 //! command comes to and what its change leaves; `table_edit` and `state_command` are the steps of their commands, and `core_state` uses
-//! all. specs/WorldBooks.antt is for the crate above.
+//! all; `laws` says what follows. specs/WorldBooks.antt is for the crate above.
 //!
 //! Proved: each step, refusal and change is the one that the definitions give (the contracts of `Core` and `Durable`). Of every legal
 //! world: no limit is passed, nothing is there twice, the tick never goes back, no ticket is given twice or outlives an opening, each
@@ -41,5 +41,5 @@ pub use core_state::Core;
 pub use durable::{Change, ChangeKind, ChangeRefusal, Durable, EntryList, Item, Verdict};
 pub use group::{GROUP_LIMIT, check_group};
 pub use next::Next;
-pub use reply::{Answer, NamedTables, Outcome, Refusal, Reply, StateList};
+pub use reply::{Answer, Outcome, PlacedTables, Refusal, Reply, StateList};
 pub use step::{ReadyStep, Step};

@@ -15,11 +15,11 @@ use std::marker::Model;
 
 /// Tables with their paths and names. Contracts see the list.
 #[derive(Drop)]
-pub struct NamedTables {
+pub struct PlacedTables {
     tables: Vec<PlacedTable>,
 }
 
-impl Model for NamedTables {
+impl Model for PlacedTables {
     ghost use Rattle.std.specs.Prelude.{List};
     ghost use Rattle.pf_anchor.specs.Tables.{PlainPlacedTable};
 
@@ -28,12 +28,12 @@ impl Model for NamedTables {
     ghost view = { λ n. n.tables.items };
 }
 
-impl NamedTables {
+impl PlacedTables {
     /// The list of these. It takes no memory.
-    pub fn new(tables: Vec<PlacedTable>) -> NamedTables
+    pub fn new(tables: Vec<PlacedTable>) -> PlacedTables
         ensures { result ≡ tables.items }
     {
-        NamedTables { tables }
+        PlacedTables { tables }
     }
 
     /// The tables in order.
@@ -91,7 +91,7 @@ pub enum Answer {
     /// The rules of a ruleset, in order.
     Rules(RuleList),
     /// The tables at a path, in the order of their names.
-    Tables(NamedTables),
+    Tables(PlacedTables),
     /// The states, in the order of their names.
     States(StateList),
     /// The checksum of the main rules: MD5, 16 bytes.

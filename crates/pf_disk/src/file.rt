@@ -53,7 +53,7 @@ pub struct FileDisk {
 
 impl FileDisk {
     /// The file as a device. It is read, and synced as by [`Disk::sync`], so that nothing of it is unsynced. It has to be open
-    /// for reading and writing, and to have `size` bytes; nobody else writes it.
+    /// for reading and writing, and to have `size` bytes; nobody else writes it. After an `Err` the file is closed.
     pub fn of(alloc: Global, file: File, size: usize) -> Result<FileDisk, FileFault>
         ensures size { IfOk result (λ disk. length (⟦<FileDisk as Disk>⟧.seen disk) ≡ size) }
         ensures synced { IfOk result (λ disk. IsSynced (⟦<FileDisk as Disk>⟧.unsynced disk)) }

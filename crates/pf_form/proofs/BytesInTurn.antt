@@ -1,5 +1,5 @@
 -- Reading and writing one value after another, as a loop does.
-use Rattle.std.proofs.{Common.{◌≡◌, ℕ, Bool, true, suc, ◌-◌, ◌+◌, ◌≤◌, ◌<◌, List, [], ◌∷◌, ◌++◌, length, Ok, Err, refl, sym, ap, ◌∙◌, append_assoc, arith}, lemmas.List.append-nil}
+use Rattle.std.proofs.{Common.{◌≡◌, ℕ, Bool, true, suc, ◌-◌, ◌+◌, ◌≤◌, ◌<◌, List, [], ◌∷◌, ◌++◌, length, Ok, Err, refl, sym, ap, ◌∙◌, append_assoc, arith}}
 use Rattle.std.specs.Prelude.{map}
 use Rattle.pf_form.specs.declared.bytes.fault.Undecoded.{Undecoded}
 use Rattle.pf_form.specs.{Bytes.BasicForms.{Read, Reader, ◌>>=◌, times_by}, Bytes.Lists.in_order, Bytes.Readers.Fails, Laws.Bytes.Steps.leaves}
@@ -27,12 +27,6 @@ module _ {A : Type 0} (read : Reader A) where
   stops (undecoded.Fault f) front count i bytes total lt h so_far =
       let k : count - i ≡ suc (count - (i + 1)) = omega arith in
       let one : with_front front (times_by (count - i) read bytes) ≡ Err f = rw (k, h) refl in
-      sym so_far ∙ one
-
-  pub is_done : (front : List A) (count i : ℕ) (bytes : List ℕ) (total : Read (List A)) → count ≤ i → with_front front (times_by (count - i) read bytes) ≡ total → total ≡ Ok (front, bytes)
-  is_done front count i bytes total le so_far =
-      let k : count - i ≡ 0 = omega arith in
-      let one : with_front front (times_by (count - i) read bytes) ≡ Ok (front, bytes) = rw k (ap (λ (xs : List A). leaves xs bytes) (append-nil front)) in
       sym so_far ∙ one
 
 -- ---- in order

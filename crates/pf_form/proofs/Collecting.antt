@@ -13,10 +13,6 @@ not_none : (ws : List (Bor Word)) → (length ws == 0) ≡ false → 0 < length 
 not_none [] e = absurd cc
 not_none (w ∷ ws) e = omega arith
 
-pub length-texts : (ws : List (Bor Word)) → length (texts ws) ≡ length ws
-length-texts [] = refl
-length-texts (w ∷ ws) = omega (arith, length-texts ws)
-
 abbrev IsFault : {A : Type 0} → Result A Unread → Stop → Type 0
 IsFault r s = IsErrAnd r (λ e. e ≡ Stopped s)
 
@@ -30,10 +26,6 @@ fault_of s (Ok x) h = absurd h
 fault_of s (Err d) h = (d, refl, h)
 
 module _ (A : Type 0) (read : Reader A) (shrinks : Shrinks read) where
-  -- after a part that is read fewer words are left
-  pub fewer : (ws vs : List (Bor Word)) (x : A) → read (texts ws) ≡ Ok (x, texts vs) → length vs < length ws
-  fewer ws vs x e = omega (arith, shrinks (texts ws) x (texts vs) e, length-texts ws, length-texts vs)
-
   abbrev pairing : A → List A × List Word → Read (A × List A)
   pairing x y = Ok ((x, y.0), y.1)
 

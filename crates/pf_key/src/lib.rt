@@ -1,8 +1,8 @@
 //! Keys: what maps are ordered by, and what is looked for by them.
 //!
-//! It stands on nothing of the others, so that names, paths and networks can say how they are keys without the maps (`pf_map`) that they are
-//! keys of. Of a key it knows that it stands in a total order, and a number that rises with it; pairs of keys are keys. Read specs/Keys.antt
-//! first. Each clause of [`Key`] and [`Probe`] is proved of each type that says how it is a key; nothing here is only tested.
+//! It stands on nothing of the others, so that names, paths and networks can say how they are keys without the maps (`pf_map`) that they
+//! are keys of. Of a key it knows that it stands in a total order, and a number that rises with it; pairs of keys are keys. Read
+//! specs/Keys.antt first. Each clause of [`Key`] and [`Sought`] is proved of each type that says how it is a key; nothing here is only tested.
 #![tactic(auto)]
 
 ghost use Rattle.std.specs.{Prelude.{◌≡◌, ℕ}, Cmp.{IsTotalOrder, then_total, on_total}, FinMap.IsAntisymmetric, Ordering.eq_by_cmp};
@@ -39,7 +39,7 @@ pub trait Key: Drop {
 }
 
 /// What is looked for in a map: it stands for a key, of which it needs no copy.
-pub trait Probe<K: Key> {
+pub trait Sought<K: Key> {
     /// The key that it stands for.
     ghost key: { Self → K };
 
@@ -56,7 +56,7 @@ pub trait Probe<K: Key> {
         ensures { result ≡ K.hint (key self.now) };
 }
 
-impl<K: Key> Probe<K> for K {
+impl<K: Key> Sought<K> for K {
     ghost key = { λ k. k };
 
     fn order(&self, other: &K) -> Ordering {

@@ -4,7 +4,7 @@ use Rattle.std.specs.Prelude.{bit_and, bit_or, if◌then◌else◌}
 use Rattle.std.proofs.lemmas.{Bool.Decides.nat_tests, Nat.{le_or_l, le_or_r}}
 use Rattle.pf_lanes.specs.declared.{columns.Columns.Columns, columns.Marks.Marks, kernel.PacketWords.PacketWords}
 use Rattle.pf_lanes.specs.{Masks.is_set, Words.host_bit, Columns.{masked_holds, special_of}, Asked.{addresses_hold, words_hold, hosts_hold, rest_of, near_or_special}}
-use Rattle.pf_lanes.proofs.Bits.{is_set-and, is_set-or, none_set}
+use Rattle.pf_lanes.proofs.{Bits.{is_set-and, is_set-or, none_set}, WordTests.true_last}
 
 plain_bit : (words answer : Bool) → host_bit words answer false false ≡ words
 plain_bit words answer = grind arith
@@ -62,10 +62,6 @@ pub near_rest : (v6 : Bool) (near rest i : ℕ) (h s t rs rt : Bool) → is_set 
 near_rest v6 near rest i h s t rs rt is more e =
     is_set-and near rest i ∙ (λ j. is j && more j) ∙ with_rest h s t rs rt
     ∙ sym (ap (λ (b : Bool). h && ((s && (if b then rs else true)) && (t && (if b then rt else true)))) e)
-
-true_last : (b : Bool) → b ≡ (b && true)
-true_last true = refl
-true_last false = refl
 
 -- a host's words, whole
 pub whole_v6 : (v6 : Bool) (a b both i : ℕ) (s r : Bool) → is_set a i ≡ s → is_set b i ≡ r → both ≡ bit_and a b → v6 ≡ true → is_set both i ≡ (s && (if v6 then r else true))

@@ -30,7 +30,7 @@ word_front x w ones p q le =
 cut : (x h l p d e : ℕ) → h * p + l ≡ x → p ≡ d * e → x ≡ l + h * d * e
 cut x h l p d e whole power = grind (arith, whole, power)
 
-pair_same : (w a b c d : ℕ) → b < w → d < w → eqb (a * w + b) (c * w + d) ≡ (eqb a c && eqb b d)
+pub pair_same : (w a b c d : ℕ) → b < w → d < w → eqb (a * w + b) (c * w + d) ≡ (eqb a c && eqb b d)
 pair_same w a b c d p q =
     let parts = same_from_place a b c d w p q in
     grind (arith, nat_tests, parts)
@@ -42,7 +42,7 @@ low_shift x e d sum =
     let whole : x ≡ x % 2 ^ 32 + x / 2 ^ 32 * 2 ^ d * 2 ^ e = cut x (x / 2 ^ 32) (x % 2 ^ 32) (2 ^ 32) (2 ^ d) (2 ^ e) (shr_split x 32) power in
     ap (λ n. n / 2 ^ e) whole ∙ add-mul-div_right (x % 2 ^ 32) (x / 2 ^ 32 * 2 ^ d) (pow_pos e) ∙ add_comm (x % 2 ^ 32 / 2 ^ e) (x / 2 ^ 32 * 2 ^ d)
 
-true_last : (b : Bool) → b ≡ (b && true)
+pub true_last : (b : Bool) → b ≡ (b && true)
 true_last true = refl
 true_last false = refl
 

@@ -1,6 +1,6 @@
 -- How a line is answered, and why.
 use Rattle.std.proofs.{Common.{◌≡◌, ℕ, ◌-◌, ◌<◌, ◌≤◌, ◌==◌, Bool, true, false, cond, List, [], ◌∷◌, length, Option, Some, None, Result, Ok, Err, inl, inr, refl, sym, ap, ◌∙◌, subst, arith}, lemmas.List.length-map, lemmas.Bool.{lt-ltb, Decides.nat_tests}}
-use Rattle.std.specs.{Prelude.{◌||◌, IfOk, IfErr, IfSome, not, filter, nat_lt}, List.{slice_split, onto_first, find, list_all}}
+use Rattle.std.specs.{Prelude.{IfOk, IfErr, IfSome, not, filter, nat_lt}, List.{slice_split, onto_first, find, list_all}}
 use denote.Ref.{Bor}
 use Rattle.pf_form.specs.declared.{form.fault.Kind.Kind, form.fault.Stop.Stop}
 use Rattle.pf_form.specs.declared.form.fault.Kind.TheVariants as kinds
@@ -14,6 +14,7 @@ use Rattle.pf_core.specs.declared.{command.Command.Command, reply.Refusal.Refusa
 use Rattle.pf_core.specs.declared.reply.Refusal.TheVariants as refusals
 use Rattle.pf_line.specs.Grammar as grammar
 use Rattle.pf_line.specs.{Grammar.{Spoken, Says, Tells, decided}, Lines.{is_line_byte, is_bad_line, is_comment, no_command, is_silent, refusal_at, said, said_by, line_at, peer_command, Means, SpellsLine, IsCommand, Parses, Speaks, Refused, Answers}}
+use Rattle.std.proofs.Math.Bool.{or-true}
 
 -- ---- words that spell a line are no comment
 
@@ -171,12 +172,8 @@ not_bad line short bytes =
     let few : nat_lt 4096 (length line) ≡ false = grind (arith, nat_tests, short) in
     rw (few, bytes) refl
 
-either : (t : Bool) → (t || true) ≡ true
-either true = refl
-either false = refl
-
 pub bad_bytes : (line : List ℕ) → list_all is_line_byte line ≡ false → Answers line (Err refusals.BadLine)
-bad_bytes line bytes = bad_answered line (rw bytes (either (nat_lt 4096 (length line))))
+bad_bytes line bytes = bad_answered line (rw bytes (or-true (nat_lt 4096 (length line))))
 
 pub too_long : (line : List ℕ) → 4096 < length line → Answers line (Err refusals.BadLine)
 too_long line long = let t : nat_lt 4096 (length line) ≡ true = lt-ltb 4096 (length line) long in bad_answered line (rw t refl)

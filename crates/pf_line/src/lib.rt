@@ -18,8 +18,9 @@
 //! [`write_reply`] is its writer's.
 //!
 //! Reading and writing don't use one another: `reply` and its modules know no grammar, and the modules that read know no reply but
-//! `Refusal`. `ticket`, `state` and `entries` each read one word; `words` uses these, `lists` uses `words`, `commands` uses both, and
-//! `line` uses `commands`. Within `reply` each module writes by `part`, and only `reply::reply` knows all that is written.
+//! `Refusal`. `cut` finds a line's words; `ticket`, `state` and `entries` each read one word; `words` uses these, `lists` uses `words`,
+//! `commands` uses both, and `line` uses `commands` and `cut`. Within `reply` each module writes by `part`, and only `reply::reply` knows
+//! all that is written.
 #![tactic(auto)]
 
 mod commands;

@@ -7,7 +7,6 @@ use Rattle.std.specs.FinMap.{IsAntisymmetric, find, is_sorted}
 use Rattle.std.specs.FinMap.Entries.{below_all, find_tied}
 use Rattle.std.specs.List.{AllByRecursion, Contains, list_any}
 use Rattle.std.specs.List.Sorted.{IsPermutation, IsSortedBy}
-use Rattle.std.specs.Option.{unwrap_or}
 use Rattle.std.specs.Ordering.{ordering_reverse, eq_by_cmp, is_eq, is_lt}
 use Rattle.std.proofs.lemmas.Bool.{and_parts}
 use Rattle.std.proofs.lemmas.Cmp.{tied_itself}
@@ -16,15 +15,7 @@ use Rattle.std.proofs.lemmas.List.Sorted.{IsPermutation-sym, Contains-permutatio
 use Rattle.pf_map.specs.InOrder.{in_order}
 use Rattle.pf_map.specs.Indexes.{no_flow_twice, IsIndex}
 use Rattle.pf_map.proofs.Ordered.{sorted_of}
-use Rattle.pf_map.proofs.Tests.{first_of, second_of, less_of}
-
-equal : (r : Ordering) → is_eq r ≡ true → r ≡ Equal
-equal Less h = absurd (cc (h))
-equal Equal h = refl
-equal Greater h = absurd (cc (h))
-
-same_entry : {A : Type 0} (x y : A) → Some x ≡ Some y → x ≡ y
-same_entry x y e = ap (λ z. unwrap_or z x) e
+use Rattle.pf_map.proofs.Tests.{first_of, second_of, less_of, equal_of, same_entry}
 
 not_true : (a : Bool) → not a ≡ true → a ≡ false
 not_true true e = absurd (cc (e))
@@ -82,7 +73,7 @@ module _ {K X : Type 0} {R : K → K → Ordering} (o : IsTotalOrder R) where
   found_in same (e ∷ es) k v is = by (eq_by_cmp R k e.0) refl is (λ found. found_in same es k v found) where
     by : (b : Bool) → eq_by_cmp R k e.0 ≡ b → cond b (Some e.1) (find R k es) ≡ Some v → (find R k es ≡ Some v → Contains es (k, v)) → Contains (e ∷ es) (k, v)
     by true tied found rest =
-        let key : k ≡ e.0 = same k e.0 (equal _ tied) in
+        let key : k ≡ e.0 = same k e.0 (equal_of _ tied) in
         let value : e.1 ≡ v = same_entry e.1 v found in
         here e (k, v) es (λ i. (sym key i, value i))
     by false tied found rest = behind e (k, v) es (rest found)
@@ -128,7 +119,7 @@ module _ {N F V : Type 0} {S : F → F → Ordering} (p : IsTotalOrder S) (flow 
       let parts = and_parts (not (list_any (tied (flow e.1)) es)) (no_flow_twice S flow es) is in
       by (not_true _ parts.0) (at_most_once es parts.1 f) (tied f e) refl where
         by : list_any (tied (flow e.1)) es ≡ false → count f es ≤ 1 → (b : Bool) → tied f e ≡ b → cond b 1 0 + count f es ≤ 1
-        by alone rest true t = let none : count f es ≡ 0 = count_alike f (flow e.1) (equal _ t) es ∙ none_count (flow e.1) es alone in omega arith
+        by alone rest true t = let none : count f es ≡ 0 = count_alike f (flow e.1) (equal_of _ t) es ∙ none_count (flow e.1) es alone in omega arith
         by alone rest false t = omega arith
 
   some_twice : (es : List (N × V)) → no_flow_twice S flow es ≡ false → (f : F) × (2 ≤ count f es)
@@ -222,7 +213,7 @@ module _ {N F V : Type 0} {S : F → F → Ordering} (p : IsTotalOrder S) (flow 
     by : (b : Bool) → tied f g ≡ b → cond b (Some g) (find S f (map with_flow fs)) ≡ Some e → (find S f (map with_flow fs) ≡ Some e → Contains fs e × (S f (flow e.1) ≡ Equal)) → Contains (g ∷ fs) e × (S f (flow e.1) ≡ Equal)
     by true t found rest =
         let one : g ≡ e = same_entry g e found in
-        (here g e fs one, ap (λ (x : N × V). S f (flow x.1)) (sym one) ∙ equal _ t)
+        (here g e fs one, ap (λ (x : N × V). S f (flow x.1)) (sym one) ∙ equal_of _ t)
     by false t found rest = let there = rest found in (behind g e fs there.0, there.1)
 
   pub index_of : {R : N → N → Ordering} → IsTotalOrder R → IsAntisymmetric R → (es fs : List (N × V)) → T (is_sorted R es) → IsPermutation es fs → T (is_sorted S (map with_flow fs)) → IsIndex R S flow es (map with_flow fs)

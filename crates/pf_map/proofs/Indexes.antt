@@ -1,35 +1,17 @@
 -- Indexes: what is read by flow is what the list of values has, and both maps stay of one mind.
-use Rattle.std.proofs.Common.{◌≡◌, T, true, false, not, Bool, ◌&&◌, cond, List, [], ◌∷◌, Option, Some, None, option_map, refl, sym, ap, subst, ◌∙◌}
+use Rattle.std.proofs.Common.{◌≡◌, T, true, false, not, Bool, cond, List, [], ◌∷◌, Option, Some, None, option_map, refl, sym, ap, subst, ◌∙◌}
 use Rattle.std.specs.declared.cmp.Ordering.{Ordering}
-use Rattle.std.specs.declared.cmp.Ordering.TheVariants.{Less, Equal, Greater}
+use Rattle.std.specs.declared.cmp.Ordering.TheVariants.{Equal, Greater}
 use Rattle.std.specs.Cmp.{IsTotalOrder}
 use Rattle.std.specs.FinMap.{IsAntisymmetric, find, is_sorted}
 use Rattle.std.specs.FinMap.Entries.{below_all, find_tied}
 use Rattle.std.specs.List.{AllByRecursion}
-use Rattle.std.specs.Option.{option_map_or, unwrap_or}
-use Rattle.std.specs.Ordering.{ordering_reverse, eq_by_cmp, is_eq, is_lt}
+use Rattle.std.specs.Option.{option_map_or}
+use Rattle.std.specs.Ordering.{ordering_reverse, eq_by_cmp, is_eq}
 use Rattle.std.proofs.lemmas.Cmp.{tied_itself}
 use Rattle.pf_map.specs.Maps.{with_value, without}
-use Rattle.pf_map.proofs.Maps.{replaces_the_key, stays_sorted}
+use Rattle.pf_map.proofs.{Maps.{once, replaces_the_key, stays_sorted}, Tests.{less_of, parts_of, equal_of, same_entry}}
 use Rattle.pf_map.specs.Indexes.{of_flow, is_clash, unflowed, IsIndex}
-
-both : (a b : Bool) → T (a && b) → T a × T b
-both true b h = (tt, h)
-both false b h = absurd h
-
-less : (r : Ordering) → T (is_lt r) → r ≡ Less
-less Less h = refl
-less Equal h = absurd h
-less Greater h = absurd h
-
-equal : (r : Ordering) → is_eq r ≡ true → r ≡ Equal
-equal Less h = absurd (cc (h))
-equal Equal h = refl
-equal Greater h = absurd (cc (h))
-
-once : {X : Type 0} (b : Bool) (v x : Option X) → cond b v (cond b None x) ≡ cond b v x
-once true v x = refl
-once false v x = refl
 
 -- the value of what is read at a key
 pub held : {A K X : Type 0} (now : A → K × X) (k : K) (r : Option A) (x : Option X) → option_map now r ≡ option_map (λ v. (k, v)) x → option_map (λ a. (now a).1) r ≡ x
@@ -42,9 +24,6 @@ pub none_found : {K X : Type 0} (pair : X → K × X) (x : Option X) → None �
 none_found pair None is = refl
 none_found pair (Some v) is = absurd (cc (is))
 
-same_entry : {A : Type 0} (x y : A) → Some x ≡ Some y → x ≡ y
-same_entry x y e = ap (λ z. unwrap_or z x) e
-
 module _ {N V : Type 0} {R : N → N → Ordering} (o : IsTotalOrder R) where
   -- ---- each value is found under its name
 
@@ -54,14 +33,14 @@ module _ {N V : Type 0} {R : N → N → Ordering} (o : IsTotalOrder R) where
   found_behind : (x : N × V) (xs ys : List (N × V)) → T (below_all R x.0 ys) → AllFound xs ys → AllFound (x ∷ xs) ys
   found_behind x xs [] below all = tt
   found_behind x xs (y ∷ ys) below all =
-      let parts = both _ _ below in
-      let apart : R y.0 x.0 ≡ Greater = o.antisymm y.0 x.0 ∙ ap ordering_reverse (less _ parts.0) in
+      let parts = parts_of _ _ below in
+      let apart : R y.0 x.0 ≡ Greater = o.antisymm y.0 x.0 ∙ ap ordering_reverse (less_of _ parts.0) in
       (ap (λ (r : Ordering). cond (is_eq r) (Some x.1) (find R y.0 xs)) apart ∙ all.0, found_behind x xs ys parts.1 all.1)
 
   all_found : (es : List (N × V)) → T (is_sorted R es) → AllFound es es
   all_found [] is = tt
   all_found (x ∷ xs) is =
-      let parts = both _ _ is in
+      let parts = parts_of _ _ is in
       (ap (λ (r : Ordering). cond (is_eq r) (Some x.1) (find R x.0 xs)) (tied_itself o x.0), found_behind x xs xs parts.0 (all_found xs parts.1))
 
   without_is : (es : List (N × V)) (n q : N) → find R q (without R es n) ≡ cond (eq_by_cmp R q n) None (find R q es)
@@ -84,7 +63,7 @@ module _ {N F V : Type 0} {R : N → N → Ordering} {S : F → F → Ordering} 
     behind is e found false tied here = here
 
     by : (((e : N × V) → find S f fs ≡ Some e → find R e.0 xs ≡ Some e.1) → of_flow S flow f xs ≡ find S f fs) → (b : Bool) → eq_by_cmp S f (flow x.1) ≡ b → cond b (Some x) (of_flow S flow f xs) ≡ find S f fs
-    by rest true is = sym (index.listed x.0 x.1 all.0 f (equal _ is))
+    by rest true is = sym (index.listed x.0 x.1 all.0 f (equal_of _ is))
     by rest false is = rest (λ e found. behind is e found (eq_by_cmp R e.0 x.0) refl (there e found))
 
   pub flow_is_found : (es : List (N × V)) (fs : List (F × (N × V))) (f : F) → IsIndex R S flow es fs → of_flow S flow f es ≡ find S f fs
@@ -104,7 +83,7 @@ module _ {N F V : Type 0} {R : N → N → Ordering} {S : F → F → Ordering} 
 
     -- a key that ties with the name reads what the name does
     tied_reads : (q : N) → eq_by_cmp R q n ≡ true → q ≡ n
-    tied_reads q is = same q n (equal _ is)
+    tied_reads q is = same q n (equal_of _ is)
 
     none_taken : find R n es ≡ None → IsIndex R S flow (without R es n) fs
     none_taken none = record {
@@ -126,7 +105,7 @@ module _ {N F V : Type 0} {R : N → N → Ordering} {S : F → F → Ordering} 
     } where
       other : (q : N) (u : V) (f : F) → eq_by_cmp R q n ≡ false → find S f fs ≡ Some (q, u) → (b : Bool) → eq_by_cmp S f (flow w) ≡ b → eq_by_cmp S f (flow w) ≡ false
       other q u f apart found true is =
-          let here : find S f fs ≡ Some (n, w) = index.listed n w held_there f (equal _ is) in
+          let here : find S f fs ≡ Some (n, w) = index.listed n w held_there f (equal_of _ is) in
           let name : q ≡ n = ap (λ (e : N × V). e.0) (same_entry (q, u) (n, w) (sym found ∙ here)) in
           let tied : eq_by_cmp R q n ≡ true = ap (λ (m : N). eq_by_cmp R m n) name ∙ ap is_eq (tied_itself o n) in
           absurd (cc (tied, apart))
@@ -186,16 +165,16 @@ module _ {N F V : Type 0} {R : N → N → Ordering} {S : F → F → Ordering} 
   -- a value under a name that there wasn't, of a flow that was free
   module _ (es : List (N × V)) (fs : List (F × (N × V))) (index : IsIndex R S flow es fs) (n : N) (v : V) (new : List (N × V)) (reads : (q : N) → find R q new ≡ cond (eq_by_cmp R q n) (Some v) (find R q es)) (no_name : find R n es ≡ None) (no_flow : find S (flow v) fs ≡ None) where
     flow_free : (f : F) (e : N × V) → find S f fs ≡ Some e → (b : Bool) → eq_by_cmp S f (flow v) ≡ b → eq_by_cmp S f (flow v) ≡ false
-    flow_free f e found true is = let tied : find S (flow v) fs ≡ find S f fs = find_tied S p f (flow v) (equal _ is) fs in absurd (cc (sym no_flow ∙ tied ∙ found))
+    flow_free f e found true is = let tied : find S (flow v) fs ≡ find S f fs = find_tied S p f (flow v) (equal_of _ is) fs in absurd (cc (sym no_flow ∙ tied ∙ found))
     flow_free f e found false is = is
 
     name_free : (e : N × V) → find R e.0 es ≡ Some e.1 → (b : Bool) → eq_by_cmp R e.0 n ≡ b → eq_by_cmp R e.0 n ≡ false
-    name_free e found true is = let there : find R e.0 es ≡ find R n es = ap (λ (q : N). find R q es) (same e.0 n (equal _ is)) in absurd (cc (sym found ∙ there ∙ no_name))
+    name_free e found true is = let there : find R e.0 es ≡ find R n es = ap (λ (q : N). find R q es) (same e.0 n (equal_of _ is)) in absurd (cc (sym found ∙ there ∙ no_name))
     name_free e found false is = is
 
     listed_too : (q : N) (u : V) (f : F) → S f (flow u) ≡ Equal → (b : Bool) → eq_by_cmp R q n ≡ b → cond b (Some v) (find R q es) ≡ Some u → cond (eq_by_cmp S f (flow v)) (Some (n, v)) (find S f fs) ≡ Some (q, u)
     listed_too q u f is true tied found =
-        let name : q ≡ n = same q n (equal _ tied) in
+        let name : q ≡ n = same q n (equal_of _ tied) in
         let value : v ≡ u = same_entry v u found in
         let has : eq_by_cmp S f (flow v) ≡ true = ap (λ (w : V). eq_by_cmp S f (flow w)) value ∙ ap is_eq is in
         ap (λ (b : Bool). cond b (Some (n, v)) (find S f fs)) has ∙ (λ i. Some (sym name i, value i))
@@ -207,7 +186,7 @@ module _ {N F V : Type 0} {R : N → N → Ordering} {S : F → F → Ordering} 
     known_too f e true is found =
         let here : find R n new ≡ Some v = reads n ∙ ap (λ (r : Ordering). cond (is_eq r) (Some v) (find R n es)) (tied_itself o n) in
         let entry : (n, v) ≡ e = same_entry (n, v) e found in
-        subst (λ (x : N × V). (find R x.0 new ≡ Some x.1) × (S f (flow x.1) ≡ Equal)) entry (here, equal _ is)
+        subst (λ (x : N × V). (find R x.0 new ≡ Some x.1) × (S f (flow x.1) ≡ Equal)) entry (here, equal_of _ is)
     known_too f e false is found =
         let was = index.known f e found in
         (reads e.0 ∙ ap (λ (b : Bool). cond b (Some v) (find R e.0 es)) (name_free e was.0 (eq_by_cmp R e.0 n) refl) ∙ was.0, was.1)

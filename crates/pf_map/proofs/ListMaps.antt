@@ -1,9 +1,9 @@
 -- Maps whose values are lists: what is left of them once lists were replaced in turn.
-use Rattle.std.proofs.{Common.{◌≡◌, ◌≢◌, ◌+◌, ◌≤◌, Bool, true, false, cond, List, [], ◌∷◌, length, Option, Some, None, refl, sym, ap, subst, ◌∙◌}, lemmas.Cmp.eq_by_cmp_equiv}
-use Rattle.std.specs.{Prelude.fold, Cmp.IsTotalOrder, FinMap.find, FinMap.Entries.same_entries, Ordering.eq_by_cmp}
+use Rattle.std.proofs.{Common.{◌≡◌, ◌≢◌, Bool, true, false, cond, List, [], ◌∷◌, Option, Some, None, refl, sym, ap, subst, ◌∙◌}, lemmas.Cmp.eq_by_cmp_equiv}
+use Rattle.std.specs.{Cmp.IsTotalOrder, FinMap.find, FinMap.Entries.same_entries, Ordering.eq_by_cmp}
 use Rattle.std.specs.declared.cmp.Ordering.{Ordering}
 use Rattle.pf_map.specs.{ListMaps.{unless_empty, list_in, list_at, with_list, IsListMap, list_by, ReplacesLists, StaysListMap, OneListMap}, Maps.IsMap}
-use Rattle.pf_map.proofs.Maps.{replaces_the_key, stays_sorted, all_grow}
+use Rattle.pf_map.proofs.Maps.{replaces_the_key, stays_sorted}
 
 list_kept : {X : Type 0} (b : Bool) (xs : List X) (old : Option (List X)) → list_in (cond b (unless_empty xs) old) ≡ cond b xs (list_in old)
 list_kept true [] old = refl
@@ -45,10 +45,6 @@ module _ {K : Type 0} (X : Type 0) {R : K → K → Ordering} (o : IsTotalOrder 
   one_list_map same a b left right read =
       same_entries R o same a b left.sorted right.sorted
       (λ k. sym (found_kept (find R k a) (left.filled k)) ∙ ap unless_empty (read k) ∙ found_kept (find R k b) (right.filled k))
-
--- each replaced list is one entry more at most
-pub lists_grow : {K X : Type 0} (R : K → K → Ordering) (items es : List (K × List X)) → length (fold (with_list R) es items) ≤ length es + length items
-lists_grow R items es = all_grow R unless_empty items es
 
 -- a map of kept lists has no empty one
 pub list_map_is : {K X : Type 0} {R : K → K → Ordering} (es : List (K × List X)) → IsMap R unless_empty es → IsListMap R es

@@ -1,17 +1,18 @@
 -- A map in parts: what is read and replaced in the part of a key's place is read and replaced in the map.
-use Rattle.std.proofs.Common.{◌≡◌, ℕ, zero, suc, ◌+◌, ◌-◌, ◌<◌, ◌≤◌, add-one, T, true, false, not, Bool, ◌&&◌, cond, List, [], ◌∷◌, ◌++◌, length, take, drop, get_or, Option, Some, None, option_map, refl, sym, ap, subst, ◌∙◌, append_assoc, append-nil, arith, true≢false, MatchOption}
+use Rattle.std.proofs.Common.{◌≡◌, ℕ, zero, suc, ◌+◌, ◌-◌, ◌<◌, ◌≤◌, T, true, false, not, cond, List, [], ◌∷◌, ◌++◌, length, take, drop, get_or, Option, Some, None, option_map, refl, sym, ap, subst, ◌∙◌, append_assoc, append-nil, arith, true≢false, MatchOption}
 use Rattle.std.specs.declared.cmp.Ordering.{Ordering}
 use Rattle.std.specs.declared.cmp.Ordering.TheVariants.{Less, Equal, Greater}
 use Rattle.std.specs.Cmp.{IsTotalOrder}
 use Rattle.std.specs.FinMap.{find, put, is_sorted}
 use Rattle.std.specs.FinMap.Entries.{below_all, by_order}
-use Rattle.std.specs.List.{AllByRecursion, insert, remove}
+use Rattle.std.specs.List.{AllByRecursion, remove}
 use Rattle.std.specs.Ordering.{ordering_reverse, eq_by_cmp, is_eq, is_lt}
 use Rattle.std.proofs.lemmas.List.{get_or_default, take-append-drop}
 use Rattle.std.proofs.lemmas.List.Concat.{flat_map-append}
 use Rattle.std.proofs.lemmas.List.Elements.{filter-append}
 use Rattle.pf_map.specs.Maps.{without, with_value, or_else, entry_at, at_or_before}
 use Rattle.pf_map.specs.MapParts.{joined, part_before, starts_behind, IsPlace, IsUpTo}
+use Rattle.pf_map.proofs.Tests.{less_of, parts_of, both_of}
 
 -- while a place is sought it is between these two
 pub record IsBetween {K X : Type 0} (R : K → K → Ordering) (k : K) (parts : List (List (K × X))) (low high : ℕ) : Type 0 where
@@ -37,24 +38,8 @@ around_place : {E : Type 0} (parts : List (List E)) (n : ℕ) → joined parts �
 around_place parts zero = refl
 around_place parts (suc i) = around parts i
 
-joins : (a b : Bool) → T a → T b → T (a && b)
-joins true b p q = q
-joins false b p q = p
-
 at_part : {E : Type 0} (parts : List (List E)) (i : ℕ) (part : List E) → i < length parts → part ≡ get_or parts i part → part ≡ get_or parts i []
 at_part parts i part within is = is ∙ get_or_default parts i part [] within
-
-next_before : {E : Type 0} (parts : List (List E)) (i : ℕ) → part_before (i + 1) parts ≡ get_or parts i []
-next_before parts i = rw add-one refl
-
-both : (a b : Bool) → T (a && b) → T a × T b
-both true b h = (tt, h)
-both false b h = absurd h
-
-less : (r : Ordering) → T (is_lt r) → r ≡ Less
-less Less h = refl
-less Equal h = absurd h
-less Greater h = absurd h
 
 -- what comes before something that a key doesn't come before, comes before the key
 past : {K : Type 0} {R : K → K → Ordering} → IsTotalOrder R → (k x y : K) → R x y ≡ Less → is_lt (R k y) ≡ false → R k x ≡ Greater
@@ -113,24 +98,24 @@ module _ {K X : Type 0} {R : K → K → Ordering} (o : IsTotalOrder R) (k : K) 
   -- ---- a map in order
 
   below_at : (x : K) (a : List (K × X)) (e : K × X) (es : List (K × X)) → T (below_all R x (a ++ e ∷ es)) → R x e.0 ≡ Less
-  below_at x [] e es is = less _ (both _ _ is).0
-  below_at x (f ∷ a) e es is = below_at x a e es (both _ _ is).1
+  below_at x [] e es is = less_of _ (parts_of _ _ is).0
+  below_at x (f ∷ a) e es is = below_at x a e es (parts_of _ _ is).1
 
   -- before a part that doesn't start behind a key all are before it
   all_before : (a part es : List (K × X)) → 0 < length part → starts_behind R k part ≡ false → T (is_sorted R (a ++ (part ++ es))) → AllAt Greater a
   all_before a [] es some starts is = absurd (omega arith)
   all_before [] (e ∷ part) es some starts is = tt
   all_before (x ∷ a) (e ∷ part) es some starts is =
-      let parts = both _ _ is in (past o k x.0 e.0 (below_at x.0 a e (part ++ es) parts.0) starts, all_before a (e ∷ part) es some starts parts.1)
+      let parts = parts_of _ _ is in (past o k x.0 e.0 (below_at x.0 a e (part ++ es) parts.0) starts, all_before a (e ∷ part) es some starts parts.1)
 
   -- behind an entry that is behind a key all are behind it
   all_behind : (x : K) (es : List (K × X)) → R k x ≡ Less → T (below_all R x es) → AllAt Less es
   all_behind x [] l is = tt
-  all_behind x (e ∷ es) l is = let parts = both _ _ is in (o.trans k x e.0 l (less _ parts.0), all_behind x es l parts.1)
+  all_behind x (e ∷ es) l is = let parts = parts_of _ _ is in (o.trans k x e.0 l (less_of _ parts.0), all_behind x es l parts.1)
 
   sorted_back : (xs ys : List (K × X)) → T (is_sorted R (xs ++ ys)) → T (is_sorted R ys)
   sorted_back [] ys is = is
-  sorted_back (x ∷ xs) ys is = sorted_back xs ys (both _ _ is).1
+  sorted_back (x ∷ xs) ys is = sorted_back xs ys (parts_of _ _ is).1
 
   -- ---- its parts
 
@@ -145,7 +130,7 @@ module _ {K X : Type 0} {R : K → K → Ordering} (o : IsTotalOrder R) (k : K) 
   parts_behind [] zero next is = tt
   parts_behind [] (suc n) next is = tt
   parts_behind ([] ∷ parts) zero next is = absurd (cc (next (omega arith)))
-  parts_behind ((e ∷ es) ∷ parts) zero next is = let l = less (R k e.0) (subst T (sym (next (omega arith))) tt) in (l, all_behind e.0 (es ++ joined parts) l (both _ _ is).0)
+  parts_behind ((e ∷ es) ∷ parts) zero next is = let l = less_of (R k e.0) (subst T (sym (next (omega arith))) tt) in (l, all_behind e.0 (es ++ joined parts) l (parts_of _ _ is).0)
   parts_behind (p ∷ parts) (suc n) next is = parts_behind parts n (λ h. next (omega arith)) (sorted_back p (joined parts) is)
 
   replaced_there : (parts : List (List (K × X))) (n : ℕ) (v : Option X) → IsPlace R k parts n → T (is_sorted R (joined parts)) → with_value R (joined parts) k v ≡ joined (front_of n parts) ++ (with_value R (part_before n parts) k v ++ joined (drop n parts))
@@ -204,15 +189,15 @@ module _ {K X : Type 0} {R : K → K → Ordering} (o : IsTotalOrder R) (k : K) 
 module _ {K X : Type 0} (R : K → K → Ordering) where
   below_front : (x : K) (xs ys : List (K × X)) → T (below_all R x (xs ++ ys)) → T (below_all R x xs)
   below_front x [] ys is = tt
-  below_front x (e ∷ xs) ys is = let parts = both _ _ is in joins _ _ parts.0 (below_front x xs ys parts.1)
+  below_front x (e ∷ xs) ys is = let parts = parts_of _ _ is in both_of _ _ parts.0 (below_front x xs ys parts.1)
 
   sorted_front : (xs ys : List (K × X)) → T (is_sorted R (xs ++ ys)) → T (is_sorted R xs)
   sorted_front [] ys is = tt
-  sorted_front (x ∷ xs) ys is = let parts = both _ _ is in joins _ _ (below_front x.0 xs ys parts.0) (sorted_front xs ys parts.1)
+  sorted_front (x ∷ xs) ys is = let parts = parts_of _ _ is in both_of _ _ (below_front x.0 xs ys parts.0) (sorted_front xs ys parts.1)
 
   sorted_rest : (xs ys : List (K × X)) → T (is_sorted R (xs ++ ys)) → T (is_sorted R ys)
   sorted_rest [] ys is = is
-  sorted_rest (x ∷ xs) ys is = sorted_rest xs ys (both _ _ is).1
+  sorted_rest (x ∷ xs) ys is = sorted_rest xs ys (parts_of _ _ is).1
 
   part_sorted : (parts : List (List (K × X))) (i : ℕ) → T (is_sorted R (joined parts)) → T (is_sorted R (get_or parts i []))
   part_sorted [] zero is = tt
@@ -271,15 +256,6 @@ pub halves : {E : Type 0} (n : ℕ) (parts : List (List E)) → joined (take n p
 halves n parts = sym (flat_map-append (λ part. part) (take n parts) (drop n parts)) ∙ ap joined (take-append-drop n parts)
 
 -- ---- a part taken out of its place, and what it became put there
-
-pub one_put_back : {E : Type 0} (parts : List (List E)) (n : ℕ) (p : List E) → joined (insert parts n p) ≡ joined (take n parts) ++ (p ++ joined (drop n parts))
-one_put_back parts n p = flat_map-append (λ part. part) (take n parts) (p ∷ drop n parts)
-
-pub two_put_back : {E : Type 0} (parts : List (List E)) (n : ℕ) (p q : List E) → n ≤ length parts → joined (insert (insert parts n q) n p) ≡ joined (take n parts) ++ ((p ++ q) ++ joined (drop n parts))
-two_put_back parts zero p q within = sym (append_assoc p q (joined parts))
-two_put_back [] (suc n) p q within = absurd (omega (arith, within))
-two_put_back (x ∷ parts) (suc n) p q within =
-    ap (λ z. x ++ z) (two_put_back parts n p q (omega (arith, within))) ∙ sym (append_assoc x (joined (take n parts)) ((p ++ q) ++ joined (drop n parts)))
 
 -- around a part that was taken out stands what stood around it
 pub around_removed : {E : Type 0} (parts : List (List E)) (n : ℕ) → n < length parts → (take n (remove parts n) ≡ take n parts) × (drop n (remove parts n) ≡ drop (suc n) parts)

@@ -7,7 +7,7 @@ unless : {X : Type 0} (b : Bool) (x : Option X) → cond (not b) x None ≡ cond
 unless true x = refl
 unless false x = refl
 
-once : {X : Type 0} (b : Bool) (v x : Option X) → cond b v (cond b None x) ≡ cond b v x
+pub once : {X : Type 0} (b : Bool) (v x : Option X) → cond b v (cond b None x) ≡ cond b v x
 once true v x = refl
 once false v x = refl
 

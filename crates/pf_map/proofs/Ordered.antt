@@ -1,13 +1,9 @@
 -- Maps that are made of lists in order, one entry after the other.
-use Rattle.std.proofs.{Common.{◌≡◌, T, Bool, true, false, ◌&&◌, List, [], ◌∷◌, ◌++◌, Some, refl, sym, ap, ◌∙◌, subst, true≢false}}
+use Rattle.std.proofs.{Common.{◌≡◌, T, Bool, true, false, List, [], ◌∷◌, ◌++◌, Some, refl, sym, ap, ◌∙◌, subst, true≢false}}
 use Rattle.std.specs.{declared.{cmp.Ordering.Ordering, cmp.Ordering.TheVariants.Less, cmp.Ordering.TheVariants.Greater}, Cmp.IsTotalOrder, FinMap.{put, is_sorted}, FinMap.Entries.{below_all}, Ordering.{is_lt, ordering_reverse}}
 use Rattle.pf_map.specs.InOrder.{in_order}
 use Rattle.pf_map.specs.Maps.{without, with_value}
-use Rattle.pf_map.proofs.Tests.{first_of, second_of, less_of}
-
-both_of : (a b : Bool) → T a → T b → T (a && b)
-both_of true b p q = q
-both_of false b p q = p
+use Rattle.pf_map.proofs.Tests.{first_of, second_of, less_of, both_of}
 
 holds : (b : Bool) → T b → b ≡ true
 holds true p = refl

@@ -1,21 +1,8 @@
 -- What a map's entries weigh together once a value was replaced.
-use Rattle.std.proofs.{Common.{◌≡◌, ℕ, ◌+◌, ◌*◌, ◌<◌, ◌≤◌, Bool, true, false, not, ◌&&◌, cond, T, List, [], ◌∷◌, length, suc, Option, Some, None, option_map, refl, ap, subst, ◌∙◌, arith}, lemmas.Cmp.tied_itself, lemmas.List.Sums.sum_by-cons}
+use Rattle.std.proofs.{Common.{◌≡◌, ℕ, ◌+◌, ◌*◌, ◌<◌, ◌≤◌, Bool, true, false, not, cond, T, List, [], ◌∷◌, length, suc, Option, Some, None, option_map, refl, ap, subst, ◌∙◌, arith}, lemmas.Cmp.tied_itself, lemmas.List.Sums.sum_by-cons}
 use Rattle.std.specs.{declared.{cmp.Ordering.Ordering, cmp.Ordering.TheVariants.Less, cmp.Ordering.TheVariants.Equal, cmp.Ordering.TheVariants.Greater}, Cmp.IsTotalOrder, Prelude.{◌^◌, filter, is_some}, FinMap.{IsAntisymmetric, find, put, is_sorted}, FinMap.Entries.{by_order, length_without}, List.{sum_by, AllByRecursion}, Ordering.{eq_by_cmp, is_eq}}
 use Rattle.pf_map.specs.{Maps.{without, with_value, entry_at}, Weights.{weight_of, IsWeighed}}
-use Rattle.pf_map.proofs.Maps.{replaces_the_key}
-
-equal_is : (r : Ordering) → is_eq r ≡ true → r ≡ Equal
-equal_is Less t = absurd (cc (t))
-equal_is Equal t = refl
-equal_is Greater t = absurd (cc (t))
-
-first_holds : (a b : Bool) → T (a && b) → T a
-first_holds true b p = tt
-first_holds false b p = p
-
-second_holds : (a b : Bool) → T (a && b) → T b
-second_holds true b p = p
-second_holds false b p = absurd p
+use Rattle.pf_map.proofs.{Maps.replaces_the_key, Tests.{second_of, equal_of}}
 
 none_more : {X : Type 0} (x : Option X) (n m : ℕ) → cond (is_some x) 1 0 + n ≡ m → n ≡ m → x ≡ None
 none_more None n m more same = refl
@@ -46,16 +33,16 @@ module _ {K X : Type 0} {R : K → K → Ordering} (o : IsTotalOrder R) (alike :
   stands_once k e es sorted t =
       let left = without R es k in
       let whole : 1 + length left ≡ suc (length es) = subst (λ b. cond (is_some (cond b (Some e.1) (find R k es))) 1 0 + length (cond (not b) (e ∷ left) left) ≡ suc (length es)) t (length_without R o k (e ∷ es) sorted) in
-      let rest : cond (is_some (find R k es)) 1 0 + length left ≡ length es = length_without R o k es (second_holds _ _ sorted) in
+      let rest : cond (is_some (find R k es)) 1 0 + length left ≡ length es = length_without R o k es (second_of _ _ sorted) in
       none_more (find R k es) (length left) (length es) rest (omega (arith, whole))
 
   taken : (k : K) (es : List (K × X)) → T (is_sorted R es) → at k (find R k es) + sum_by weight (without R es k) ≡ sum_by weight es
   taken k [] sorted = refl
-  taken k (e ∷ es) sorted = by (eq_by_cmp R k e.0) refl (taken k es (second_holds _ _ sorted)) where
+  taken k (e ∷ es) sorted = by (eq_by_cmp R k e.0) refl (taken k es (second_of _ _ sorted)) where
     by : (b : Bool) → eq_by_cmp R k e.0 ≡ b → at k (find R k es) + sum_by weight (without R es k) ≡ sum_by weight es
         → at k (cond b (Some e.1) (find R k es)) + sum_by weight (cond (not b) (e ∷ without R es k) (without R es k)) ≡ sum_by weight (e ∷ es)
     by true t rest =
-        let own : weight (k, e.1) ≡ weight e = ap (λ (j : K). weight (j, e.1)) (alike k e.0 (equal_is (R k e.0) t)) in
+        let own : weight (k, e.1) ≡ weight e = ap (λ (j : K). weight (j, e.1)) (alike k e.0 (equal_of (R k e.0) t)) in
         let others : at k None + sum_by weight (without R es k) ≡ sum_by weight es = subst (λ v. at k v + sum_by weight (without R es k) ≡ sum_by weight es) (stands_once k e es sorted t) rest in
         omega (arith, own, others, sum_by-cons weight e es)
     by false t rest = omega (arith, rest, sum_by-cons weight e es, sum_by-cons weight e (without R es k))

@@ -8,7 +8,7 @@ use crate::page::Page;
 use crate::part::{Part, Single};
 use crate::pieces::Pieces;
 use crate::slot::Slot;
-use pf_key::{Key, Probe};
+use pf_key::{Key, Sought};
 use std::alloc::{AllocError, Global};
 use std::marker::Model;
 use std::sync::Arc;
@@ -99,7 +99,7 @@ impl<K: Key, V: Drop, E: Holder<K, V>, B: Beside<E>> PageBeside<K, V, E, B> {
     }
 
     /// Its last entry that isn't behind a key; None where all are.
-    pub fn entry_up_to<Q: Probe<K>>(&self, sought: &Q) -> Option<&E>
+    pub fn entry_up_to<Q: Sought<K>>(&self, sought: &Q) -> Option<&E>
         requires { T (is_sorted K.order self.now) }
         ensures { MatchOption result (at_or_before K.order (Q.key sought.now) self.now ≡ None) (λ e. IsUpTo K.order (Q.key sought.now) (E.pair e.now ∷ []) self.now) }
     {
@@ -130,11 +130,11 @@ impl<K: Key, V: Drop, E: Holder<K, V>, B: Beside<E>> Part<K, V, E> for PageBesid
         self.page.first()
     }
 
-    fn find<Q: Probe<K>>(&self, hint: u64, sought: &Q) -> Option<&E> {
+    fn find<Q: Sought<K>>(&self, hint: u64, sought: &Q) -> Option<&E> {
         self.page.find(hint, sought)
     }
 
-    fn replaced<Q: Probe<K>>(
+    fn replaced<Q: Sought<K>>(
         self,
         alloc: Global,
         hint: u64,

@@ -6,7 +6,7 @@ use crate::by_flow::{ByFlow, Flowed, HintedFlow, are_apart, each_by_flow, in_ord
 use crate::entries::Entries;
 use crate::entry::KeyValue;
 use crate::tree_map::TreeMap;
-use pf_key::{Key, Probe};
+use pf_key::{Key, Sought};
 use std::alloc::{AllocError, Global};
 use std::marker::Model;
 
@@ -101,14 +101,14 @@ impl<N: Key, F: Key, V: Flowed<F>> Index<N, F, V> {
     }
 
     /// The value of a name, if there is one.
-    pub fn get<Q: Probe<N>>(&self, name: &Q) -> Option<&KeyValue<N, V>>
+    pub fn get<Q: Sought<N>>(&self, name: &Q) -> Option<&KeyValue<N, V>>
         ensures { option_map (λ e. e.now) result ≡ entry_at N.order (Q.key name.now) self.now }
     {
         self.names.get(name)
     }
 
     /// The value of a flow, if there is one.
-    pub fn of_flow<Q: Probe<F>>(&self, flow: &Q) -> Option<&KeyValue<N, V>>
+    pub fn of_flow<Q: Sought<F>>(&self, flow: &Q) -> Option<&KeyValue<N, V>>
         ensures { option_map (λ e. e.now) result ≡ of_flow F.order V.flow (Q.key flow.now) self.now }
     {
         match self.flows.get(flow) {
@@ -155,7 +155,11 @@ impl<N: Key, F: Key, V: Flowed<F>> Index<N, F, V> {
 
     /// The index with no value of a name. In each map pages on the way to it that others hold are copied, three at most, and all
     /// else is shared. `AllocError`: nothing is left of this index; what shares its pages stays.
-    pub fn without<Q: Probe<N>>(self, alloc: Global, name: &Q) -> Result<Index<N, F, V>, AllocError>
+    pub fn without<Q: Sought<N>>(
+        self,
+        alloc: Global,
+        name: &Q,
+    ) -> Result<Index<N, F, V>, AllocError>
         ensures { IfOk result (λ i. i ≡ without N.order self (Q.key name.now)) }
     {
         let Index { names, flows } = self;

@@ -7,7 +7,7 @@ use crate::page::{Page, each_alone};
 use crate::part::{Part, Single};
 use crate::pieces::Pieces;
 use crate::slot::Slot;
-use pf_key::{Key, Probe};
+use pf_key::{Key, Sought};
 use std::alloc::{AllocError, Global};
 use std::marker::Model;
 use std::sync::Arc;
@@ -47,7 +47,7 @@ impl<K: Key, V: Drop, E: Holder<K, V>, P: Part<K, V, E>> Model for Level<K, V, E
 
 // How many parts there are up to the one where a key's entry is, or would be: the last that doesn't start behind the key, or
 // else the first. What is left to look at is halved at each step.
-fn place_in<K: Key, V: Drop, E: Holder<K, V>, P: Part<K, V, E>, Q: Probe<K>>(
+fn place_in<K: Key, V: Drop, E: Holder<K, V>, P: Part<K, V, E>, Q: Sought<K>>(
     slots: &[Slot<K, V, E, P>],
     hint: u64,
     sought: &Q,
@@ -69,7 +69,7 @@ fn place_in<K: Key, V: Drop, E: Holder<K, V>, P: Part<K, V, E>, Q: Probe<K>>(
 }
 
 /// The entry at a key among those of parts that follow one another, if there is one.
-pub(crate) fn find_in<'a, K: Key, V: Drop, E: Holder<K, V>, P: Part<K, V, E>, Q: Probe<K>>(
+pub(crate) fn find_in<'a, K: Key, V: Drop, E: Holder<K, V>, P: Part<K, V, E>, Q: Sought<K>>(
     slots: &'a [Slot<K, V, E, P>],
     hint: u64,
     sought: &Q,
@@ -86,7 +86,7 @@ pub(crate) fn find_in<'a, K: Key, V: Drop, E: Holder<K, V>, P: Part<K, V, E>, Q:
 }
 
 /// The part with the last entry that isn't behind a key among parts that follow one another; None where all entries are.
-pub(crate) fn part_up_to<'a, K: Key, V: Drop, E: Holder<K, V>, P: Part<K, V, E>, Q: Probe<K>>(
+pub(crate) fn part_up_to<'a, K: Key, V: Drop, E: Holder<K, V>, P: Part<K, V, E>, Q: Sought<K>>(
     slots: &'a [Slot<K, V, E, P>],
     hint: u64,
     sought: &Q,
@@ -144,7 +144,7 @@ fn put_back<K: Key, V: Drop, E: Holder<K, V>, P: Part<K, V, E>>(
 }
 
 /// The parts with the entry at a key replaced, or taken out where there is no new one. `AllocError`: nothing is left of them.
-pub(crate) fn replaced_in<K: Key, V: Drop, E: Holder<K, V>, P: Part<K, V, E>, Q: Probe<K>>(
+pub(crate) fn replaced_in<K: Key, V: Drop, E: Holder<K, V>, P: Part<K, V, E>, Q: Sought<K>>(
     alloc: Global,
     mut slots: Vec<Slot<K, V, E, P>>,
     hint: u64,
@@ -267,11 +267,11 @@ impl<K: Key, V: Drop, E: Holder<K, V>, P: Part<K, V, E>> Part<K, V, E> for Level
         self.slots()[0].part().first()
     }
 
-    fn find<Q: Probe<K>>(&self, hint: u64, sought: &Q) -> Option<&E> {
+    fn find<Q: Sought<K>>(&self, hint: u64, sought: &Q) -> Option<&E> {
         find_in(self.slots(), hint, sought)
     }
 
-    fn replaced<Q: Probe<K>>(
+    fn replaced<Q: Sought<K>>(
         self,
         alloc: Global,
         hint: u64,

@@ -1,7 +1,7 @@
 //! Finite maps in the order of their keys, in trees of pages that are shared; the crates above keep rulesets, tables and states in them.
 //!
-//! It stands on `pf_key` alone. It knows of a key that it stands in a total order, and not what a map's keys and values mean: a type says in
-//! its own crate how it is a key.
+//! It stands on `pf_key` alone. It knows of a key that it stands in a total order, and not what a map's keys and values mean: a type says
+//! in its own crate how it is a key.
 //!
 //! A map is the list of its entries in the order of their keys, no key twice. Read first specs/Maps.antt, which says what a map holds once
 //! a key's value was replaced, and specs/ListMaps.antt, maps of lists in which an empty list has no entry; specs/Indexes.antt is about
@@ -13,6 +13,10 @@
 //! was changed, `raised` makes levels over parts that are there already, and `beside` keeps with a page what follows from its entries.
 //! `tree_map` is the tree and `entries` goes over it; `paged_map` and `index` stand on trees, the latter with `by_flow`, the entries under
 //! their second keys. `laws` has what follows from the definitions.
+//!
+//! Proved, by the public contracts: a look-up finds what the list has, a change leaves the list that the definitions say, and what entries
+//! weigh together is kept. No contract says how many pages a change copies. Only tests of other crates show that memory runs out only if a
+//! growth was refused.
 #![tactic(auto)]
 
 mod beside;

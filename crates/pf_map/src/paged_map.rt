@@ -6,7 +6,7 @@ use crate::entries::Entries;
 use crate::entry::{Content, KeyValue};
 use crate::tree_map::TreeMap;
 use crate::weight::Weigher;
-use pf_key::{Key, Probe};
+use pf_key::{Key, Sought};
 use std::alloc::{AllocError, Global};
 use std::marker::{Model, PhantomData};
 
@@ -162,7 +162,7 @@ impl<K: Key, V: Content, W: Weigher<K, V>> PagedMap<K, V, W> {
     }
 
     /// The entry at a key; None where it has no value.
-    pub fn get<Q: Probe<K>>(&self, sought: &Q) -> Option<&KeyValue<K, V>>
+    pub fn get<Q: Sought<K>>(&self, sought: &Q) -> Option<&KeyValue<K, V>>
         ensures entry { option_map (λ e. e.now) result ≡ entry_at K.order (Q.key sought.now) self.now }
         // what each map keeps
         ensures map { IsMap K.order V.kept self.now }

@@ -4,7 +4,7 @@ ghost use Rattle.pf_map.specs.{Maps.{with_value, entry_at}, MapParts.{first_of},
 
 use crate::entry::Holder;
 use crate::pieces::Pieces;
-use pf_key::{Key, Probe};
+use pf_key::{Key, Sought};
 use std::alloc::{AllocError, Global};
 use std::cmp::Ordering;
 use std::marker::{Model, PhantomData};
@@ -28,14 +28,14 @@ pub trait Part<K: Key, V: Drop, E: Holder<K, V>>: Drop {
         ensures { first_of (entries self.now) ≡ Some (E.pair result.now) };
 
     /// The entry at a key, if there is one.
-    fn find<Q: Probe<K>>(&self, hint: u64, sought: &Q) -> Option<&E>
+    fn find<Q: Sought<K>>(&self, hint: u64, sought: &Q) -> Option<&E>
         requires hinted { hint ≡ K.hint (Q.key sought.now) }
         requires sorted { T (is_sorted K.order (entries self.now)) }
         ensures { option_map (λ e. E.pair e.now) result ≡ entry_at K.order (Q.key sought.now) (entries self.now) };
 
     /// What it becomes with the entry at a key replaced, or taken out where there is no new one. What nobody else holds is changed
     /// in place, all else is shared. `AllocError`: nothing is left of this owner's part.
-    fn replaced<Q: Probe<K>>(
+    fn replaced<Q: Sought<K>>(
         self,
         alloc: Global,
         hint: u64,
@@ -99,7 +99,7 @@ impl<K: Key, V: Drop, E: Holder<K, V>> Part<K, V, E> for Single<K, V, E> {
         &self.entry
     }
 
-    fn find<Q: Probe<K>>(&self, _hint: u64, sought: &Q) -> Option<&E> {
+    fn find<Q: Sought<K>>(&self, _hint: u64, sought: &Q) -> Option<&E> {
         if sought.same(self.entry.held_key()) {
             Some(&self.entry)
         } else {
@@ -107,7 +107,7 @@ impl<K: Key, V: Drop, E: Holder<K, V>> Part<K, V, E> for Single<K, V, E> {
         }
     }
 
-    fn replaced<Q: Probe<K>>(
+    fn replaced<Q: Sought<K>>(
         self,
         _alloc: Global,
         _hint: u64,

@@ -4,7 +4,7 @@ ghost use Rattle.pf_map.specs.MapParts.{starts_behind};
 
 use crate::entry::Holder;
 use crate::part::Part;
-use pf_key::{Key, Probe};
+use pf_key::{Key, Sought};
 use std::alloc::AllocError;
 use std::marker::{Model, PhantomData};
 
@@ -81,7 +81,7 @@ impl<K: Key, V: Drop, E: Holder<K, V>, P: Part<K, V, E>> Slot<K, V, E, P> {
     }
 
     /// Whether its entries come behind a key: whether its first one does. The keys are compared only where the hints tie.
-    pub(crate) fn starts_behind<Q: Probe<K>>(&self, hint: u64, sought: &Q) -> bool
+    pub(crate) fn starts_behind<Q: Sought<K>>(&self, hint: u64, sought: &Q) -> bool
         requires { hint ≡ K.hint (Q.key sought.now) }
         ensures value { result ≡ starts_behind K.order (Q.key sought.now) self.now }
         ensures some { 0 < length self.now }

@@ -9,7 +9,7 @@ use crate::page::Page;
 use crate::part::Part;
 use crate::raised::{leaves, middles};
 use crate::slot::Slot;
-use pf_key::{Key, Probe};
+use pf_key::{Key, Sought};
 use std::alloc::{AllocError, Global};
 use std::marker::Model;
 
@@ -105,7 +105,7 @@ impl<K: Key, V: Drop, E: Holder<K, V>, L: Page<K, V, E>> TreeMap<K, V, E, L> {
     }
 
     /// The entry at a key; None where it has no value.
-    pub fn get<Q: Probe<K>>(&self, sought: &Q) -> Option<&E>
+    pub fn get<Q: Sought<K>>(&self, sought: &Q) -> Option<&E>
         ensures entry { option_map (λ e. E.pair e.now) result ≡ entry_at K.order (Q.key sought.now) self.now }
         // what each map keeps
         ensures sorted { T (is_sorted K.order self.now) }
@@ -114,7 +114,7 @@ impl<K: Key, V: Drop, E: Holder<K, V>, L: Page<K, V, E>> TreeMap<K, V, E, L> {
     }
 
     /// The page with the last entry that isn't behind a key; None where all entries are.
-    pub fn page_up_to<Q: Probe<K>>(&self, sought: &Q) -> Option<&L>
+    pub fn page_up_to<Q: Sought<K>>(&self, sought: &Q) -> Option<&L>
         ensures { MatchOption result (at_or_before K.order (Q.key sought.now) self.now ≡ None) (λ p. IsUpTo K.order (Q.key sought.now) (L.entries p.now) self.now) }
     {
         let hint = sought.hint();
@@ -149,7 +149,7 @@ impl<K: Key, V: Drop, E: Holder<K, V>, L: Page<K, V, E>> TreeMap<K, V, E, L> {
     }
 
     // Whether there is an entry at a key.
-    fn has<Q: Probe<K>>(&self, sought: &Q) -> bool
+    fn has<Q: Sought<K>>(&self, sought: &Q) -> bool
         ensures { result ≡ is_some (find K.order (Q.key sought.now) self.now) }
     {
         self.get(sought).is_some()
@@ -157,7 +157,7 @@ impl<K: Key, V: Drop, E: Holder<K, V>, L: Page<K, V, E>> TreeMap<K, V, E, L> {
 
     /// The map with the entry at a key, if it had one, replaced, or taken out where there is no new one. `AllocError`: nothing is left of
     /// this map; what shares its pages stays.
-    pub(crate) fn with_value<'a, Q: Probe<K>>(
+    pub(crate) fn with_value<'a, Q: Sought<K>>(
         self,
         alloc: Global,
         sought: &'a Q,
@@ -185,7 +185,7 @@ impl<K: Key, V: Drop, E: Holder<K, V>, L: Page<K, V, E>> TreeMap<K, V, E, L> {
         self.with_value(alloc, new.held_key(), had, Some(new))
     }
 
-    /// The same, where it has no entry at the key: a look-up less.
+    /// As [`TreeMap::with`], of an entry whose key has none yet, by one look-up less. `AllocError`: as there.
     pub fn with_new(self, alloc: Global, new: &E) -> Result<TreeMap<K, V, E, L>, AllocError>
         requires { find K.order (E.pair new.now).0 self ≡ None }
         ensures { IfOk result (λ m. m ≡ with_value K.order self (E.pair new.now).0 (Some (E.pair new.now).1)) }
@@ -195,7 +195,7 @@ impl<K: Key, V: Drop, E: Holder<K, V>, L: Page<K, V, E>> TreeMap<K, V, E, L> {
 
     /// The map with no value at a key. Pages on the way to it that other maps hold are copied, three at most, and all else is
     /// shared. `AllocError`: nothing is left of this map; what shares its pages stays.
-    pub fn without<Q: Probe<K>>(
+    pub fn without<Q: Sought<K>>(
         self,
         alloc: Global,
         sought: &Q,

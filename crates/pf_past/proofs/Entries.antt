@@ -1,7 +1,7 @@
 -- Each step keeps the rule of the history.
 use Rattle.std.proofs.Common.{◌≡◌, ℕ, zero, suc, ◌+◌, ◌<◌, ◌==◌, true, false, true≢false, List, [], ◌∷◌, ◌++◌, length, refl, ap, sym, ◌∙◌, subst, arith, inl, None}
 use Rattle.std.specs.Prelude.{slice_set}
-use Rattle.std.proofs.lemmas.List.{append-nil, map-append}
+use Rattle.std.proofs.lemmas.List.{append-nil}
 use Rattle.std.proofs.lemmas.Bool.Decides.{nat_tests}
 use mathlib.Core.List.{IsPrefix}
 use prog.Atomic.{either}
@@ -10,7 +10,7 @@ use Rattle.pf_past.specs.declared.rule.HistoryEntry.{HistoryEntry}
 use Rattle.std.specs.Prelude.{map, if◌then◌else◌, ◌≤◌}
 use Rattle.std.specs.List.{sum_by}
 use Rattle.std.proofs.lemmas.List.Sums.{sum_by-append}
-use Rattle.pf_past.specs.Pasts.{Begins, with_change}
+use Rattle.pf_past.specs.Pasts.{Begins}
 use Rattle.pf_past.specs.Rules.{lead, lead_of, IsSpent, IsChain, IsKept, Comes, Starts, Adds, Stays, after_first, past_of}
 use Rattle.pf_past.proofs.Prefixes.{prefix_trans, prefix_shorter, prefix_whole, prefix_length}
 
@@ -193,17 +193,6 @@ prefix_rest (x ∷ xs) (y ∷ ys) p = (p.0, cc (p.1))
 
 pub past_begins : (xs ys : List HistoryEntry) → IsPrefix xs ys → Begins (past_of xs) (past_of ys)
 past_begins xs ys p = let q = prefix_rest xs ys p in (prefix_map (after_first xs) (after_first ys) q, prefix_sum (after_first xs) (after_first ys) q)
-
--- one more entry
-pub past_of-push : (log : List HistoryEntry) (e : HistoryEntry) → 0 < length log → past_of (log ++ e ∷ []) ≡ with_change (past_of log) e.change e.acked
-past_of-push [] e some = absurd (omega arith)
-past_of-push (x ∷ xs) e some = λ i. record {
-  front = map-append (λ (y : HistoryEntry). y.change) xs (e ∷ []) i;
-  acked = sum i;
-}
-  where
-    sum : sum_by (λ (y : HistoryEntry). if y.acked then 1 else 0) (xs ++ e ∷ []) ≡ sum_by (λ (y : HistoryEntry). if y.acked then 1 else 0) xs + (if e.acked then 1 else 0)
-    sum = omega (arith, sum_by-append (λ (y : HistoryEntry). if y.acked then 1 else 0) xs (e ∷ []))
 
 -- of two fronts of one history the one with no more changes begins the other
 pub front_begins : (xs ys zs : List HistoryEntry) → IsPrefix xs zs → IsPrefix ys zs → length (past_of xs).front ≤ length (past_of ys).front → IsPrefix (past_of xs).front (past_of ys).front

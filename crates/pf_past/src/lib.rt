@@ -10,8 +10,8 @@
 //!   has no name.
 //!
 //! Proved, in the public contracts: a history only grows, at its end and by its tip ([`Tip::add`]); of two fronts of one history the
-//! shorter begins the longer ([`Front::begins`]); and the tip begins with every front ([`Tip::contains`]). Not proved: that a new history
-//! always gets its pen ([`NewHistory::named`]).
+//! shorter begins the longer ([`Front::begins`]); and the tip begins with every front ([`Tip::contains`]). Neither proved nor tested:
+//! that a new history can always be added to ([`NewHistory::named`] may give none).
 #![tactic(auto)]
 
 mod history;

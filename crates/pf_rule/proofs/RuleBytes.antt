@@ -4,13 +4,14 @@ use Rattle.std.specs.{Prelude.{unwrap_or, is_none, is_ok, IfSome, not, if◌then
 use Rattle.byteorder.specs.Endian.{big_bytes}
 use Rattle.pf_addr.specs.declared.{addr.Family.{Family, TheVariants.V4, TheVariants.V6}, path.limits.TheConstants.TABLE_NAME_LIMIT}
 use Rattle.pf_addr.specs.{Address.PlainNet, NetForms.{family, family_byte, address_in, first_number}, Path.{Names.{is_name_byte, IsName}, PathForms.{is_name, name_field, reference_form}}, Spelling.first_addr, Laws.NetForms.{family_fits, length_fits, address_fits, network_is, network_again}}
-use Rattle.pf_form.specs.{Bytes.{BasicForms.{Bytes, number_bytes, begins_otherwise, constant_at}, Forms.{Shape, nat, both, Value, Form, Fits, Spells, number, front, pair, pair_by, times, writes, reads, onto, length_of}, Codes.{below, flag, flag_byte}, Names.padded}, Laws.Bytes.{Codes.{flag_fits, flag_again}, Lengths.length_is, Onto.onto_is, Steps.leaves, Texts.one_value}}
+use Rattle.pf_form.specs.{Bytes.{BasicForms.{Bytes, number_bytes, begins_otherwise, constant_at}, Forms.{Shape, nat, both, Value, Form, Fits, Spells, number, front, pair, pair_by, times, writes, reads, onto, length_of}, Codes.{below, flag, flag_byte}}, Laws.Bytes.{Codes.{flag_fits, flag_again}, Lengths.length_is, Onto.onto_is, Steps.leaves, Texts.one_value}}
 use Rattle.pf_form.specs.Bytes.Names as fields
 use Rattle.pf_addr.proofs.{NamesRead.name_only, PathBytes.{name_fits, name_again, reference_fits, reference_again}}
 use Rattle.pf_form.proofs.BytesRead.{written_bytes}
 use Rattle.pf_rule.specs.Sum.Forms as forms
 use Rattle.pf_rule.specs.declared.{value.interface.TheConstants.INTERFACE_LIMIT, value.label.TheConstants.LABEL_LIMIT, sum.layout.TheConstants.LABELS_FROM, value.direction.Direction.{Direction, TheVariants.In, TheVariants.Out}, value.ports.{Comparison.TheVariants.{Equal, NotEqual, Less, AtMost, Greater, AtLeast}, PortRange.TheVariants.{Including, Excluding, Except}, PortTest.{PortTest, TheVariants.Compared, TheVariants.Ranged}}, host.host.Host.{Host, TheVariants.Any, TheVariants.Net, TheVariants.Table}, rule.{Effect.{Effect, TheVariants.Decide, TheVariants.Evaluate}, Action.TheVariants.{Pass, Block}}}
 use Rattle.pf_rule.specs.{Bytes.{addr_bytes, addr_bytes-length}, Value.Values.{IsInterfaceName, IsLabel, IsProtocol, has_ports}, Value.Ports.{IsPortTest, ports_fit}, Rules.{PlainRule, HostFits, IsEffect, LabelFits, IsRule}, Sum.Forms.{filled, test_byte, first_port, second_port, host_form, address_bytes, table_name, effect_byte, keeps_state, direction_byte, names, wildcard, label_bytes, rule_form, whole_form}, Sum.Layouts.{plain_named, LabelShape, port_test, plain_test, network_end, table_end, EndShape, end, plain_end, FamilyShape, some_family, plain_family, InterfaceShape, interface, plain_interface, has_labels, label_form, plain_label, EndingShape, named, plain_ending, BodyShape, body, RuleShape, rule_layout, plain_rule, allows}, Sum.Reading.{test_of, host_of, port_of, effect_of, direction_of, family_in, protocol_of_byte, interface_of, label_of, rule_of}}
+use Rattle.std.proofs.Math.Bool.{or-true}
 
 -- ---- single bytes
 
@@ -140,10 +141,6 @@ keeps_fits (Evaluate r) = (omega arith, refl)
 not_zero : (n : ℕ) → 0 < n → (n == 0) ≡ false
 not_zero n lt = grind (arith, nat_tests)
 
-or_true : (b : Bool) → (b || true) ≡ true
-or_true true = refl
-or_true false = refl
-
 -- a version with labels, or no label
 abbrev Borne : Bool → Option (List ℕ) → Type 0
 Borne labels l = (labels || is_none l) ≡ true
@@ -180,7 +177,7 @@ unfolding label_form
 label_fits false None is allowed = refl
 label_fits true None is allowed = ((omega arith, (refl, tt)), refl)
 label_fits false (Some label) is allowed = absurd cc
-label_fits true (Some label) is allowed = ((omega (arith, label_low label is), (refl, bytes_fit label (name_bytes_low label is.bytes))), rw (is_label_name label is) (or_true (length label == 0)))
+label_fits true (Some label) is allowed = ((omega (arith, label_low label is), (refl, bytes_fit label (name_bytes_low label is.bytes))), rw (is_label_name label is) (or-true (length label == 0)))
 
 label_allowed : (labels : Bool) (l : Option (List ℕ)) → IfSome l IsLabel → Fits (label_form labels) (plain_label l) → Borne labels l
 unfolding label_form
@@ -212,7 +209,7 @@ ending_allowed : (labels : Bool) (e : Effect) (l : Option (List ℕ)) → LabelF
 unfolding named
 ending_allowed labels (Decide Block) l is fits = label_allowed labels l is fits.1
 ending_allowed labels (Decide (Pass keeps)) l is fits = label_allowed labels l is fits.1
-ending_allowed labels (Evaluate r) l none fits = rw none (or_true labels)
+ending_allowed labels (Evaluate r) l none fits = rw none (or-true labels)
 
 ending_again : (e : Effect) (l : Option (List ℕ)) → LabelFits e l → label_of (plain_label l) ≡ l
 ending_again (Decide a) l fits = label_again l fits

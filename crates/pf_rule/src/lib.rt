@@ -7,9 +7,9 @@
 //! The crate knows no rulesets at paths, no tables, tickets, states or lines; which ruleset an anchor rule leads to is `pf_anchor`'s
 //! business.
 //!
-//! `value` (protocols, ports, interfaces, directions, labels) uses no other module; `host` (the addresses and tables of a rule's two ends) uses
-//! `value`; rules and packets, at the root, use both and know no checksum; `sum` (forms and checksums) uses all three. `fault` says why a
-//! text was refused. `laws` may use all.
+//! `value` (protocols, ports, interfaces, directions, labels) uses no other module; `host` (the addresses and tables of a rule's two ends)
+//! uses `value`; rules and packets, at the root, use both and know no checksum; `sum` (forms and checksums) uses all three. `fault` says
+//! why a text was refused. `laws` may use all.
 //!
 //! Read `specs/Rules.antt` first (what a rule is, and when it matches), `specs/Packets.antt`, and `specs/RuleGrammar.antt` with
 //! `specs/PacketGrammar.antt` (their texts); then `specs/RuleText.antt` (the canonical text), `specs/Refusals.antt` (what reading a text

@@ -185,9 +185,6 @@ module _ (base : PlainDurable) (setting : Setting) where
   pub flush-ends : {input : List ℕ} {kept : Option (List ℕ)} (unread : Option (List ℕ)) {a b : Option PlainReceipt} {h i : Option (List ℕ)} (j : Option (List ℕ)) → Keeps i j → SoFar (Takes base setting) input kept a b h i → Ends (Takes base setting) (Err fault.Write) input unread a b h j
   flush-ends unread {i = i} j keeps s = (s.messages, Unfinished s.rest, s.reads, inl (flush-cut j (kept-front i j keeps) s.taken))
 
-  pub read-ends : {input : List ℕ} {kept : Option (List ℕ)} (unread : Option (List ℕ)) {a b : Option PlainReceipt} {h i : Option (List ℕ)} → SoFar (Takes base setting) input kept a b h i → Ends (Takes base setting) (Err fault.Read) input unread a b h i
-  read-ends unread s = (s.messages, s.rest, s.reads, s.taken)
-
   -- a piece with which it goes on
   pub on-so_far : {input : List ℕ} {kept : Option (List ℕ)} (piece : List ℕ) (kept' : Option (List ℕ)) {a b c : Option PlainReceipt} {h i j : Option (List ℕ)} → SoFar (Takes base setting) input kept a b h i → TakesPiece (Takes base setting) (Ok On) piece kept kept' b c i j → SoFar (Takes base setting) (input ++ piece) kept' a c h j
   on-so_far {input} {kept} piece kept' {a} {b} {c} {h} {i} {j} s (inl (ms, f, taken, ran)) =

@@ -1,5 +1,5 @@
 -- The lines of an export, given to a Book one by one.
-use Rattle.std.proofs.{Common.{◌≡◌, ◌⊎◌, ◌+◌, ◌<◌, ◌≤◌, ◌||◌, ℕ, Bool, true, false, cond, List, [], ◌∷◌, ◌++◌, length, length-append, append-nil, map, Option, Some, Result, Ok, Err, inl, inr, refl, sym, subst, ap, ◌∙◌, append_assoc, arith}, lemmas.Bool.Decides.nat_tests, lemmas.List.length-map, lemmas.List.Sums.{fold-append, fold_push}}
+use Rattle.std.proofs.{Common.{◌≡◌, ◌⊎◌, ◌+◌, ◌<◌, ◌≤◌, ℕ, Bool, true, false, cond, List, [], ◌∷◌, ◌++◌, length, length-append, append-nil, map, Option, Some, Result, Ok, Err, inl, inr, refl, sym, subst, ap, ◌∙◌, append_assoc, arith}, lemmas.Bool.Decides.nat_tests, lemmas.List.length-map, lemmas.List.Sums.{fold-append, fold_push}}
 use Rattle.std.specs.List.{flat_map}
 use Rattle.pf_core.specs.declared.{command.Command.Command, command.Command.TheVariants.States, command.StateCommand.TheVariants.Peer, reply.Outcome.Outcome, reply.Outcome.TheVariants.Peered, reply.Refusal.Refusal, reply.Refusal.TheVariants.{Halted, HistoryFull, Full, Fault, Memory}, reply.Reply.Reply, reply.Reply.TheVariants.{Applied, Stored, Refused}, step.Step.Step, step.Step.TheVariants.Wants, durable.refusal.ChangeRefusal.TheVariants.{BadTick, StatesFull}}
 use Rattle.pf_core.specs.{Calls.call, Commands.{steps_here, states_step, unless_unfit}, Durable.Changes.{PlainDurable, PlainChange, main_sum, kept_nothing, acts, applied, after}, WorldBooks.{WorldBook, IsAt, StandsFor}, Worlds.{Setting, Upshot, CurrentOpening, State, up, down, flat, log_of, durable_of, is_halted, step_in, room_for, due, due_at, group_in, group_at, or_refused, if_ok, grouped, Event, called, acked_by, pending_by, opened, begun, raised, heard, next, StandsIn, LegalCall, state_after, IsLegalFrom}}
@@ -11,18 +11,15 @@ use Rattle.pf_line.proofs.{ExportedLines.exports_are_read, Lines.one_meaning, Ta
 use Rattle.std.specs.Prelude.{nat_lt}
 use Rattle.pf_book.specs.Books.{PlainBook, world_book}
 use Rattle.pf_session.specs.{Serving.{CallsBook, Serves}, Telling.{IsToldBy, Says}, Laws.Takeover.{held_in, IsReadyFor, IsWant, WasRefused, TakesOver, FreshTakesOver}}
+use Rattle.std.proofs.lemmas.Bool.{or_parts}
 
 -- ---- steps in two parts
-
-both-false : (a b : Bool) → (a || b) ≡ false → (a ≡ false) × (b ≡ false)
-both-false false b h = (refl, h)
-both-false true b h = absurd (cc (h))
 
 fit-apart : (es : List PlainState) (xs ys : List StateStep) → passes_limit es (xs ++ ys) ≡ false → (passes_limit es xs ≡ false) × (passes_limit (stepped_on es xs) ys ≡ false)
 unfolding passes_limit
 fit-apart es [] ys h = (refl, h)
 fit-apart es (x ∷ xs) ys h =
-    let apart = both-false (is_over (stepped es x)) (passes_limit (stepped es x) (xs ++ ys)) h in
+    let apart = or_parts (is_over (stepped es x)) (passes_limit (stepped es x) (xs ++ ys)) h in
     let rest = fit-apart (stepped es x) xs ys apart.1 in
     (rw (apart.0, rest.0) refl, rest.1)
 

@@ -15,14 +15,14 @@ pub fn takes_over<D: Disk>()
 {}
 
 /// What the seer of a session over a shared Book has learnt after a line begins with what it had learnt before it. After a change that
-/// the session was told is applied it begins with the whole history at that reply, which has as many changes as the change's number says.
+/// a reply says is applied it begins with the whole history at that reply, which has as many changes as the change's number says.
 /// By what `Seer::judge` promises, each verdict from then on is by a front of the history that begins with it.
 pub fn sessions_learn<G: Gate>()
     ensures kept { (gate : G) (session : ℕ) → LearnsNoLess (G.passed gate session) }
     ensures applied { LearnsApplied }
 {}
 
-/// A change that a session over a shared Book was told is applied or stored is acknowledged, with all before it, and stays so: the
+/// A change that a session's reply over a shared Book says is applied or stored is acknowledged, with all before it, and stays so: the
 /// receipt of that call and of each later one says no fewer, and each later call finds no fewer, whatever else was asked in between.
 pub fn what_is_told_stays_acknowledged<G: Gate>()
     ensures told { AcknowledgesTold }

@@ -6,14 +6,15 @@
 //! - `engine`: the lines of one reader, by a `Book` of `pf_book`, one history over a device.
 //! - `server`: the lines of many readers at once, and peers' streams, by one Book that they share. Each session judges packets by a way of
 //!   its own into what is published, and waits for the Book only with its other commands.
-//! - `laws`: what follows for a peer's export that a Book is given, and for what sessions and peers are told.
+//! - `laws`: what follows for a peer's export that a Book is given, and for what replies say to sessions and peers.
 //!
 //! The crate knows no text of a command or a reply, which are `pf_line`'s, but `err gone`. It doesn't judge, compare, change or keep
 //! rules, tables and states itself: each command goes to a Book. It knows no words of a program, no files and no sockets.
 //!
 //! Proved: a session's bytes are the replies to its lines in order, and the Book gets the calls that they mean, however the session ends
 //! (`serve_alone`, `serve_from`, `serve_peer_from`).
-//! Only tests of other crates show that memory runs out only if a growth was refused; that the writer is flushed before each read, and that no other calls are made.
+//! Only tests of other crates show that memory runs out only if a growth was refused, that the writer is flushed before each read, and
+//! that no other calls are made.
 //!
 //! Read `specs/Serving.antt` first: which calls lines come to. Then `specs/LineEngine/Sessions.antt`: what a session read and wrote.
 #![tactic(auto)]

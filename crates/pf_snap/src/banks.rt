@@ -25,13 +25,16 @@ pub struct Banks<D: Disk> {
     pub other: usize,
     /// Whether the other one's gate is open.
     pub other_is_open: bool,
+    /// Of the counting bank, 1 to 3.
     pub version: u8,
+    /// Of the counting bank.
     pub generation: u64,
 }
 
 impl<D: Disk> Banks<D> {
     /// Syncs a device, whatever a crash or a fault left on it, and looks at what it holds, in at most five of its moments. If what is
-    /// found isn't broken, the banks are ready; otherwise they only serve to give the device back. `Err` gives it back too.
+    /// found isn't broken, the banks are ready; otherwise they only serve to give the device back. `Err` gives it back too, with the
+    /// cause.
     pub fn open(alloc: Global, disk: D) -> Result<(Banks<D>, Looked), (LookFault, D)>
         requires few { D.fault_count disk < 2 ^ 63 }
         ensures found { IfOk result (λ r. IsFound (D.seen disk) r.1) }
@@ -55,7 +58,7 @@ impl<D: Disk> Banks<D> {
         }
     }
 
-    /// Makes the bank that a switch to this snapshot begins, with all the memory that it needs.
+    /// Makes the bank that a switch to this snapshot begins, with all the memory that it needs. `AllocError`: out of memory.
     pub fn prepare(&self, alloc: Global, snapshot: &[u8]) -> Result<NextBank, AllocError>
         requires fits { BANK_HEADER + length snapshot.now + 1 < 2 ^ 32 }
         requires early { self.now.generation + 1 < 2 ^ 64 }

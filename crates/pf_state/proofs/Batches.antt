@@ -13,17 +13,11 @@ pub record Acting (es : List PlainState) (steps : List StateStep) (index : ℕ) 
   pub inserted : inserts c ≤ index
   pub deleted : length now + c.deleted ≤ STATE_LIMIT + index
 
-none_plus : (n : ℕ) → 0 + n ≡ n
-none_plus n = omega arith
-
 plus_none : (n : ℕ) → n + 0 ≡ n
 plus_none n = omega arith
 
 plus_third : (a b c : ℕ) → (a + b) + c ≡ a + (b + c)
 plus_third a b c = omega arith
-
-none_and : (c : Counts) → both no_counts c ≡ c
-none_and c = λ i. record { inserted = none_plus c.inserted i; replaced = none_plus c.replaced i; stale = none_plus c.stale i; clash = none_plus c.clash i; deleted = none_plus c.deleted i }
 
 and_none : (c : Counts) → both c no_counts ≡ c
 and_none c = λ i. record { inserted = plus_none c.inserted i; replaced = plus_none c.replaced i; stale = plus_none c.stale i; clash = plus_none c.clash i; deleted = plus_none c.deleted i }
@@ -35,17 +29,6 @@ both_third a b c = λ i. record {
   stale = plus_third a.stale b.stale c.stale i;
   clash = plus_third a.clash b.clash c.clash i;
   deleted = plus_third a.deleted b.deleted c.deleted i;
-}
-
-pub acting_none : (es : List PlainState) (steps : List StateStep) → IsStates es → Acting es steps 0 es no_counts
-acting_none es steps is = record {
-  names = is.names;
-  few = is.few;
-  left = refl;
-  sum = none_and (counts es steps);
-  limit = refl;
-  inserted = omega arith;
-  deleted = let few = is.few in omega (arith, few);
 }
 
 one_at_most : (b : Bool) → cond b 1 0 ≤ 1

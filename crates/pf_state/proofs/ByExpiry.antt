@@ -1,28 +1,20 @@
 -- The order of expiries has exactly the states that have one, also after a change; and its first says whether any is due.
 use Rattle.std.proofs.{Common.{◌≡◌, ℕ, ◌+◌, ◌<◌, ◌≤◌, Bool, true, false, not, ◌&&◌, ◌||◌, cond, T, List, [], ◌∷◌, ◌++◌, Option, Some, None, option_map, length, take, drop, get_or, refl, sym, ap, ◌∙◌, subst, arith}, lemmas.{Cmp.{nat_cmp_total, tied_itself}, Bool.{eqb-true, eq-eqb, Decides.nat_tests}, List.{take_more, take-append-drop}}}
-use Rattle.std.specs.{Prelude.{◌==◌, nat_lt}, declared.{cmp.Ordering.Ordering, cmp.Ordering.TheVariants.Less, cmp.Ordering.TheVariants.Equal, cmp.Ordering.TheVariants.Greater}, FinMap.{find, is_sorted, nat_cmp-IsAntisymmetric}, FinMap.Entries.below_all, Option.option_map_or, Ordering.{ordering_then, ordering_reverse, nat_cmp, eq_by_cmp, is_eq, is_lt}}
+use Rattle.std.specs.{Prelude.{◌==◌, nat_lt}, declared.{cmp.Ordering.TheVariants.Less, cmp.Ordering.TheVariants.Greater}, FinMap.{find, is_sorted, nat_cmp-IsAntisymmetric}, FinMap.Entries.below_all, Option.option_map_or, Ordering.{ordering_reverse, nat_cmp, eq_by_cmp, is_eq, is_lt}}
 use Rattle.pf_map.specs.Maps.{with_value, without, entry_at}
 use Rattle.pf_map.proofs.{Maps.{replaces_the_key, stays_sorted}, Ordered.{put_last, sorted_front}}
 use Rattle.pf_state.specs.{declared.{dues.Due.Due, state.Held.Held, state.StateName.StateName}, Dues.{due_order, due_of, PlainDues, with_place, without_place, is_listed, AreDues, IsDueAt}, Orders.{name_total, due_total, dues_rise}, Peer.Written.Each, States.{PlainState, name_order, held_at, stands, all_stand, none_expires}, Steps.without_state}
-use Rattle.pf_state.proofs.{Flows.{left_true, right_true}, Leaves.{reads_put, reads_delete}, Names.one_name, Tables.{no, nothing_is, first_of, second_of, front_within, rest_within}, TakenOver.{all_held, less_of}, Ticks.held_passes}
+use Rattle.pf_state.proofs.{Flows.{left_true, right_true}, Leaves.{reads_put, reads_delete}, Names.one_name, Tables.{no, nothing_is, front_within, rest_within}, TakenOver.{all_held}, Ticks.held_passes}
+use Rattle.pf_map.proofs.Tests.{first_of, second_of, less_of, equal_of}
+use Rattle.std.specs.Cmp.{tied_then}
 
 -- ---- two places are one exactly if the expiries and the names are
-
-then_ties : (r s : Ordering) → is_eq (ordering_then r s) ≡ (is_eq r && is_eq s)
-then_ties Less s = refl
-then_ties Equal s = refl
-then_ties Greater s = refl
-
-ties : (r : Ordering) → is_eq r ≡ true → r ≡ Equal
-ties Less e = no (sym e)
-ties Equal e = refl
-ties Greater e = no (sym e)
 
 number_ties : (m n : ℕ) → is_eq (nat_cmp m n) ≡ (m == n)
 number_ties m n = by (is_eq (nat_cmp m n)) refl (m == n) refl where
   by : (a : Bool) → is_eq (nat_cmp m n) ≡ a → (b : Bool) → (m == n) ≡ b → a ≡ b
   by true tied true same = refl
-  by true tied false other = sym (eq-eqb m n (nat_cmp-IsAntisymmetric m n (ties (nat_cmp m n) tied))) ∙ other
+  by true tied false other = sym (eq-eqb m n (nat_cmp-IsAntisymmetric m n (equal_of (nat_cmp m n) tied))) ∙ other
   by false apart true same = sym apart ∙ subst (λ (k : ℕ). is_eq (nat_cmp m k) ≡ true) (eqb-true m n same) (ap is_eq (tied_itself nat_cmp_total m))
   by false apart false other = refl
 
@@ -42,7 +34,7 @@ zero_apart m n zero some = by (m == n) refl where
   by false other = refl
 
 pub place_ties : (a b : Due) → eq_by_cmp due_order a b ≡ ((a.expiry == b.expiry) && eq_by_cmp name_order a.name b.name)
-place_ties a b = then_ties (nat_cmp a.expiry b.expiry) (name_order a.name b.name) ∙ ap (λ (t : Bool). t && eq_by_cmp name_order a.name b.name) (number_ties a.expiry b.expiry)
+place_ties a b = sym (tied_then (nat_cmp a.expiry b.expiry) (name_order a.name b.name)) ∙ ap (λ (t : Bool). t && eq_by_cmp name_order a.name b.name) (number_ties a.expiry b.expiry)
 
 -- ---- one state's place taken out
 

@@ -3,23 +3,20 @@ use Rattle.std.proofs.{Common.{◌≡◌, ◌≤◌, ◌&&◌, not, ℕ, Bool, t
 use Rattle.std.specs.{Prelude.{◌==◌, nat_lt}, List.flat_map, Str.bytes_eq}
 use Rattle.pf_state.specs.{declared.{binding.TheConstants.ALL_ONES, state.Bound.Bound, state.Bound.TheVariants.Rule, state.Bound.TheVariants.Default, step.StateStep.StateStep, step.StateStep.TheVariants.Insert}, Bindings.{bound, exported}, States.PlainState, Failover.Incoming.{insert_step, steps_of}, Failover.Outgoing.{exported_insert, exported_message, parts}, Laws.Failover.{bound_there, state_there, TellsTheStates}}
 use Rattle.pf_state.proofs.Cut.{by_parts}
-
-never : (b : Bool) → (b && false) ≡ false
-never true = refl
-never false = refl
+use Rattle.std.proofs.Math.Bool.{and-false}
 
 -- no main rule has the number that means none
 one_of : (number count : ℕ) → count ≤ ALL_ONES → (not (number == ALL_ONES) && true && nat_lt number count) ≡ nat_lt number count
 one_of number count few = by (nat_lt number count) refl where
   by : (t : Bool) → nat_lt number count ≡ t → (not (number == ALL_ONES) && true && t) ≡ t
   by true within = let other : (number == ALL_ONES) ≡ false = grind (arith, nat_tests) in rw other refl
-  by false past = never (not (number == ALL_ONES) && true)
+  by false past = and-false (not (number == ALL_ONES) && true)
 
 same_bytes : (xs ys : List ℕ) → bytes_eq xs ys ≡ true → xs ≡ ys
 same_bytes xs ys e = (bytes_eq-Decides xs ys).0 e
 
 no_rule : (ours theirs : List ℕ) (count : ℕ) → bound ours ALL_ONES ALL_ONES theirs count ≡ Default
-no_rule ours theirs count = ap (λ (b : Bool). cond b (Rule ALL_ONES ours) Default) (never (bytes_eq ours theirs))
+no_rule ours theirs count = ap (λ (b : Bool). cond b (Rule ALL_ONES ours) Default) (and-false (bytes_eq ours theirs))
 
 bound_again : (ours theirs : List ℕ) (count : ℕ) → count ≤ ALL_ONES → (b : Bound) → bound ours (exported b ours) ALL_ONES theirs count ≡ bound_there ours theirs count b
 bound_again ours theirs count few Default = no_rule ours theirs count

@@ -1,14 +1,10 @@
 -- Two flows are one exactly if their keys tie.
-use Rattle.std.proofs.{Common.{◌≡◌, ◌⊎◌, inl, inr, Bool, true, false, T, not, refl, sym, ap, ◌∙◌, subst}, lemmas.Cmp.tied_itself}
-use Rattle.std.specs.{declared.{cmp.Ordering.Ordering, cmp.Ordering.TheVariants.Less, cmp.Ordering.TheVariants.Equal, cmp.Ordering.TheVariants.Greater}, Ordering.{eq_by_cmp, is_eq}}
+use Rattle.std.proofs.{Common.{◌≡◌, ◌⊎◌, inl, inr, Bool, true, false, refl, sym, ap, ◌∙◌, subst}, lemmas.Cmp.tied_itself}
+use Rattle.std.specs.{Ordering.{eq_by_cmp, is_eq}}
 use Rattle.pf_rule.specs.{declared.{value.direction.Direction.Direction, value.direction.Direction.TheVariants.In, value.direction.Direction.TheVariants.Out}}
 use Rattle.pf_state.specs.{declared.flow_key.FlowEnds.FlowEnds, Flows.{PlainFlow, turned, same_flow}, FlowKeys.{key_of, flow_by, key_order}, Orders.{key_total, key_alike}}
 use Rattle.pf_state.proofs.Flows.{alike_of, same_by_equal, same_by_turned}
-
-ties : (r : Ordering) → is_eq r ≡ true → r ≡ Equal
-ties Less e = absurd (subst (λ b. T (not b)) e tt)
-ties Equal e = refl
-ties Greater e = absurd (subst (λ b. T (not b)) e tt)
+use Rattle.pf_map.proofs.Tests.{equal_of}
 
 -- both directions of a flow have one key
 key_turned : (d : Direction) (k : FlowEnds) → key_of (turned (flow_by d k)) ≡ k
@@ -44,5 +40,5 @@ pub same_flow_is : (f g : PlainFlow) → same_flow f g ≡ eq_by_cmp key_order (
 same_flow_is f g = by (same_flow f g) (eq_by_cmp key_order (key_of f) (key_of g)) refl refl where
   by : (a b : Bool) → same_flow f g ≡ a → eq_by_cmp key_order (key_of f) (key_of g) ≡ b → a ≡ b
   by true b one tie = sym (ap is_eq (tied_itself key_total (key_of g))) ∙ ap (λ (k : FlowEnds). eq_by_cmp key_order k (key_of g)) (sym (same_key f g one)) ∙ tie
-  by false true one tie = sym one ∙ one_key f g (key_alike (key_of f) (key_of g) (ties (key_order (key_of f) (key_of g)) tie))
+  by false true one tie = sym one ∙ one_key f g (key_alike (key_of f) (key_of g) (equal_of (key_order (key_of f) (key_of g)) tie))
   by false false one tie = refl

@@ -3,6 +3,7 @@ use Rattle.std.proofs.{Common.{◌≡◌, ◌⊎◌, inl, inr, Bool, true, false
 use Rattle.pf_addr.specs.declared.{addr.Addr.Addr, addr.Addr.TheVariants.V4, addr.Addr.TheVariants.V6}
 use Rattle.pf_rule.specs.{declared.{value.direction.Direction.Direction, value.direction.Direction.TheVariants.In, value.direction.Direction.TheVariants.Out}, Value.Tests.same_direction}
 use Rattle.pf_state.specs.{Flows.{PlainFlow, other_way, turned, same_addr, is_equal, same_flow}, Laws.States.OneFlowOrAnother}
+use Rattle.std.proofs.lemmas.Bool.{or_right}
 
 pub left_true : (a b : Bool) → (a && b) ≡ true → a ≡ true
 left_true true b e = refl
@@ -15,10 +16,6 @@ right_true false b e = absurd (subst (λ c. T (not c)) e tt)
 pub either_true : (a b : Bool) → (a || b) ≡ true → (a ≡ true) ⊎ (b ≡ true)
 either_true true b e = inl refl
 either_true false b e = inr e
-
-pub or_true : (a b : Bool) → b ≡ true → (a || b) ≡ true
-or_true true b e = refl
-or_true false b e = e
 
 direction_of : (d e : Direction) → same_direction d e ≡ true → d ≡ e
 direction_of In In e = refl
@@ -81,7 +78,7 @@ same_by_equal f g e = ap (λ b. b || is_equal f (turned g)) (equal_by f g e)
 
 pub same_by_turned : (f g : PlainFlow) → f ≡ turned g → same_flow f g ≡ true
 unfolding same_flow
-same_by_turned f g e = or_true (is_equal f g) (is_equal f (turned g)) (equal_by f (turned g) e)
+same_by_turned f g e = or_right (is_equal f g) (is_equal f (turned g)) (equal_by f (turned g) e)
 
 pub same_back : (f g : PlainFlow) → same_flow f g ≡ true → same_flow g f ≡ true
 same_back f g e = by (alike_of f g e) where

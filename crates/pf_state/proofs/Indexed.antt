@@ -1,24 +1,13 @@
 -- What an index of states returns is what the list of them has.
-use Rattle.std.proofs.{Common.{◌≡◌, ℕ, ◌⊎◌, inl, inr, Bool, true, false, not, ◌&&◌, cond, T, List, [], ◌∷◌, Option, Some, None, option_map, refl, sym, ap, ◌∙◌, subst}, lemmas.Cmp.eq_by_cmp_equiv}
+use Rattle.std.proofs.{Common.{◌≡◌, ℕ, ◌⊎◌, inl, inr, Bool, true, false, not, ◌&&◌, cond, T, List, [], ◌∷◌, Option, Some, None, refl, sym, ap, ◌∙◌, subst}, lemmas.Cmp.eq_by_cmp_equiv}
 use Rattle.std.specs.{Prelude.◌==◌, FinMap.{is_sorted}, FinMap.Entries.{is_sorted-where_key, same_entries}, List.find as first_where, Option.option_map_or, Ordering.eq_by_cmp}
 use Rattle.pf_map.specs.Indexes.{of_flow, is_clash as clashes_in}
 use Rattle.pf_map.proofs.Maps.{stays_sorted}
 use Rattle.pf_state.specs.{declared.{state.Held.Held, state.StateName.StateName}, FlowKeys.{key_of, key_order}, Flows.{PlainFlow, same_flow}, Orders.{name_total, name_alike, key_total}, States.{PlainState, name_order, held_at, state_of, NamesFlows}, Steps.{insertion, has_effect, is_clash, without_creator, without_state}}
-use Rattle.pf_state.proofs.{FlowKeys.same_flow_is, Flows.{left_true, right_true, either_true}, Leaves.{reads_delete, reads_clear}, Names.{one_name, same_itself}, Tables.{no, nothing_is, no_clash, others_differ, none_behind, one_state_a_flow, first_of, second_of}}
+use Rattle.pf_state.proofs.{FlowKeys.same_flow_is, Flows.{left_true, right_true, either_true}, Leaves.{reads_delete, reads_clear}, Names.{one_name, same_itself}, Tables.{no, nothing_is, no_clash, others_differ, none_behind, one_state_a_flow}}
+use Rattle.pf_map.proofs.Tests.{first_of, second_of}
 
 -- ---- what is held, and the state of a flow
-
-pub value_is : {A : Type 0} (now : A → PlainState) (n : StateName) (a : A) (es : List PlainState) → option_map now (Some a) ≡ option_map (λ held. (n, held)) (held_at n es) → Some (now a).1 ≡ held_at n es
-value_is now n a es is = by (held_at n es) is where
-  by : (o : Option Held) → option_map now (Some a) ≡ option_map (λ held. (n, held)) o → Some (now a).1 ≡ o
-  by None e = absurd (cc (e))
-  by (Some held) e = ap (option_map (λ (s : PlainState). s.1)) e
-
-pub nothing_held : {A : Type 0} (now : A → PlainState) (n : StateName) (es : List PlainState) → option_map now None ≡ option_map (λ held. (n, held)) (held_at n es) → None ≡ held_at n es
-nothing_held now n es is = by (held_at n es) is where
-  by : (o : Option Held) → option_map now None ≡ option_map (λ held. (n, held)) o → None ≡ o
-  by None e = refl
-  by (Some held) e = absurd (cc (e))
 
 pub of_flow_is : (es : List PlainState) (f : PlainFlow) → of_flow key_order (λ held. key_of held.flow) (key_of f) es ≡ state_of f es
 of_flow_is es f = λ i. first_where (λ (s : PlainState). tied s i) es where
@@ -85,13 +74,6 @@ pub record Clearing (es : List PlainState) (creator : ℕ) (rest left : List Pla
   pub left_sorted : T (is_sorted name_order left)
   pub reads : (q : StateName) → held_at q left ≡ cond (q.creator == creator) (held_at q rest) (held_at q es)
 
-either_way : {X : Type 0} (b : Bool) (x : X) → x ≡ cond b x x
-either_way true x = refl
-either_way false x = refl
-
-pub clearing_all : (es : List PlainState) (creator : ℕ) → T (is_sorted name_order es) → Clearing es creator es es
-clearing_all es creator is = record { rest_sorted = is; left_sorted = is; reads = λ q. either_way (q.creator == creator) (held_at q es) }
-
 pub clearing_one : (es : List PlainState) (creator : ℕ) (e : PlainState) (rest left : List PlainState) → Clearing es creator (e ∷ rest) left → (e.0.creator == creator) ≡ true → Clearing es creator rest (without_state left e.0)
 clearing_one es creator e rest left is his = record {
   rest_sorted = second_of _ _ is.rest_sorted;
@@ -103,18 +85,6 @@ clearing_one es creator e rest left is his = record {
       let of_him : (q.creator == creator) ≡ true = ap (λ (n : StateName). n.creator == creator) (one_name q e.0 same) ∙ his in
       let gone : held_at q rest ≡ None = ap (λ (n : StateName). held_at n rest) (one_name q e.0 same) ∙ none_behind e.0 rest (first_of _ _ is.rest_sorted) in
       sym (ap (λ (b : Bool). cond b (held_at q rest) (held_at q es)) of_him ∙ gone)
-  by q false other = refl
-
-pub clearing_on : (es : List PlainState) (creator : ℕ) (e : PlainState) (rest left : List PlainState) → Clearing es creator (e ∷ rest) left → (e.0.creator == creator) ≡ false → Clearing es creator rest left
-clearing_on es creator e rest left is others = record {
-  rest_sorted = second_of _ _ is.rest_sorted;
-  left_sorted = is.left_sorted;
-  reads = λ q. is.reads q ∙ by q (eq_by_cmp name_order q e.0) refl;
-} where
-  by : (q : StateName) (b : Bool) → eq_by_cmp name_order q e.0 ≡ b → cond (q.creator == creator) (cond b (Some e.1) (held_at q rest)) (held_at q es) ≡ cond (q.creator == creator) (held_at q rest) (held_at q es)
-  by q true same =
-      let not_his : (q.creator == creator) ≡ false = ap (λ (n : StateName). n.creator == creator) (one_name q e.0 same) ∙ others in
-      ap (λ (b : Bool). cond b (Some e.1) (held_at q es)) not_his ∙ sym (ap (λ (b : Bool). cond b (held_at q rest) (held_at q es)) not_his)
   by q false other = refl
 
 pub cleared : (es : List PlainState) (creator : ℕ) (left : List PlainState) → T (is_sorted name_order es) → Clearing es creator [] left → left ≡ without_creator es creator

@@ -1,17 +1,13 @@
 -- Only equal names tie.
-use Rattle.std.proofs.{Common.{◌≡◌, true, not, T, refl, ap, subst}, lemmas.Cmp.tied_itself}
-use Rattle.std.specs.{Ordering.{is_eq, eq_by_cmp}, declared.{cmp.Ordering.Ordering, cmp.Ordering.TheVariants.Less, cmp.Ordering.TheVariants.Equal, cmp.Ordering.TheVariants.Greater}}
+use Rattle.std.proofs.{Common.{◌≡◌, true, ap, subst}, lemmas.Cmp.tied_itself}
+use Rattle.std.specs.{Ordering.{is_eq, eq_by_cmp}}
 use Rattle.pf_state.specs.declared.state.StateName.{StateName}
 use Rattle.pf_state.specs.{Orders.{name_total, name_alike}, States.name_order}
-
-ties : (r : Ordering) → is_eq r ≡ true → r ≡ Equal
-ties Less e = absurd (subst (λ b. T (not b)) e tt)
-ties Equal e = refl
-ties Greater e = absurd (subst (λ b. T (not b)) e tt)
+use Rattle.pf_map.proofs.Tests.{equal_of}
 
 -- the test of names says whether they are one
 pub one_name : (a b : StateName) → eq_by_cmp name_order a b ≡ true → a ≡ b
-one_name a b e = name_alike a b (ties (name_order a b) e)
+one_name a b e = name_alike a b (equal_of (name_order a b) e)
 
 pub same_itself : (a : StateName) → eq_by_cmp name_order a a ≡ true
 same_itself a = ap is_eq (tied_itself name_total a)

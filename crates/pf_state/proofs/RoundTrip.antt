@@ -3,7 +3,7 @@ use Rattle.std.proofs.{Common.{◌≡◌, ◌≢◌, ◌*◌, ◌<◌, ◌≤◌
 use Rattle.std.specs.{Prelude.nat_lt, List.flat_map}
 use Rattle.byteorder.specs.{Numbers.big_number-reads_back, Endian.big_bytes}
 use Rattle.pf_rule.specs.{Bytes.{number_at, addr_bytes-length}}
-use Rattle.pf_state.specs.{declared.{peer.message.Group.Group, peer.message.Group.TheVariants.Inserts, peer.message.Group.TheVariants.Deletes, peer.message.Group.TheVariants.Clears, peer.message.Message.Message, peer.record.TheConstants.RECORD, peer.record.Delete.Delete, peer.record.Clear.Clear}, Peer.Records.{PlainInsert, IsInsert, insert_of, delete_of, clear_of, insert_bytes, delete_bytes, clear_bytes}, Peer.Groups.{records_of, content, is_action, group_at, AreGroups}, Peer.Messages.IsMessage, Peer.Written.{Each, IsDelete, IsClear, IsGroup, group_bytes, groups_bytes, message_length, message_bytes, CanBeWritten}}
+use Rattle.pf_state.specs.{declared.{peer.message.Group.Group, peer.message.Group.TheVariants.Inserts, peer.message.Group.TheVariants.Deletes, peer.message.Group.TheVariants.Clears, peer.message.Message.Message, peer.record.TheConstants.RECORD_LENGTH, peer.record.Delete.Delete, peer.record.Clear.Clear}, Peer.Records.{PlainInsert, IsInsert, insert_of, delete_of, clear_of, insert_bytes, delete_bytes, clear_bytes}, Peer.Groups.{records_of, content, is_action, group_at, AreGroups}, Peer.Messages.IsMessage, Peer.Written.{Each, IsDelete, IsClear, IsGroup, group_bytes, groups_bytes, message_length, message_bytes, CanBeWritten}}
 use Rattle.pf_state.proofs.{Appended.{few_inserts, few_deletes, few_clears}, Inserts.insert_again}
 
 -- ---- records
@@ -11,7 +11,7 @@ use Rattle.pf_state.proofs.{Appended.{few_inserts, few_deletes, few_clears}, Ins
 -- a written record is read back as that record, and is as long as a record is
 record Again {A : Type 0} (reading : List ℕ → Option A) (writing : A → List ℕ) (x : A) : Type 0 where
   read : reading (writing x) ≡ Some x
-  long : length (writing x) ≡ RECORD
+  long : length (writing x) ≡ RECORD_LENGTH
 
 delete_again : (d : Delete) → IsDelete d → Again delete_of delete_bytes d
 unfolding number_at
@@ -33,11 +33,11 @@ records_again reading writing P again [] rest each = refl
 records_again reading writing P again (x ∷ xs) rest each =
     let one = again x each.0 in
     let split = append_assoc (writing x) (flat_map writing xs) rest in
-    rw (split, take_at (writing x) (flat_map writing xs ++ rest) RECORD one.long, drop_at (writing x) (flat_map writing xs ++ rest) RECORD one.long, one.read, records_again reading writing P again xs rest each.1) refl
+    rw (split, take_at (writing x) (flat_map writing xs ++ rest) RECORD_LENGTH one.long, drop_at (writing x) (flat_map writing xs ++ rest) RECORD_LENGTH one.long, one.read, records_again reading writing P again xs rest each.1) refl
 
 -- they take this many bytes
 records_long : {A : Type 0} (reading : List ℕ → Option A) (writing : A → List ℕ) (P : A → Type 0) → ((x : A) → P x → Again reading writing x) → (xs : List A) → Each P xs
-    → length (flat_map writing xs) ≡ RECORD * length xs
+    → length (flat_map writing xs) ≡ RECORD_LENGTH * length xs
 records_long reading writing P again [] each = refl
 records_long reading writing P again (x ∷ xs) each =
     omega (arith, (again x each.0).long, records_long reading writing P again xs each.1, length-append (writing x) (flat_map writing xs))
@@ -51,13 +51,13 @@ count_again : (a n : ℕ) (rest : List ℕ) → n < 65536 → number_at 2 2 (a �
 unfolding number_at
 count_again a n rest lt = big_number-reads_back 2 n rest lt
 
-one_again : (a n : ℕ) (records rest : List ℕ) (g : Group) → n < 65536 → is_action a ≡ true → length records ≡ RECORD * n → content a n (records ++ rest) ≡ Ok g
+one_again : (a n : ℕ) (records rest : List ℕ) (g : Group) → n < 65536 → is_action a ≡ true → length records ≡ RECORD_LENGTH * n → content a n (records ++ rest) ≡ Ok g
     → group_at (a ∷ 0 ∷ (big_bytes 2 n ++ (records ++ rest))) ≡ Ok (g, rest)
 unfolding group_at
 one_again a n records rest g lt action long says =
     let enough : nat_lt (length (a ∷ 0 ∷ (big_bytes 2 n ++ (records ++ rest)))) 4 ≡ false = not_below (length (a ∷ 0 ∷ (big_bytes 2 n ++ (records ++ rest)))) 4 (omega arith) in
-    let all : nat_lt (length (records ++ rest)) (RECORD * n) ≡ false = not_below (length (records ++ rest)) (RECORD * n) (omega (arith, long, length-append records rest)) in
-    rw (enough, action, count_again a n (records ++ rest) lt, all, says, drop_at records rest (RECORD * n) long) refl
+    let all : nat_lt (length (records ++ rest)) (RECORD_LENGTH * n) ≡ false = not_below (length (records ++ rest)) (RECORD_LENGTH * n) (omega (arith, long, length-append records rest)) in
+    rw (enough, action, count_again a n (records ++ rest) lt, all, says, drop_at records rest (RECORD_LENGTH * n) long) refl
 
 group_again : (g : Group) (rest : List ℕ) → IsGroup g → length (group_bytes g) < 65536 → group_at (group_bytes g ++ rest) ≡ Ok (g, rest)
 unfolding content

@@ -1,11 +1,14 @@
 -- Rows of states make a table, one after the other.
-use Rattle.std.proofs.{Common.{◌≡◌, ◌&&◌, ◌||◌, not, ◌≤◌, Bool, true, false, T, List, [], ◌∷◌, ◌++◌, length, map, Some, ◌⊎◌, inl, inr, None, refl, sym, ap, ◌∙◌, append_assoc, subst, true≢false, arith}, lemmas.List.{append-nil, length-map}, lemmas.Bool.and_parts, lemmas.Bool.Decides.nat_tests}
+use Rattle.std.proofs.{Common.{◌≡◌, ◌&&◌, not, ◌≤◌, Bool, true, false, T, List, [], ◌∷◌, ◌++◌, length, map, Some, ◌⊎◌, inl, inr, None, refl, sym, ap, ◌∙◌, append_assoc, subst, true≢false, arith}, lemmas.List.{append-nil, length-map}, lemmas.Bool.and_parts, lemmas.Bool.Decides.nat_tests}
 use Rattle.std.specs.{Prelude.nat_le, declared.{cmp.Ordering.Ordering, cmp.Ordering.TheVariants.Less}, FinMap.{is_sorted, put}, FinMap.Entries.below_all, List.list_any, Ordering.{eq_by_cmp, is_eq, is_lt}}
 use Rattle.pf_form.specs.Bytes.Lists.{in_order}
 use Rattle.pf_map.specs.Maps.{with_value}
 use Rattle.pf_map.specs.Indexes.{no_flow_twice as none_twice_in}
 use Rattle.pf_state.specs.{declared.{limits.TheConstants.STATE_LIMIT, layouts.state.StoredState.StoredState}, FlowKeys.{key_of, key_order}, Flows.same_flow, Orders.name_total, States.{PlainState, name_order, NamesFlows, IsStates}, Steps.is_clash, Peer.Written.Each, Layouts.{Rows.{plain_row, IsTableOf}, States.{plain_state, state_in, plain_states, state_before, no_flow_twice}}}
-use Rattle.pf_state.proofs.{FlowKeys.same_flow_is, LayoutsBack.state_back, TakenOver.{Before, Apart, all_kept, put_last, less_of, all_held, apart_of}, Tables.{first_of, second_of, front_within, rest_within, names_put}}
+use Rattle.pf_state.proofs.{FlowKeys.same_flow_is, LayoutsBack.state_back, TakenOver.{Before, Apart, all_kept, put_last, all_held, apart_of}, Tables.{front_within, rest_within, names_put}}
+use Rattle.pf_map.proofs.Tests.{first_of, second_of, less_of}
+use Rattle.pf_state.proofs.Flows.{either_true}
+use Rattle.std.proofs.lemmas.Bool.{and_right, or_right}
 
 holds : (a : Bool) → T a → a ≡ true
 holds true h = refl
@@ -13,10 +16,6 @@ holds false h = absurd h
 
 is : (a : Bool) → a ≡ true → T a
 is a e = subst T (sym e) tt
-
-none_true : (a b : Bool) → b ≡ false → (a && b) ≡ false
-none_true true b e = e
-none_true false b e = refl
 
 -- ---- in order
 
@@ -58,26 +57,18 @@ none_twice (e ∷ es) apart = rw (others e es apart.0) (none_twice es apart.1)
 pub once_each : (es : List PlainState) → NamesFlows es → no_flow_twice es ≡ true
 once_each es names = none_twice es (apart_of es names es names.sorted (all_held es names.sorted))
 
-or_true : (a b : Bool) → b ≡ true → (a || b) ≡ true
-or_true true b e = refl
-or_true false b e = e
-
 found : (e s : PlainState) (ps fs : List PlainState) → same_flow e.1.flow s.1.flow ≡ true → list_any (λ t. same_flow e.1.flow t.1.flow) (ps ++ s ∷ fs) ≡ true
 found e s [] fs same = rw same refl
-found e s (p ∷ ps) fs same = or_true (same_flow e.1.flow p.1.flow) _ (found e s ps fs same)
-
-either_of : (a b : Bool) → (a || b) ≡ true → (a ≡ true) ⊎ (b ≡ true)
-either_of true b e = inl refl
-either_of false b e = inr e
+found e s (p ∷ ps) fs same = or_right (same_flow e.1.flow p.1.flow) _ (found e s ps fs same)
 
 -- a state whose flow occurs before it
 twice : (ps : List PlainState) (s : PlainState) (fs : List PlainState) → is_clash ps s ≡ true → no_flow_twice (ps ++ s ∷ fs) ≡ false
 twice [] s fs clash = absurd (true≢false (sym clash))
-twice (p ∷ ps) s fs clash = by (either_of (not (is_eq (name_order p.0 s.0)) && same_flow p.1.flow s.1.flow) (is_clash ps s) clash) (λ later. twice ps s fs later) where
+twice (p ∷ ps) s fs clash = by (either_true (not (is_eq (name_order p.0 s.0)) && same_flow p.1.flow s.1.flow) (is_clash ps s) clash) (λ later. twice ps s fs later) where
   by : ((not (is_eq (name_order p.0 s.0)) && same_flow p.1.flow s.1.flow) ≡ true) ⊎ (is_clash ps s ≡ true) → (is_clash ps s ≡ true → no_flow_twice (ps ++ s ∷ fs) ≡ false)
       → no_flow_twice ((p ∷ ps) ++ s ∷ fs) ≡ false
   by (inl here) rest = rw (found p s ps fs (and_parts (not (is_eq (name_order p.0 s.0))) (same_flow p.1.flow s.1.flow) here).1) refl
-  by (inr later) rest = none_true (not (list_any (λ t. same_flow p.1.flow t.1.flow) (ps ++ s ∷ fs))) _ (rest later)
+  by (inr later) rest = and_right (not (list_any (λ t. same_flow p.1.flow t.1.flow) (ps ++ s ∷ fs))) _ (rest later)
 
 low_at : (e s : PlainState) (ps fs : List PlainState) → T (below_all name_order e.0 (ps ++ s ∷ fs)) → T (is_lt (name_order e.0 s.0))
 low_at e s [] fs low = first_of _ _ low
@@ -150,7 +141,7 @@ rows_sorted rows turn = sorted_of (map of_row rows) (ap (in_order state_before) 
 pub no_table : (rows : List StoredState) → none_twice_in key_order (λ held. key_of held.flow) (map of_row rows) ≡ false → IsTableOf rows None
 no_table rows twice =
     let once : no_flow_twice (map state_in (map plain_row rows)) ≡ false = ap no_flow_twice (rows_back rows) ∙ sym (once_is (map of_row rows)) ∙ twice in
-    none_true (nat_le (length (map plain_row rows)) STATE_LIMIT) _ (none_true (in_order state_before (map plain_row rows)) _ once)
+    and_right (nat_le (length (map plain_row rows)) STATE_LIMIT) _ (and_right (in_order state_before (map plain_row rows)) _ once)
 
 pub are_states : (rows : List StoredState) (es : List PlainState) → in_order state_before (map plain_row rows) ≡ true → length rows ≤ STATE_LIMIT → es ≡ map of_row rows
     → none_twice_in key_order (λ held. key_of held.flow) (map of_row rows) ≡ true → IsStates es

@@ -1,7 +1,7 @@
 -- All bytes have a reading.
 use Rattle.std.proofs.{Common.{◌≡◌, ◌≢◌, ◌⊎◌, ◌+◌, ◌-◌, ◌*◌, ◌<◌, ◌≤◌, ◌==◌, ◌&&◌, ℕ, zero, suc, Bool, true, false, List, [], ◌∷◌, ◌++◌, length, take, drop, if◌then◌else◌, Result, Ok, Err, inl, inr, refl, sym, ap, subst, length-drop, arith}, lemmas.Bool.{cases_eq, cases_lt}, lemmas.Bool.Decides.nat_tests, lemmas.List.{take-append-drop, length-take-le}}
 use Rattle.std.specs.Prelude.{nat_lt}
-use Rattle.pf_state.specs.{declared.{peer.fault.PeerFault.PeerFault, peer.fault.PeerFault.TheVariants.BadVersion, peer.fault.PeerFault.TheVariants.BadLength, peer.fault.PeerFault.TheVariants.BadAction, peer.fault.OneFault.OneFault, peer.message.Group.Group, peer.message.Message.Message, peer.fields.TheConstants.VERSION, peer.fields.TheConstants.MESSAGE_HEADER, peer.stream.MessageStart.MessageStart, peer.stream.MessageStart.TheVariants.Partial, peer.stream.MessageStart.TheVariants.Whole, peer.stream.MessageStart.TheVariants.Bad}, Peer.Groups.{group_at, content, is_action, size_at, ◌>>=◌, AreGroups, BreakBehind}, Peer.Messages.{IsWhole, IsJudged}, Peer.Streams.{Ending, Unfinished, Faulty, Reads, IsFront}, Peer.One.{IsOne, one_of}}
+use Rattle.pf_state.specs.{declared.{peer.fault.PeerFault.PeerFault, peer.fault.PeerFault.TheVariants.BadVersion, peer.fault.PeerFault.TheVariants.BadLength, peer.fault.PeerFault.TheVariants.BadAction, peer.fault.OneFault.OneFault, peer.message.Group.Group, peer.message.Message.Message, peer.fields.TheConstants.MESSAGE_VERSION, peer.fields.TheConstants.MESSAGE_HEADER, peer.stream.MessageStart.MessageStart, peer.stream.MessageStart.TheVariants.Partial, peer.stream.MessageStart.TheVariants.Whole, peer.stream.MessageStart.TheVariants.Bad}, Peer.Groups.{group_at, content, is_action, size_at, ◌>>=◌, AreGroups, BreakBehind}, Peer.Messages.{IsWhole, IsJudged}, Peer.Streams.{Ending, Unfinished, Faulty, Reads, IsFront}, Peer.One.{IsOne, one_of}}
 use Rattle.pf_rule.specs.Bytes.{number_at, byte_at}
 
 -- ---- groups
@@ -70,16 +70,16 @@ SomeFront bytes = (front : MessageStart) × IsFront bytes front
 
 -- a version and a zero, or not
 abbrev IsVersion : ℕ → ℕ → Type 0
-IsVersion v z = ((v ≡ VERSION) × (z ≡ 0)) ⊎ ((v ≢ VERSION) ⊎ ((v ≡ VERSION) × (z ≢ 0)))
+IsVersion v z = ((v ≡ MESSAGE_VERSION) × (z ≡ 0)) ⊎ ((v ≢ MESSAGE_VERSION) ⊎ ((v ≡ MESSAGE_VERSION) × (z ≢ 0)))
 
 version_or_not : (v z : ℕ) → IsVersion v z
-version_or_not v z = by (cases_eq v VERSION) (cases_eq z 0) where
-  by : (v ≡ VERSION) ⊎ (v ≢ VERSION) → (z ≡ 0) ⊎ (z ≢ 0) → IsVersion v z
+version_or_not v z = by (cases_eq v MESSAGE_VERSION) (cases_eq z 0) where
+  by : (v ≡ MESSAGE_VERSION) ⊎ (v ≢ MESSAGE_VERSION) → (z ≡ 0) ⊎ (z ≢ 0) → IsVersion v z
   by (inr other) t = inr (inl other)
   by (inl is) (inl none) = inl (is, none)
   by (inl is) (inr some) = inr (inr (is, some))
 
-whole_front : (v z a b : ℕ) (bytes : List ℕ) → (v ≡ VERSION) × (z ≡ 0) → MESSAGE_HEADER ≤ a * 256 + b → a * 256 + b ≤ length bytes + 4
+whole_front : (v z a b : ℕ) (bytes : List ℕ) → (v ≡ MESSAGE_VERSION) × (z ≡ 0) → MESSAGE_HEADER ≤ a * 256 + b → a * 256 + b ≤ length bytes + 4
     → IsWhole (take (a * 256 + b) (v ∷ z ∷ a ∷ b ∷ bytes))
 unfolding number_at
 whole_front v z a b bytes is enough all = by (a * 256 + b - 4) (omega (arith, enough)) where
@@ -91,8 +91,8 @@ whole_front v z a b bytes is enough all = by (a * 256 + b - 4) (omega (arith, en
 
 some_front : (bytes : List ℕ) → SomeFront bytes
 some_front [] = (Partial, tt)
-some_front (v ∷ []) = by (cases_eq v VERSION) where
-  by : (v ≡ VERSION) ⊎ (v ≢ VERSION) → SomeFront (v ∷ [])
+some_front (v ∷ []) = by (cases_eq v MESSAGE_VERSION) where
+  by : (v ≡ MESSAGE_VERSION) ⊎ (v ≢ MESSAGE_VERSION) → SomeFront (v ∷ [])
   by (inl is) = (Partial, is)
   by (inr other) = (Bad BadVersion, inl (refl, other))
 some_front (v ∷ z ∷ []) = by (version_or_not v z) where

@@ -5,14 +5,7 @@ use Rattle.pf_map.specs.Maps.{with_value}
 use Rattle.pf_map.proofs.Maps.{stays_sorted}
 use Rattle.pf_state.specs.{Orders.name_total, declared.{limits.TheConstants.STATE_LIMIT, state.Held.Held, state.StateName.StateName, step.Insertion.TheVariants.Stale, step.Insertion.TheVariants.Clash, step.Insertion.TheVariants.Replaced, step.Insertion.TheVariants.New, step.StateStep.StateStep, step.StateStep.TheVariants.Insert, step.StateStep.TheVariants.Delete, step.StateStep.TheVariants.Clear}, Flows.{PlainFlow, same_flow}, States.{PlainState, name_order, held_at, state_of, NamesFlows}, Steps.{is_stale, is_clash, insertion, has_effect, without_creator, without_state, stepped, after, is_over, passes_limit}, Laws.States.{IsStateOf, OneStateAFlow, StaysStates, RefusedByAnyStep}}
 use Rattle.pf_state.proofs.{Names.{one_name, same_itself}, Flows.{same_back, same_third}, Leaves.{reads_put, reads_delete, reads_clear}}
-
-pub first_of : (a b : Bool) → T (a && b) → T a
-first_of true b p = tt
-first_of false b p = p
-
-pub second_of : (a b : Bool) → T (a && b) → T b
-second_of true b p = p
-second_of false b p = absurd p
+use Rattle.pf_map.proofs.Tests.{first_of, second_of}
 
 pub no : {X : Type 0} → true ≡ false → X
 no e = absurd (true≢false e)

@@ -1,9 +1,10 @@
 -- Inserting a table's states in order, starting without states, makes that table.
 use Rattle.std.proofs.{Common.{◌≡◌, ◌&&◌, ◌||◌, not, ℕ, Bool, true, false, T, cond, List, [], ◌∷◌, ◌++◌, ◌≤◌, length, map, Some, None, refl, sym, subst, ap, ◌∙◌, append_assoc, length-append, true≢false, arith}, lemmas.List.{append-nil, length-map}}
-use Rattle.std.specs.{declared.{cmp.Ordering.Ordering, cmp.Ordering.TheVariants.Less, cmp.Ordering.TheVariants.Equal, cmp.Ordering.TheVariants.Greater}, FinMap.{is_sorted, put}, FinMap.Entries.below_all, Ordering.{is_eq, is_lt, ordering_reverse}}
+use Rattle.std.specs.{declared.{cmp.Ordering.Ordering, cmp.Ordering.TheVariants.Less, cmp.Ordering.TheVariants.Greater}, FinMap.{is_sorted, put}, FinMap.Entries.below_all, Ordering.{is_eq, is_lt, ordering_reverse}}
 use Rattle.pf_map.specs.Maps.{without, with_value}
 use Rattle.pf_state.specs.{Orders.name_total, Peer.Written.Each, declared.{limits.TheConstants.STATE_LIMIT, step.Insertion.Insertion, step.Insertion.TheVariants.New, step.StateStep.TheVariants.Insert}, Flows.same_flow, States.{PlainState, name_order, held_at, NamesFlows}, Steps.{is_clash, insertion, has_effect, stepped, after, is_over, passes_limit}, Laws.Failover.{state_there, TakesOver}}
 use Rattle.pf_state.proofs.{Names.{same_itself, same_name}, Tables.within_not_over, ExportsTaken.tells_the_states}
+use Rattle.pf_map.proofs.Tests.{less_of, first_of, second_of}
 
 -- p comes before s, and has another flow
 pub record Before (s p : PlainState) : Type 0 where
@@ -72,31 +73,18 @@ fits f ps (s ∷ es) apart few =
 
 -- ---- a table's states are pairwise apart
 
-front : (a b : Bool) → T (a && b) → T a
-front true b h = tt
-front false b h = h
-
-rest : (a b : Bool) → T (a && b) → T b
-rest true b h = h
-rest false b h = absurd h
-
-pub less_of : (r : Ordering) → T (is_lt r) → r ≡ Less
-less_of Less h = refl
-less_of Equal h = absurd h
-less_of Greater h = absurd h
-
 held_later : (e : PlainState) (es fs : List PlainState) → T (below_all name_order e.0 fs) → Each (λ s. held_at s.0 es ≡ Some s.1) fs → Each (λ s. held_at s.0 (e ∷ es) ≡ Some s.1) fs
 held_later e es [] low each = tt
 held_later e es (f ∷ fs) low each = (
-  ap (λ (r : Ordering). cond (is_eq r) (Some e.1) (held_at f.0 es)) (behind f e (less_of _ (front _ _ low))) ∙ each.0,
-  held_later e es fs (rest (is_lt (name_order e.0 f.0)) _ low) each.1,
+  ap (λ (r : Ordering). cond (is_eq r) (Some e.1) (held_at f.0 es)) (behind f e (less_of _ (first_of _ _ low))) ∙ each.0,
+  held_later e es fs (second_of (is_lt (name_order e.0 f.0)) _ low) each.1,
 )
 
 pub all_held : (es : List PlainState) → T (is_sorted name_order es) → Each (λ s. held_at s.0 es ≡ Some s.1) es
 all_held [] sorted = tt
 all_held (e ∷ es) sorted = (
   ap (λ (b : Bool). cond b (Some e.1) (held_at e.0 es)) (same_itself e.0),
-  held_later e es es (front _ _ sorted) (all_held es (rest (below_all name_order e.0 es) _ sorted)),
+  held_later e es es (first_of _ _ sorted) (all_held es (second_of (below_all name_order e.0 es) _ sorted)),
 )
 
 other_flow : (all : List PlainState) → NamesFlows all → (e s : PlainState) → name_order e.0 s.0 ≡ Less → held_at e.0 all ≡ Some e.1 → held_at s.0 all ≡ Some s.1 → same_flow e.1.flow s.1.flow ≡ false
@@ -108,12 +96,12 @@ other_flow all is e s less e_held s_held = by (same_flow e.1.flow s.1.flow) refl
 before_all : (all : List PlainState) → NamesFlows all → (e : PlainState) (es : List PlainState) → T (below_all name_order e.0 es) → held_at e.0 all ≡ Some e.1 → Each (λ s. held_at s.0 all ≡ Some s.1) es → Each (λ s. Before s e) es
 before_all all is e [] low e_held each = tt
 before_all all is e (s ∷ es) low e_held each =
-    let less : name_order e.0 s.0 ≡ Less = less_of _ (front _ _ low) in
-    (record { less = less; other = other_flow all is e s less e_held each.0 }, before_all all is e es (rest (is_lt (name_order e.0 s.0)) _ low) e_held each.1)
+    let less : name_order e.0 s.0 ≡ Less = less_of _ (first_of _ _ low) in
+    (record { less = less; other = other_flow all is e s less e_held each.0 }, before_all all is e es (second_of (is_lt (name_order e.0 s.0)) _ low) e_held each.1)
 
 pub apart_of : (all : List PlainState) → NamesFlows all → (es : List PlainState) → T (is_sorted name_order es) → Each (λ s. held_at s.0 all ≡ Some s.1) es → Apart es
 apart_of all is [] sorted each = tt
-apart_of all is (e ∷ es) sorted each = (before_all all is e es (front _ _ sorted) each.0 each.1, apart_of all is es (rest (below_all name_order e.0 es) _ sorted) each.1)
+apart_of all is (e ∷ es) sorted each = (before_all all is e es (first_of _ _ sorted) each.0 each.1, apart_of all is es (second_of (below_all name_order e.0 es) _ sorted) each.1)
 
 -- ---- and so they do at a peer
 

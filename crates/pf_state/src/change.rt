@@ -6,7 +6,7 @@ ghost use Rattle.pf_state.specs.declared.step.StateStep.TheVariants as step_kind
 use crate::counts::Counts;
 use crate::index::States;
 use crate::limits::STATE_LIMIT;
-use crate::state::{Held, State, StateName, tell_whole};
+use crate::state::{Held, State, StateName, sum_is_whole};
 use crate::step::{Insertion, StateStep};
 use std::alloc::{AllocError, Global};
 
@@ -57,7 +57,7 @@ fn insert(alloc: Global, states: States, new: &State) -> Result<(States, Inserti
     ensures after { IfOk result (λ r. r.0 ≡ stepped states (step_kind.Insert new.now)) }
     ensures whole { IfOk result (λ r. are_whole r.0 ≡ true) }
 {
-    tell_whole(new);
+    sum_is_whole(new);
     let judged = judge(&states, new);
     let left = match judged {
         Insertion::Stale | Insertion::Clash => states,

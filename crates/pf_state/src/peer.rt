@@ -3,7 +3,7 @@
 //!
 //! A message has a header of [`MESSAGE_HEADER`] bytes: the version, a zero byte, the length of the whole message in two bytes, and the
 //! checksum of the rules that its states were made by. Groups follow, each an action, a zero byte and a count in two bytes, and that many
-//! records of [`RECORD`] bytes; `specs/Peer/Records.antt` has the layout of an insert. In the bytes all numbers have their highest byte
+//! records of [`RECORD_LENGTH`] bytes; `specs/Peer/Records.antt` has the layout of an insert. In the bytes all numbers have their highest byte
 //! first; in the types here they are plain numbers. The form is our own, after that of pfsync(4)'s states. Nothing in a message is
 //! authenticated.
 
@@ -29,5 +29,5 @@ pub use laws::{
 pub use message::{Group, MESSAGE_LIMIT, Message, Records};
 pub use one::read_one;
 pub use reader::{Fed, PeerReader};
-pub use record::{Clear, Delete, Insert, InsertFields, RECORD};
+pub use record::{Clear, Delete, Insert, InsertFields, RECORD_LENGTH};
 pub use writing::write_peer;

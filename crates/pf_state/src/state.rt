@@ -69,15 +69,15 @@ impl StateName {
 }
 
 // What the type of a checksum says: it has 16 bytes.
-fn tell_sum(_sum: &[u8; 16])
+fn sum_has_16_bytes(_sum: &[u8; 16])
     ensures { (length _sum.now == 16) ≡ true }
 {}
 
 /// What each state keeps: a checksum in its binding is whole.
-pub(crate) fn tell_whole(state: &State)
+pub(crate) fn sum_is_whole(state: &State)
     ensures { is_whole state.now.1.bound ≡ true }
 {
     if let Bound::Rule { sum, .. } = &state.value().bound {
-        tell_sum(sum);
+        sum_has_16_bytes(sum);
     }
 }

@@ -75,7 +75,7 @@ impl StateTable {
     }
 
     /// What each table keeps: no more states than the limit, and only whole checksums in their bindings.
-    pub(crate) fn tell_whole(&self)
+    pub(crate) fn sums_are_whole(&self)
         ensures few { length self.now ≤ STATE_LIMIT }
         ensures whole { are_whole self.now ≡ true }
     {

@@ -1,5 +1,5 @@
 -- A group fits exactly if its record finds room, and what can be wanted has bytes then.
-use Rattle.std.proofs.{Common.{◌≡◌, ℕ, ◌+◌, ◌^◌, ◌<◌, ◌≤◌, Bool, true, false, List, [], ◌∷◌, length, refl, ◌∙◌, arith}, lemmas.{List.length-map, Bool.Decides.nat_tests}}
+use Rattle.std.proofs.{Common.{◌≡◌, ℕ, ◌+◌, ◌^◌, ◌<◌, ◌≤◌, Bool, true, List, [], ◌∷◌, length, refl, ◌∙◌, arith}, lemmas.{List.length-map, Bool.Decides.nat_tests}}
 use Rattle.std.specs.{Prelude.{◌↔◌, ◌&&◌, nat_le, nat_lt}, List.list_all}
 use Rattle.pf_core.specs.Durable.Changes.{PlainDurable, PlainChange, commits, adds, deletes, sets, acts, removes, expires}
 use Rattle.pf_state.specs.{declared.step.StateStep.{StateStep, TheVariants.Insert, TheVariants.Delete, TheVariants.Clear}, Layouts.{States.{held_form, name_form, state_form}, Steps.step_form}}
@@ -8,14 +8,7 @@ use Rattle.pf_store.specs.{Groups.{can_be_wanted, change_form, has_form, is_grou
 use Rattle.pf_store.proofs.Sized.{edit_long, steps_long}
 use Rattle.pf_snap.specs.declared.header.TheConstants.{BANK_HEADER}
 use Rattle.pf_store.specs.declared.groups.recorded.Recorded.TheVariants as recorded
-
-and-parts : (a b : Bool) → (a && b) ≡ true → (a ≡ true) × (b ≡ true)
-and-parts true b is = (refl, is)
-and-parts false b is = absurd (cc (is))
-
-and-both : (a b : Bool) → a ≡ true → b ≡ true → (a && b) ≡ true
-and-both true b one other = other
-and-both false b one other = absurd (cc (one))
+use Rattle.std.proofs.lemmas.Bool.{and_parts, and_from}
 
 below : (a b : ℕ) → nat_le a b ≡ true → a ≤ b
 below a b is = grind (arith, nat_tests, is)
@@ -32,7 +25,7 @@ behind size before es = nat_le (BANK_HEADER + snapshot_length before + (payload_
 
 finds : (size : ℕ) (before next : PlainDurable) (es : List PlainChange) → (then size next && behind size before es) ≡ true → HasRoom size before next (payload_length (made_all es))
 finds size before next es is =
-    let both = and-parts (then size next) (behind size before es) is in
+    let both = and_parts (then size next) (behind size before es) is in
     record {
       then = below (BANK_HEADER + snapshot_length next + 64) size both.0;
       behind = below (BANK_HEADER + snapshot_length before + (payload_length (made_all es) + 6)) size both.1;
@@ -40,7 +33,7 @@ finds size before next es is =
 
 fits : (size : ℕ) (before next : PlainDurable) (es : List PlainChange) → HasRoom size before next (payload_length (made_all es)) → (then size next && behind size before es) ≡ true
 fits size before next es room =
-    and-both (then size next) (behind size before es) (is-below (BANK_HEADER + snapshot_length next + 64) size room.then)
+    and_from (then size next) (behind size before es) (is-below (BANK_HEADER + snapshot_length next + 64) size room.then)
     (is-below (BANK_HEADER + snapshot_length before + (payload_length (made_all es) + 6)) size room.behind)
 
 pub group-fits : (size : ℕ) (before next : PlainDurable) (es : List PlainChange) → (group_fits size before next es ≡ true) ↔ HasRoom size before next (payload_length (made_all es))
@@ -75,13 +68,13 @@ has_bytes (expires tick) can low = refl
 all_have_bytes : (es : List PlainChange) → list_all can_be_wanted es ≡ true → total recorded_length (made_all es) < 2 ^ 32 → list_all has_form (made_all es) ≡ true
 all_have_bytes [] can low = refl
 all_have_bytes (e ∷ es) can low =
-    let both = and-parts (can_be_wanted e) (list_all can_be_wanted es) can in
-    and-both (has_form (recorded.Made e)) (list_all has_form (made_all es)) (has_bytes e both.0 (omega (arith, low))) (all_have_bytes es both.1 (omega (arith, low)))
+    let both = and_parts (can_be_wanted e) (list_all can_be_wanted es) can in
+    and_from (has_form (recorded.Made e)) (list_all has_form (made_all es)) (has_bytes e both.0 (omega (arith, low))) (all_have_bytes es both.1 (omega (arith, low)))
 
 pub finds_room : (size : ℕ) (before next : PlainDurable) (es : List PlainChange) → size < 2 ^ 32 → is_group es ≡ true → list_all can_be_wanted es ≡ true
     → HasRoom size before next (payload_length (made_all es)) → FindsRoom size before next es
 finds_room size before next es small group can room = record {
-  formed = and-both (is_group (made_all es)) (list_all has_form (made_all es)) (many es ∙ group) (all_have_bytes es can (omega (arith, room.behind, small)));
+  formed = and_from (is_group (made_all es)) (list_all has_form (made_all es)) (many es ∙ group) (all_have_bytes es can (omega (arith, room.behind, small)));
   room = room;
 }
   where

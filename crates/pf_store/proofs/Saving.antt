@@ -14,9 +14,6 @@ use Rattle.pf_store.proofs.{Leading.{leads-push}, Refusing.{one_at, one_gate, on
 not_greater : (a b : ℕ) → (a ≤ b → ⊥) → b < a
 not_greater a b none = omega (arith, none)
 
-pub not_less : (a b : ℕ) → (a < b → ⊥) → b ≤ a
-not_less a b none = omega (arith, none)
-
 -- from one fact about a result to another
 pub on_ok : {T E : Type 0} (r : Result T E) (P Q : T → Type 0) → ((x : T) → P x → Q x) → IfOk r P → IfOk r Q
 on_ok (Ok x) P Q f p = f x p
@@ -35,10 +32,6 @@ on_three (Err e) P Q R S f p q s = tt
 pub on_three_err : {T E : Type 0} (r : Result T E) (P Q R S : E → Type 0) → ((e : E) → P e → Q e → R e → S e) → IfErr r P → IfErr r Q → IfErr r R → IfErr r S
 on_three_err (Ok x) P Q R S f p q s = tt
 on_three_err (Err e) P Q R S f p q s = f e p q s
-
-pub on_err : {T E : Type 0} (r : Result T E) (P Q : E → Type 0) → ((e : E) → P e → Q e) → IfErr r P → IfErr r Q
-on_err (Ok x) P Q f p = tt
-on_err (Err e) P Q f p = f e p
 
 -- ---- what contents make
 

@@ -6,24 +6,25 @@
 //! - `change`: its bytes.
 //! - `items`: what a commit replaces, rules or tables.
 //! - `tables`: tables that were defined, and entries.
-//! - `telling`: that data determine what is recorded.
+//! - `facts`: that data determine what is recorded.
 //! - `fault`: why a write or a read fails.
 //! - `laws`: a payload is that of at most one group, and how many bytes it has.
 //!
-//! `group` uses `as_change`, `change`, `fault`, `recorded` and `telling`; `change` uses `items`, `recorded`, `tables` and `telling`; `items`
-//! uses `tables`; `telling` uses `recorded`.
+//! `group` uses `as_change`, `change`, `fault`, `recorded` and `facts`; `change` uses `items`, `recorded`, `tables` and `facts`; `items`
+//! uses `tables`; `facts` uses `recorded`.
 
 mod as_change;
 mod change;
+mod facts;
 mod fault;
 mod group;
 mod items;
 mod laws;
 mod recorded;
 mod tables;
-mod telling;
 
 pub use as_change::AsChange;
+pub(crate) use facts::rules_are_their_data;
 pub use fault::GroupFault;
 pub(crate) use group::{changes_are_allowed_in, have_form, record_group, record_opening};
 pub use group::{read_group, write_group};
@@ -31,4 +32,3 @@ pub(crate) use items::{push_rules, read_rules};
 pub use laws::payloads_tell_one_group;
 pub use recorded::Recorded;
 pub(crate) use tables::{push_table, read_table};
-pub(crate) use telling::tell_rules;

@@ -2,16 +2,16 @@
 //!
 //! - `durable`: [`write_durable`] and [`read_durable`].
 //! - `rulesets`, `tables`: the two maps, each of them a list in order.
-//! - `telling`: that data determine what is kept.
+//! - `facts`: that data determine what is kept.
 //! - `laws`: bytes are those of at most one thing kept, how many there are, and those of two examples.
 //!
-//! `durable` uses `rulesets`, `tables` and `telling`. All use module `groups`, for the fault and for how rules and a table stand in bytes.
+//! `durable` uses `rulesets`, `tables` and `facts`. All use module `groups`, for the fault and for how rules and a table stand in bytes.
 
 mod durable;
+mod facts;
 mod laws;
 mod rulesets;
 mod tables;
-mod telling;
 
 pub(crate) use durable::push_snapshot;
 pub use durable::{read_durable, write_durable};

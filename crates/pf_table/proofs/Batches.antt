@@ -1,16 +1,13 @@
 -- How entries are gathered, added and deleted in turn, and what is answered for each.
 use Rattle.std.proofs.{Common.{◌≡◌, ℕ, zero, suc, ◌+◌, ◌<◌, ◌≤◌, Bool, true, false, not, cond, ◌&&◌, ◌||◌, List, [], ◌∷◌, ◌++◌, length, get_or, take, drop, append-nil, append_assoc, drop-cons, Option, Some, None, is_some, is_none, refl, sym, ap, ◌∙◌, subst, true≢false, arith}, Math.Seq.take-suc, lemmas.List.take-append-drop, lemmas.List.Folds.list_any-append, lemmas.List.Sums.fold-append, lemmas.List.Elements.{All-nil, All-push}}
-use Rattle.std.specs.{Bool.beq, FinMap.put, FinMap.Entries.find_tied, Ordering.is_eq, declared.{cmp.Ordering.Ordering, cmp.Ordering.TheVariants.{Less, Equal, Greater}}, List.{list_any, All, fold}, Option.option_or}
+use Rattle.std.specs.{Bool.beq, FinMap.put, FinMap.Entries.find_tied, Ordering.is_eq, List.{list_any, All, fold}, Option.option_or}
 use Rattle.pf_addr.specs.Address.{IsNetwork, PlainNet}
 use Rattle.pf_table.specs.{declared.answer.{Addition.{Addition, TheVariants.{Added, Same, Conflict}}, Deletion.Deletion}, Entries.PlainEntry, Laws.Edits.{Agree, any_is_sign, agree_push, sign_added, sign_left, sign_deleted}, Tables.sign_of, Edits.{with_entry, added, addition, additions, is_sign, has_entry, without_entry, deleted, deletion, deletions, same_entry, is_opposite, conflict_behind, conflict_in}, Noted.{first_sign, noted_with}}
 use Rattle.pf_addr.specs.{NetOrder.net_order, Laws.NetOrder.net_total}
 use Rattle.pf_map.specs.Maps.{with_value, without}
+use Rattle.pf_map.proofs.Tests.{equal_of}
 
 -- ---- lists
-
-or_right : (a b : Bool) → (a || b) ≡ false → b ≡ false
-or_right true b e = absurd (true≢false e)
-or_right false b e = e
 
 or_left : (a b : Bool) → (a || b) ≡ false → a ≡ false
 or_left true b e = absurd (true≢false e)
@@ -165,16 +162,11 @@ sign_push (e ∷ xs) x q = by (is_eq (net_order q e.0)) refl (sign_push xs x q) 
   by true tied rest = rw tied refl
   by false other rest = rw other rest
 
-tied_of : (r : Ordering) → is_eq r ≡ true → r ≡ Equal
-tied_of Less e = absurd (true≢false (sym e))
-tied_of Equal e = refl
-tied_of Greater e = absurd (true≢false (sym e))
-
 -- a network that has a sign among entries has none in x alone, if the network of x has none there
 not_same : (es : List PlainEntry) (x : PlainEntry) (q : PlainNet) → sign_of x.0 es ≡ None → is_some (sign_of q es) ≡ true → sign_of q (x ∷ []) ≡ None
 not_same es x q none some = by (is_eq (net_order q x.0)) refl where
   by : (t : Bool) → is_eq (net_order q x.0) ≡ t → sign_of q (x ∷ []) ≡ None
-  by true tied = absurd (true≢false (sym some ∙ ap is_some (sym (find_tied net_order net_total q x.0 (tied_of _ tied) es) ∙ none)))
+  by true tied = absurd (true≢false (sym some ∙ ap is_some (sym (find_tied net_order net_total q x.0 (equal_of _ tied) es) ∙ none)))
   by false other = rw other refl
 
 or_none : (o : Option Bool) → o ≡ option_or o None
@@ -190,7 +182,7 @@ named_stays before x q s is = by (is_eq (net_order q x.0)) refl where
   stays None p is = absurd (true≢false (sym (ap is_some is)))
 
   by : (t : Bool) → is_eq (net_order q x.0) ≡ t → sign_of q before ≡ option_or (sign_of q before) (sign_of q (x ∷ []))
-  by true tied = stays (sign_of q before) _ (sym (find_tied net_order net_total q x.0 (tied_of _ tied) before) ∙ is)
+  by true tied = stays (sign_of q before) _ (sym (find_tied net_order net_total q x.0 (equal_of _ tied) before) ∙ is)
   by false other = rw other (or_none (sign_of q before))
 
 pub adds_next : (answers : List Addition) (es now xs : List PlainEntry) (i : ℕ) (x : PlainEntry) → now ≡ added es (take i xs) → i < length xs →

@@ -1,19 +1,12 @@
 -- What an edit leaves is a table, or it is refused.
-use Rattle.std.proofs.{Common.{◌≡◌, ℕ, ◌<◌, ◌≤◌, nat_lt, true, false, List, [], length, Some, None, All, refl, arith}, lemmas.Bool.Decides.nat_tests, lemmas.List.Elements.{All-nil, All-from_recursion, recursion_from_All}}
+use Rattle.std.proofs.{Common.{◌≡◌, ℕ, ◌≤◌, nat_lt, false, List, [], length, None, All, refl, arith}, lemmas.Bool.Decides.nat_tests, lemmas.List.Elements.{All-nil, All-from_recursion, recursion_from_All}}
 use Rattle.pf_addr.specs.Address.{IsNetwork}
 use Rattle.pf_table.specs.declared.limits.TheConstants.{TABLE_LIMIT}
 use Rattle.pf_table.specs.declared.refusal.TableRefusal.TheVariants as refusal
 use Rattle.pf_table.specs.{Entries.PlainEntry, Tables.IsTable, Searches.NoneShorter, Edits.{added, deleted, replaced, conflict_in, edit_refusal}, Laws.Edits.{sorted_added, sorted_deleted, added_all, deleted_all, deleted_fewer}}
 
-more_than : (n limit : ℕ) → limit < n → nat_lt limit n ≡ true
-more_than n limit lt = grind (arith, nat_tests)
-
 no_more_than : (n limit : ℕ) → n ≤ limit → nat_lt limit n ≡ false
 no_more_than n limit le = grind (arith, nat_tests)
-
-pub refused_full : (xs after : List PlainEntry) → conflict_in xs ≡ None → TABLE_LIMIT < length after →
-    edit_refusal xs after ≡ Some refusal.TableFull
-refused_full xs after none lt = rw (none, more_than (length after) TABLE_LIMIT lt) refl
 
 pub not_refused : (xs after : List PlainEntry) → conflict_in xs ≡ None → length after ≤ TABLE_LIMIT → edit_refusal xs after ≡ None
 not_refused xs after none le = rw (none, no_more_than (length after) TABLE_LIMIT le) refl

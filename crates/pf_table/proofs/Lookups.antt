@@ -1,19 +1,19 @@
 -- Of the entries that contain an address the one with the longest prefix decides.
-use Rattle.std.proofs.{Common.{append_assoc, append-nil, ◌≡◌, ◌≢◌, ℕ, zero, suc, ◌-◌, ◌*◌, ◌/◌, ◌^◌, ◌<◌, ◌≤◌, ◌==◌, bit_xor, nat_lt, Bool, true, false, not, cond, ◌&&◌, List, [], ◌∷◌, ◌++◌, length, get_or, map, Option, Some, None, is_some, refl, sym, ap, ◌∙◌, subst, true≢false, arith, ◌⊎◌, inl, inr}, lemmas.{Bool.Decides.{nat_tests, Decides-eqb}, Cmp.{nat_cmp_total, ranked}, Map.Keys.ge_from_not_lt, Nat.shl-shr, List.Elements.{All-contains, Contains-append_left, Contains-append_right, Contains-append_cases}}, Math.Nat.div-mul-le_self}
+use Rattle.std.proofs.{Common.{◌≡◌, ◌≢◌, ℕ, zero, suc, ◌-◌, ◌*◌, ◌/◌, ◌^◌, ◌<◌, ◌≤◌, ◌==◌, bit_xor, nat_lt, Bool, true, false, not, cond, List, [], ◌∷◌, ◌++◌, length, get_or, map, Option, Some, None, is_some, refl, sym, ap, ◌∙◌, subst, true≢false, arith, ◌⊎◌, inl, inr}, lemmas.{Bool.Decides.{nat_tests, Decides-eqb}, Cmp.{nat_cmp_total, ranked}, Map.Keys.ge_from_not_lt, Nat.shl-shr, List.Elements.{All-contains, Contains-append_left, Contains-append_right, Contains-append_cases}}, Math.Nat.div-mul-le_self}
 use Rattle.std.specs.{List.{Contains, All}, Ordering.{is_eq, is_lt, nat_cmp, ordering_then, ordering_reverse}, Cmp.tied_itself, Int.Count.count_leading_zeros}
 use Rattle.pf_addr.specs.{declared.{addr.Addr.Addr, addr.Family.Family, addr.Family.TheVariants.V4, addr.Family.TheVariants.V6}, Address.{PlainNet, IsNetwork, contains, same_family, family_of, width, number_in, first_bits, network_from}, Spelling.{addr_in, first_addr}, NetForms.first_number}
 use Rattle.pf_addr.specs.declared.addr.Addr.TheVariants as addr
 use Rattle.pf_table.specs.{Entries.PlainEntry, Shared.Share, Tables.{sign_of, Decides, longer, deciding}}
 use Rattle.pf_addr.specs.{NetOrder.{rank, net_order}, Laws.NetOrder.net_total}
-use Rattle.pf_map.specs.{Maps.{at_or_before, last_where}, MapParts.{joined, starts_behind, first_of as first_of_page, IsUpTo, FollowsFrom}}
+use Rattle.pf_map.specs.{Maps.{at_or_before, last_where}, MapParts.{starts_behind, first_of as first_of_page, IsUpTo}}
 use Rattle.pf_map.proofs.MapParts.{page_up_to}
 use Rattle.pf_lanes.specs.Longest.{FindsLongest}
 use Rattle.std.specs.Prelude.{slice_get, MatchOption}
-use Rattle.std.proofs.lemmas.{List.map-id, List.Concat.flat_map-append}
-use Rattle.pf_table.specs.{declared.columns.PageColumns.PageColumns, PageColumns.AreOf, Searches.{NoneShorter, NoneContains, IsLongest, IsCandidate}}
+use Rattle.pf_table.specs.{Searches.{NoneShorter, NoneContains, IsLongest, IsCandidate}}
 use Rattle.std.specs.declared.cmp.Ordering.{Ordering, TheVariants.Less, TheVariants.Equal, TheVariants.Greater}
 use Rattle.pf_table.proofs.{Prefixes.{cut_off, cut_less, between, share_fewer, shared_bits}, Sorted.{sorted, below_at}}
-use Rattle.pf_map.proofs.Tests.{first_of, second_of}
+use Rattle.pf_map.proofs.Tests.{first_of, second_of, same_entry}
+use Rattle.std.proofs.lemmas.Bool.{and_parts}
 
 -- ---- what is found decides
 
@@ -23,9 +23,6 @@ either (Some f) e = by (nat_lt e.0.len f.0.len) where
   by : (t : Bool) → (cond t (Some f) (Some e) ≡ Some e) ⊎ (cond t (Some f) (Some e) ≡ Some f)
   by true = inr refl
   by false = inl refl
-
-inside : {A : Type 0} (x y : A) → Some x ≡ Some y → x ≡ y
-inside x y e = cc
 
 -- an entry of the rest is one of the whole
 later : (e x : PlainEntry) (es : List PlainEntry) → Contains es x → Contains (e ∷ es) x
@@ -40,7 +37,7 @@ is_there (f ∷ es) a e is = by (contains f.0 a) refl (is_there es a e) where
   by false no_ rest = let there : deciding es a ≡ Some e = rw no_ at is in let (at_, holds) = rest there in (later f e es at_, holds)
   by true yes_ rest = let found : longer (Some f) (deciding es a) ≡ Some e = rw yes_ at is in
       elim (either (deciding es a) f) [
-        | inl own ↦ let same = inside f e (sym own ∙ found) in ((0, omega arith, same), sym (ap (λ (x : PlainEntry). contains x.0 a) same) ∙ yes_)
+        | inl own ↦ let same = same_entry f e (sym own ∙ found) in ((0, omega arith, same), sym (ap (λ (x : PlainEntry). contains x.0 a) same) ∙ yes_)
         | inr other ↦ let (at_, holds) = rest (sym other ∙ found) in (later f e es at_, holds)
       ]
 
@@ -62,18 +59,18 @@ none_contains (f ∷ es) a is e there = by (contains f.0 a) refl (none_contains 
   by false no_ rest (suc k, lt, at) = let found : deciding es a ≡ None = rw no_ at is in rest found e (k, omega arith, at)
 
 at_least : (f e : PlainEntry) (r : Option PlainEntry) → longer (Some f) r ≡ Some e → (f.0.len ≤ e.0.len) × ((g : PlainEntry) → r ≡ Some g → g.0.len ≤ e.0.len)
-at_least f e None is = (ap_le f e (inside f e is), λ g none. absurd (true≢false (sym (ap is_some none)))) where
+at_least f e None is = (ap_le f e (same_entry f e is), λ g none. absurd (true≢false (sym (ap is_some none)))) where
   ap_le : (x y : PlainEntry) → x ≡ y → x.0.len ≤ y.0.len
   ap_le x y same = subst (λ (z : PlainEntry). x.0.len ≤ z.0.len) same (omega arith)
 at_least f e (Some g) is = by (nat_lt f.0.len g.0.len) refl is where
   by : (t : Bool) → nat_lt f.0.len g.0.len ≡ t → cond t (Some g) (Some f) ≡ Some e →
       (f.0.len ≤ e.0.len) × ((h : PlainEntry) → Some g ≡ Some h → h.0.len ≤ e.0.len)
-  by true lt is = let same : g.0.len ≡ e.0.len = ap (λ (z : PlainEntry). z.0.len) (inside g e is) in
+  by true lt is = let same : g.0.len ≡ e.0.len = ap (λ (z : PlainEntry). z.0.len) (same_entry g e is) in
       let below : f.0.len < g.0.len = grind (arith, nat_tests) in
-      (omega (arith, same, below), λ h other. omega (arith, same, ap (λ (z : PlainEntry). z.0.len) (inside g h other)))
-  by false ge is = let same : f.0.len ≡ e.0.len = ap (λ (z : PlainEntry). z.0.len) (inside f e is) in
+      (omega (arith, same, below), λ h other. omega (arith, same, ap (λ (z : PlainEntry). z.0.len) (same_entry g h other)))
+  by false ge is = let same : f.0.len ≡ e.0.len = ap (λ (z : PlainEntry). z.0.len) (same_entry f e is) in
       let above : g.0.len ≤ f.0.len = grind (arith, nat_tests) in
-      (omega (arith, same), λ h other. omega (arith, same, above, ap (λ (z : PlainEntry). z.0.len) (inside g h other)))
+      (omega (arith, same), λ h other. omega (arith, same, above, ap (λ (z : PlainEntry). z.0.len) (same_entry g h other)))
 
 -- no entry that contains the address has a longer prefix
 pub none_longer : (es : List PlainEntry) (a : Addr) (e : PlainEntry) → deciding es a ≡ Some e → (f : PlainEntry) → Contains es f → contains f.0 a ≡ true →
@@ -98,10 +95,6 @@ none_longer (g ∷ es) a e is f there holds = by (contains g.0 a) refl (none_lon
 
 -- ---- it is the only one
 
-both_true : (a b : Bool) → (a && b) ≡ true → (a ≡ true) × (b ≡ true)
-both_true true b e = (refl, e)
-both_true false b e = absurd (true≢false (sym e))
-
 one_family : (f g : Family) → same_family f g ≡ true → f ≡ g
 one_family V4 V4 e = refl
 one_family V4 V6 e = absurd (true≢false (sym e))
@@ -112,8 +105,8 @@ one_family V6 V6 e = refl
 pub one_network : (m n : PlainNet) (a : Addr) → contains m a ≡ true → contains n a ≡ true → m.len ≡ n.len → m ≡ n
 unfolding contains
 one_network m n a of_m of_n same =
-    let (m_family, m_front) = both_true _ _ of_m in
-    let (n_family, n_front) = both_true _ _ of_n in
+    let (m_family, m_front) = and_parts _ _ of_m in
+    let (n_family, n_front) = and_parts _ _ of_n in
     let family = one_family m.family (family_of a) m_family ∙ sym (one_family n.family (family_of a) n_family) in
     let front = sym ((Decides-eqb (first_bits m.len a) m.front).0 m_front) ∙ ap (λ (k : ℕ). first_bits k a) same
     ∙ (Decides-eqb (first_bits n.len a) n.front).0 n_front in
@@ -133,7 +126,7 @@ sign_there (f ∷ es) e is (suc k, lt, at) =
 
 one_entry : (es : List PlainEntry) (e f : PlainEntry) → sorted es → Contains es e → Contains es f → e.0 ≡ f.0 → e ≡ f
 one_entry es e f is at_e at_f same =
-    λ i. (same i, inside e.1 f.1 (sym (sign_there es e is at_e) ∙ ap (λ n. sign_of n es) same ∙ sign_there es f is at_f) i)
+    λ i. (same i, same_entry e.1 f.1 (sym (sign_there es e is at_e) ∙ ap (λ n. sign_of n es) same ∙ sign_there es f is at_f) i)
 
 lower_or_same : (m n : ℕ) → m ≤ n → (m < n) ⊎ (m ≡ n)
 lower_or_same m n le = by (nat_lt m n) refl where
@@ -171,7 +164,7 @@ decided es a e is d = by (deciding es a) refl where
 -- a network contains only addresses of its own family
 pub contains_family : (net : PlainNet) (a : Addr) → contains net a ≡ true → net.family ≡ family_of a
 unfolding contains
-contains_family net a is = one_family net.family (family_of a) (both_true _ _ is).0
+contains_family net a is = one_family net.family (family_of a) (and_parts _ _ is).0
 
 -- ---- the last entry that isn't past a network
 
@@ -253,7 +246,7 @@ record Holds (n : PlainNet) (a : Addr) : Type 0 where
 holds_of : (n : PlainNet) (a : Addr) → contains n a ≡ true → Holds n a
 unfolding contains
 holds_of n a is =
-    let (same, front) = both_true _ _ is in
+    let (same, front) = and_parts _ _ is in
     let family = one_family n.family (family_of a) same in
     let own = (Decides-eqb (first_bits n.len a) n.front).0 front in
     record { family = family; front = own; first = λ i. sym own i * 2 ^ (width (family i) - n.len) }
@@ -476,10 +469,6 @@ longest_found es a i e found is =
 pub none_found : (es : List PlainEntry) (a : Addr) → FindsLongest (map (λ x. x.0) es) a None → NoneContains es a
 none_found es a none f at_f = All-contains (λ n. contains n a ≡ false) (map (λ x. x.0) es) f.0 none (contains_net es f at_f)
 
--- what is kept beside a page is of its entries
-pub beside_is : (cols : PageColumns) (page : List PlainEntry) → FollowsFrom {E = PlainEntry} {K = PlainNet} {X = Bool} (λ e. e) AreOf cols page → AreOf cols page
-beside_is cols page beside = subst (AreOf cols) (sym (map-id beside.entries) ∙ beside.pairs) beside.follows_from
-
 -- ---- where a search stands
 
 -- a page of one entry
@@ -522,7 +511,7 @@ module _ (es : List PlainEntry) (a : Addr) (len : ℕ) (net : PlainNet) (order :
 
         begins : (p : List PlainEntry) → first_of_page p ≡ Some e → p ≡ e ∷ rest p
         begins [] is = absurd (cc (is))
-        begins (x ∷ xs) is = ap (λ y. y ∷ xs) (inside x e is)
+        begins (x ∷ xs) is = ap (λ y. y ∷ xs) (same_entry x e is)
 
 -- if each entry that contains the address has a prefix shorter than any entry's, there is none
 pub none_so_short : (es : List PlainEntry) (a : Addr) (len n : ℕ) → NoneLonger es a len → NoneShorter n es → len < n → deciding es a ≡ None

@@ -7,6 +7,7 @@ use Rattle.pf_form.specs.Bytes.{Forms.Fits, Lists.{ordered, in_order}}
 use Rattle.pf_table.specs.{Entries.PlainEntry, Tables.IsTable, EntryForms.{entry, plain_entry, entry_before}, Laws.EntryForms.{entry_fits, entry_again}}
 use Rattle.pf_addr.specs.{NetOrder.net_order, Laws.NetOrder.net_total}
 use Rattle.pf_map.proofs.Tests.{first_of, second_of, less_of}
+use Rattle.std.proofs.lemmas.Bool.{and_parts, and_from}
 
 each_fits : (es : List PlainEntry) → All (λ e. IsNetwork e.0) es → AllByRecursion (Fits entry) (map plain_entry es)
 each_fits [] all = tt
@@ -19,15 +20,12 @@ is_of false h = absurd h
 before_is : (e f : PlainEntry) → entry_before (plain_entry e) (plain_entry f) ≡ is_lt (net_order e.0 f.0)
 before_is e f = λ i. is_lt (net_order (entry_again e i).0 (entry_again f i).0)
 
-both : (a b : Bool) → a ≡ true → b ≡ true → (a && b) ≡ true
-both a b e f = rw (e, f) refl
-
 in_turn : (es : List PlainEntry) → T (is_sorted net_order es) → in_order entry_before (map plain_entry es) ≡ true
 in_turn [] s = refl
 in_turn (e ∷ []) s = refl
 in_turn (e ∷ f ∷ es) s =
     let less : is_lt (net_order e.0 f.0) ≡ true = is_of _ (first_of _ _ (first_of _ _ s)) in
-    both (entry_before (plain_entry e) (plain_entry f)) (in_order entry_before (map plain_entry (f ∷ es))) (before_is e f ∙ less) (in_turn (f ∷ es) (second_of _ _ s))
+    and_from (entry_before (plain_entry e) (plain_entry f)) (in_order entry_before (map plain_entry (f ∷ es))) (before_is e f ∙ less) (in_turn (f ∷ es) (second_of _ _ s))
 
 pub table_fits : (es : List PlainEntry) → IsTable es → Fits (ordered entry_before 4 entry) (map plain_entry es)
 table_fits es is = ((omega (arith, is.few, length-map es plain_entry), each_fits es is.networks), in_turn es is.sorted)
@@ -46,15 +44,11 @@ behind x e (f ∷ es) less h =
     let next : net_order x f.0 ≡ Less = net_total.trans x e.0 f.0 less (less_of _ (first_of _ _ h)) in
     rw next (behind x e es less (second_of _ _ h))
 
-both_of : (a b : Bool) → (a && b) ≡ true → (a ≡ true) × (b ≡ true)
-both_of true b e = (refl, e)
-both_of false b e = absurd cc
-
 pub in_order_is : (es : List PlainEntry) → in_order entry_before (map plain_entry es) ≡ true → T (is_sorted net_order es)
 in_order_is [] e = tt
 in_order_is (x ∷ []) e = tt
 in_order_is (x ∷ y ∷ es) e =
-    let parts = both_of (entry_before (plain_entry x) (plain_entry y)) (in_order entry_before (map plain_entry (y ∷ es))) e in
+    let parts = and_parts (entry_before (plain_entry x) (plain_entry y)) (in_order entry_before (map plain_entry (y ∷ es))) e in
     let less = less_is _ (sym (before_is x y) ∙ parts.0) in
     let rest = in_order_is (y ∷ es) parts.1 in
     rw less (by _ _ (behind x.0 y es less (first_of _ _ rest)) rest) where

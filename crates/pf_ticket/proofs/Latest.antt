@@ -5,7 +5,7 @@ use Rattle.std.specs.{Prelude.{flat_map, T}, FinMap.{find, is_sorted}, FinMap.En
 use Rattle.pf_addr.specs.Path.Names.{name_order, same_name as same_table}
 use Rattle.pf_rule.specs.Rules.{PlainRule}
 use Rattle.pf_table.specs.{Edits.replaced, Entries.PlainEntry}
-use Rattle.pf_ticket.specs.{declared.{name.RulesetName.RulesetName, ticket.Ticket.Ticket}, Laws.Tickets.{touches, AreQuiet, IsGivenLast, ValidIsGivenLast, GivenLastIsValid, rules_added, OffersTheAdded, tables_defined, OffersTheDefined}, Mentions.{Mention, gave, added, defined, switched, dropped, named_in, moved, after}, Names.{filter_at, table_ruleset_at, same_name, ticket, same_ticket, is_ticket}, Laws.Names.{names_alike, name_is}, NamedTables.PlainDefinedTable, Tickets.{Loaded, nothing, with_rule, with_table, PlainOffer, offer_with, offer_at, PlainTickets, fresh, next_ticket, ticket_in, loaded_in, valid_ticket, loaded, is_valid}}
+use Rattle.pf_ticket.specs.{declared.{name.RulesetName.RulesetName, ticket.Ticket.Ticket}, Laws.Tickets.{touches, AreQuiet, IsGivenLast, ValidIsGivenLast, GivenLastIsValid, rules_added, OffersTheAdded, tables_defined, OffersTheDefined}, Mentions.{Mention, gave, added, defined, switched, dropped, named_in, moved, after}, Names.{filter_at, table_ruleset_at, same_name, ticket, same_ticket, is_ticket}, Laws.Names.{names_alike, name_is}, NamedTables.PlainDefinedTable, Tickets.{Loaded, nothing, with_rule, with_table, PlainInactive, offer_with, offer_at, PlainTickets, fresh, next_ticket, ticket_in, loaded_in, valid_ticket, loaded, is_valid}}
 use Rattle.pf_ticket.proofs.Moves.{made_by, reads}
 
 -- two tickets that are the same are equal
@@ -84,7 +84,7 @@ loads q u l (switched n) = l
 loads q u l (dropped n w) = l
 
 -- a ruleset's offer still has this ticket, and this was loaded with it
-abbrev Has : Ticket → Loaded → Option PlainOffer → Type 0
+abbrev Has : Ticket → Loaded → Option PlainInactive → Type 0
 Has u l v = (ticket_in v ≡ Some u) × (loaded_in v ≡ l)
 
 -- for the mention's own ruleset
@@ -122,7 +122,7 @@ stays-by t m q u false e h quiet = (h, sym (none-loaded m q u (loaded t q) e))
 quiet-on : (t : PlainTickets) (ms : List Mention) (q : RulesetName) (u : Ticket) → valid_ticket t q ≡ Some u → AreQuiet q u ms → Has u (fold (loads q u) (loaded t q) ms) (offer_at (after t ms).offers q)
 quiet-on t [] q u h quiet = (h, refl)
 quiet-on t (m ∷ ms) q u h quiet =
-    let one : Has u (loads q u (loaded t q) m) (offer_at (moved t m).offers q) = subst (λ (v : Option PlainOffer). Has u (loads q u (loaded t q) m) v) (sym (reads t m q)) (stays-by t m q u (same_name (named_in m) q) refl h quiet.0) in
+    let one : Has u (loads q u (loaded t q) m) (offer_at (moved t m).offers q) = subst (λ (v : Option PlainInactive). Has u (loads q u (loaded t q) m) v) (sym (reads t m q)) (stays-by t m q u (same_name (named_in m) q) refl h quiet.0) in
     let rest : Has u (fold (loads q u) (loaded (moved t m) q) ms) (offer_at (after (moved t m) ms).offers q) = quiet-on (moved t m) ms q u one.0 quiet.1 in
     (rest.0, rest.1 ∙ ap (λ (l : Loaded). fold (loads q u) l ms) one.1)
 
@@ -135,7 +135,7 @@ given-since t ms q u g =
     let all : after (moved s (gave g.given)) g.behind ≡ after t ms = sym (ap (after t) g.all ∙ fold-append moved t g.before (gave g.given ∷ g.behind)) in
     let since : Has u (fold (loads q u) (loaded (moved s (gave g.given)) q) g.behind) (offer_at (after (moved s (gave g.given)) g.behind).offers q) =
     quiet-on (moved s (gave g.given)) g.behind q u (ap ticket_in now ∙ ap Some (sym g.ticket)) g.quiet in
-    subst (λ (o : PlainTickets). Has u (fold (loads q u) nothing g.behind) (offer_at o.offers q)) all (since.0, since.1 ∙ ap (λ (v : Option PlainOffer). fold (loads q u) (loaded_in v) g.behind) now)
+    subst (λ (o : PlainTickets). Has u (fold (loads q u) nothing g.behind) (offer_at o.offers q)) all (since.0, since.1 ∙ ap (λ (v : Option PlainInactive). fold (loads q u) (loaded_in v) g.behind) now)
 
 pub given_last_is_valid : GivenLastIsValid
 given_last_is_valid epoch ms name u g = (given-since (fresh epoch) ms name u g).0

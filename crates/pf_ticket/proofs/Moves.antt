@@ -1,16 +1,17 @@
 -- What a mention makes of its ruleset's offer, and that it leaves the others: one law for all mentions, and what follows for lists of them.
 use Rattle.std.proofs.{Common.{◌≡◌, ℕ, ◌+◌, ◌<◌, Bool, true, false, not, cond, ◌&&◌, ◌||◌, List, [], ◌∷◌, ◌++◌, length, map, take, get_or, refl, sym, ap, ◌∙◌, Option, Some, None, is_some, arith}, lemmas.Bool.{or_parts, or_right, cond_both}, lemmas.List.map-id, lemmas.List.Folds.fold-map, lemmas.List.Sums.{fold-append, fold_more}, lemmas.Simd.map-map}
 use Rattle.std.specs.List.{list_any}
-use Rattle.pf_ticket.specs.{declared.{entry.RulesetTicket.RulesetTicket, name.RulesetName.RulesetName, ticket.Ticket.Ticket}, Laws.Tickets.{StartsWithNothing, LeavesTheOthers, CommitTakesOut, RollbackDropsExactly, GoesOnAgreeing, CountsTheOpen}, Mentions.{Mention, gave, added, defined, switched, dropped, named_in, load, with_offers, take_out, moved, after, opened, gives}, Names.{same_name, is_named, is_ticket}, Laws.Names.name_is, Tickets.{Loaded, nothing, with_rule, with_table, offered_as, PlainOffer, PlainSlots, offer_with, offer_at, with_offer, with_all, given_from, PlainTickets, tickets_with, fresh, next_ticket, ticket_in, loaded_in, loaded, is_valid}}
+use Rattle.pf_ticket.specs.{declared.{entry.RulesetTicket.RulesetTicket, name.RulesetName.RulesetName, ticket.Ticket.Ticket}, Laws.Tickets.{StartsWithNothing, LeavesTheOthers, CommitTakesOut, RollbackDropsExactly, GoesOnAgreeing, CountsTheOpen}, Mentions.{Mention, gave, added, defined, switched, dropped, named_in, load, with_offers, take_out, moved, after, opened, gives}, Names.{same_name, is_named, is_ticket}, Laws.Names.name_is, Tickets.{Loaded, nothing, with_rule, with_table, offered_as, PlainInactive, PlainSlots, offer_with, offer_at, with_offer, with_all, given_from, PlainTickets, tickets_with, fresh, next_ticket, ticket_in, loaded_in, loaded, is_valid}}
 use Rattle.pf_table.specs.Edits.{replaced}
 use Rattle.pf_ticket.proofs.Offers.{reads_with, named_under, AreInOrder, stays_sorted, distinct, length_with}
+use Rattle.std.proofs.Math.Bool.{or-false}
 
 -- ---- one law for all mentions
 
-abbrev pub loaded_by : PlainTickets → RulesetName → Ticket → Loaded → Option PlainOffer
+abbrev pub loaded_by : PlainTickets → RulesetName → Ticket → Loaded → Option PlainInactive
 loaded_by t n u l = cond (is_valid t n u) (Some (offer_with u l)) (offer_at t.offers n)
 
-abbrev pub made_by : PlainTickets → Mention → Option PlainOffer
+abbrev pub made_by : PlainTickets → Mention → Option PlainInactive
 made_by t (gave n) = Some (offer_with (next_ticket t) nothing)
 made_by t (added n u r) = loaded_by t n u (with_rule (loaded t n) r)
 made_by t (defined n u name xs) = loaded_by t n u (with_table (loaded t n) name (replaced xs))
@@ -18,12 +19,12 @@ made_by t (switched n) = None
 made_by t (dropped n u) = cond (is_valid t n u) None (offer_at t.offers n)
 
 -- if the ticket isn't valid, its own offer stays, read by either name
-where-valid : (t : PlainTickets) (n q : RulesetName) (b : Bool) (os : PlainSlots) (v : Option PlainOffer) → offer_at os q ≡ cond (same_name n q) v (offer_at t.offers q) → offer_at (cond b (with_offers t os) t).offers q ≡ cond (same_name n q) (cond b v (offer_at t.offers n)) (offer_at t.offers q)
+where-valid : (t : PlainTickets) (n q : RulesetName) (b : Bool) (os : PlainSlots) (v : Option PlainInactive) → offer_at os q ≡ cond (same_name n q) v (offer_at t.offers q) → offer_at (cond b (with_offers t os) t).offers q ≡ cond (same_name n q) (cond b v (offer_at t.offers n)) (offer_at t.offers q)
 where-valid t n q true os v h = h
-where-valid t n q false os v h = cond_both (same_name n q) (offer_at t.offers n) (offer_at t.offers q) (λ (w : Option PlainOffer). offer_at t.offers q ≡ w) (λ e. ap (offer_at t.offers) (sym (name_is n q e))) (λ e. refl)
+where-valid t n q false os v h = cond_both (same_name n q) (offer_at t.offers n) (offer_at t.offers q) (λ (w : Option PlainInactive). offer_at t.offers q ≡ w) (λ e. ap (offer_at t.offers) (sym (name_is n q e))) (λ e. refl)
 
 reads-load : (t : PlainTickets) (n : RulesetName) (u : Ticket) (l : Loaded) (q : RulesetName) → offer_at (load t n u l).offers q ≡ cond (same_name n q) (loaded_by t n u l) (offer_at t.offers q)
-reads-load t n u l q = let new : Option PlainOffer = Some (offer_with u l) in where-valid t n q (is_valid t n u) (with_offer t.offers n new) new (reads_with t.offers n new q)
+reads-load t n u l q = let new : Option PlainInactive = Some (offer_with u l) in where-valid t n q (is_valid t n u) (with_offer t.offers n new) new (reads_with t.offers n new q)
 
 pub reads : (t : PlainTickets) (m : Mention) (q : RulesetName) → offer_at (moved t m).offers q ≡ cond (same_name (named_in m) q) (made_by t m) (offer_at t.offers q)
 reads t (gave n) q = reads_with t.offers n (Some (offer_with (next_ticket t) nothing)) q
@@ -38,7 +39,7 @@ leaves_the_others t (m ∷ ms) name h =
     let both : (same_name (named_in m) name ≡ false) × (is_named (map named_in ms) name ≡ false) = or_parts (same_name (named_in m) name) (is_named (map named_in ms) name) h in
     leaves_the_others (moved t m) ms name both.1 ∙ reads t m name ∙ ap (λ (b : Bool). cond b (made_by t m) (offer_at t.offers name)) both.0
 
-out-either : (b c : Bool) (x v : Option PlainOffer) → cond b x (cond c x v) ≡ cond (c || b) x v
+out-either : (b c : Bool) (x v : Option PlainInactive) → cond b x (cond c x v) ≡ cond (c || b) x v
 out-either true true x v = refl
 out-either true false x v = refl
 out-either false true x v = refl
@@ -47,22 +48,22 @@ out-either false false x v = refl
 pub commit_takes_out : CommitTakesOut
 commit_takes_out t [] name = refl
 commit_takes_out t (n ∷ ns) name =
-    commit_takes_out (moved t (switched n)) ns name ∙ ap (λ (v : Option PlainOffer). cond (is_named ns name) None v) (reads t (switched n) name) ∙ out-either (is_named ns name) (same_name n name) None (offer_at t.offers name)
+    commit_takes_out (moved t (switched n)) ns name ∙ ap (λ (v : Option PlainInactive). cond (is_named ns name) None v) (reads t (switched n) name) ∙ out-either (is_named ns name) (same_name n name) None (offer_at t.offers name)
 
 read-dropped : (t : PlainTickets) (n : RulesetName) (u : Ticket) (q : RulesetName) → offer_at (moved t (dropped n u)).offers q ≡ cond (same_name n q && is_valid t q u) None (offer_at t.offers q)
-read-dropped t n u q = reads t (dropped n u) q ∙ cond_both (same_name n q) (made_by t (dropped n u)) (offer_at t.offers q) (λ (v : Option PlainOffer). v ≡ cond (same_name n q && is_valid t q u) None (offer_at t.offers q))
+read-dropped t n u q = reads t (dropped n u) q ∙ cond_both (same_name n q) (made_by t (dropped n u)) (offer_at t.offers q) (λ (v : Option PlainInactive). v ≡ cond (same_name n q && is_valid t q u) None (offer_at t.offers q))
     (λ e. ap (λ (p : RulesetName). made_by t (dropped p u)) (name_is n q e) ∙ ap (λ (b : Bool). cond (b && is_valid t q u) None (offer_at t.offers q)) (sym e))
     (λ e. ap (λ (b : Bool). cond (b && is_valid t q u) None (offer_at t.offers q)) (sym e))
 
 -- what these entries leave of a ruleset's offer
-abbrev left_of : RulesetName → List RulesetTicket → Option PlainOffer → Option PlainOffer
+abbrev left_of : RulesetName → List RulesetTicket → Option PlainInactive → Option PlainInactive
 left_of q es v = cond (list_any (λ e. same_name e.name q && is_ticket (ticket_in v) e.ticket) es) None v
 
-none-left : (b : Bool) → cond b None None ≡ (let none : Option PlainOffer = None in none)
+none-left : (b : Bool) → cond b None None ≡ (let none : Option PlainInactive = None in none)
 none-left true = refl
 none-left false = refl
 
-left-once : (q : RulesetName) (es : List RulesetTicket) (v : Option PlainOffer) (b : Bool) → left_of q es (cond b None v) ≡ cond (b || list_any (λ e. same_name e.name q && is_ticket (ticket_in v) e.ticket) es) None v
+left-once : (q : RulesetName) (es : List RulesetTicket) (v : Option PlainInactive) (b : Bool) → left_of q es (cond b None v) ≡ cond (b || list_any (λ e. same_name e.name q && is_ticket (ticket_in v) e.ticket) es) None v
 left-once q es v true = none-left (list_any (λ e. same_name e.name q && false) es)
 left-once q es v false = refl
 
@@ -74,7 +75,7 @@ rollback_drops_exactly t (e ∷ es) name =
 -- ---- what the mentions since an opening leave
 
 -- what a load keeps
-pub load-keeps : (t : PlainTickets) (n : RulesetName) (u : Ticket) (l : Loaded) (P : PlainTickets → Type 0) → ((new : PlainOffer) → P (with_offers t (with_offer t.offers n (Some new)))) → P t → P (load t n u l)
+pub load-keeps : (t : PlainTickets) (n : RulesetName) (u : Ticket) (l : Loaded) (P : PlainTickets → Type 0) → ((new : PlainInactive) → P (with_offers t (with_offer t.offers n (Some new)))) → P t → P (load t n u l)
 load-keeps t n u l P put_in out = cond_both (is_valid t n u) (with_offers t (with_offer t.offers n (Some (offer_with u l)))) t P (λ e. put_in (offer_with u l)) (λ e. out)
 
 epoch-on : (t : PlainTickets) (m : Mention) → (moved t m).epoch ≡ t.epoch
@@ -107,7 +108,7 @@ sorted-after : (t : PlainTickets) (ms : List Mention) → AreInOrder t.offers �
 sorted-after t [] h = h
 sorted-after t (m ∷ ms) h = sorted-after (moved t m) ms (sorted-on t m h)
 
-with-ticket : (v : Option PlainOffer) → is_some v ≡ is_some (ticket_in v)
+with-ticket : (v : Option PlainInactive) → is_some v ≡ is_some (ticket_in v)
 with-ticket None = refl
 with-ticket (Some o) = refl
 
@@ -126,7 +127,7 @@ starts-from : (t : PlainTickets) (names : List RulesetName) (q : RulesetName) �
 starts-from t [] q h = h refl
 starts-from t (n ∷ ns) q h =
     starts-from (moved t (gave n)) ns q (λ none. ap loaded_in (reads t (gave n) q) ∙
-    cond_both (same_name n q) (made_by t (gave n)) (offer_at t.offers q) (λ (v : Option PlainOffer). loaded_in v ≡ nothing)
+    cond_both (same_name n q) (made_by t (gave n)) (offer_at t.offers q) (λ (v : Option PlainInactive). loaded_in v ≡ nothing)
     (λ e. refl) (λ e. h (ap (λ (b : Bool). b || is_named ns q) e ∙ none)))
 
 pub starts_with_nothing : StartsWithNothing
@@ -144,18 +145,14 @@ given_at_once t (n ∷ ns) =
 
 -- ---- what the code counts
 
-or-false : (b : Bool) → (b || false) ≡ b
-or-false true = refl
-or-false false = refl
-
-one-more : (b c : Bool) (new : PlainOffer) (v : Option PlainOffer) → (is_some (cond b (Some new) v) || c) ≡ (is_some v || (b || c))
+one-more : (b c : Bool) (new : PlainInactive) (v : Option PlainInactive) → (is_some (cond b (Some new) v) || c) ≡ (is_some v || (b || c))
 one-more true c new v = sym (or_right (is_some v) true refl)
 one-more false c new v = refl
 
 all-given : (t : PlainTickets) (names : List RulesetName) (q : RulesetName) → is_some (offer_at (after t (gives names)).offers q) ≡ (is_some (offer_at t.offers q) || is_named names q)
 all-given t [] q = sym (or-false (is_some (offer_at t.offers q)))
 all-given t (n ∷ ns) q =
-    all-given (moved t (gave n)) ns q ∙ ap (λ (v : Option PlainOffer). is_some v || is_named ns q) (reads t (gave n) q)
+    all-given (moved t (gave n)) ns q ∙ ap (λ (v : Option PlainInactive). is_some v || is_named ns q) (reads t (gave n) q)
     ∙ one-more (same_name n q) (is_named ns q) (offer_with (next_ticket t) nothing) (offer_at t.offers q)
 
 count-new : (k : ℕ) (b new : Bool) → new ≡ not b → k + cond b 0 1 ≡ k + cond new 1 0

@@ -1,24 +1,8 @@
 -- In a list in the order of its keys: where a key is, and what is found, replaced or taken out there.
-use Rattle.std.proofs.{Common.{◌≡◌, ℕ, zero, suc, ◌<◌, ◌≤◌, ◌&&◌, Bool, true, false, not, cond, T, List, [], ◌∷◌, length, get_or, set, add-one, Some, None, refl, sym, ap, ◌∙◌, subst, arith}, lemmas.Cmp.tied_itself, lemmas.List.Sorted.searchable_from_sorted}
-use Rattle.std.specs.{declared.{cmp.Ordering.Ordering, cmp.Ordering.TheVariants.Less, cmp.Ordering.TheVariants.Equal, cmp.Ordering.TheVariants.Greater}, Cmp.IsTotalOrder, FinMap.{find, put, is_sorted}, FinMap.Entries.below_all, List.{HoldsAt, insert, remove}, List.Sorted.{IsNonDecreasingBy, IsPartitionPoint}, Ordering.{is_eq, is_lt, ordering_index, ordering_reverse}}
+use Rattle.std.proofs.{Common.{◌≡◌, ℕ, zero, suc, ◌<◌, ◌≤◌, false, not, cond, T, List, [], ◌∷◌, length, get_or, set, add-one, Some, None, refl, sym, ap, ◌∙◌, subst, arith}, lemmas.Cmp.tied_itself, lemmas.List.Sorted.searchable_from_sorted}
+use Rattle.std.specs.{declared.{cmp.Ordering.Ordering, cmp.Ordering.TheVariants.Less, cmp.Ordering.TheVariants.Greater}, Cmp.IsTotalOrder, FinMap.{find, put, is_sorted}, FinMap.Entries.below_all, List.{HoldsAt, insert, remove}, List.Sorted.{IsNonDecreasingBy, IsPartitionPoint}, Ordering.{is_eq, is_lt, ordering_index, ordering_reverse}}
 use Rattle.pf_map.specs.Maps.{without, with_value}
-
-pub first_of : (a b : Bool) → T (a && b) → T a
-first_of true b p = tt
-first_of false b p = p
-
-pub second_of : (a b : Bool) → T (a && b) → T b
-second_of true b p = p
-second_of false b p = absurd p
-
-both_of : (a b : Bool) → T a → T b → T (a && b)
-both_of true b p q = q
-both_of false b p q = p
-
-less_of : (r : Ordering) → T (is_lt r) → r ≡ Less
-less_of Less p = refl
-less_of Equal p = absurd p
-less_of Greater p = absurd p
+use Rattle.pf_map.proofs.Tests.{first_of, second_of, both_of, less_of}
 
 module _ {K : Type 0} {R : K → K → Ordering} (o : IsTotalOrder R) where
   -- the other way round

@@ -7,7 +7,7 @@ use Rattle.pf_table.specs.declared.limits.TheConstants.{TABLE_LIMIT}
 use Rattle.pf_table.specs.{Edits.{conflict_in, replaced}, Laws.Edits.sorted_added, Entries.PlainEntry, Tables.AreEntries}
 use Rattle.pf_rule.specs.Rules.{PlainRule}
 use Rattle.pf_anchor.specs.declared.limits.TheConstants.{RULE_LIMIT, RULESET_LIMIT}
-use Rattle.pf_ticket.specs.{declared.{entry.RulesetTicket.RulesetTicket, limits.TheConstants.LAST_COUNT, limits.TheConstants.OFFERED_TABLE_LIMIT, name.RulesetKind.RulesetKind, name.RulesetKind.TheVariants.Filter, name.RulesetKind.TheVariants.Table, name.RulesetName.RulesetName, refusal.TicketRefusal.TicketRefusal, refusal.TicketRefusal.TheVariants.BadCount, refusal.TicketRefusal.TheVariants.Conflict, refusal.TicketRefusal.TheVariants.Busy, refusal.TicketRefusal.TheVariants.RulesetFull, refusal.TicketRefusal.TheVariants.TableFull, refusal.TicketRefusal.TheVariants.TooManyRulesets, refusal.TicketRefusal.TheVariants.TooManyTables, refusal.TicketRefusal.TheVariants.TicketsExhausted, ticket.Ticket.Ticket, ticket.TicketRange.TicketRange}, Laws.Tickets.{AreGiven, BeginsGive, TellsWhatIsGiven, IsFew, IsWithin, KeepsTheLimits}, Mentions.{gave, dropped, load, with_offers, take_out, moved, after, gives, switches, drops}, Names.{filter_at, table_ruleset_at, same_name, is_named, is_ticket, tickets_from, tickets_of}, Laws.Names.{names_alike, name_is}, Replies.{bad_count, range, begin_reply}, NamedTables.PlainDefinedTable, Tickets.{Loaded, nothing, with_rule, with_table, offered_as, PlainOffer, PlainSlots, offer_with, offer_at, with_offer, PlainTickets, next_ticket, ticket_in, loaded_in, valid_ticket, loaded, is_valid}}
+use Rattle.pf_ticket.specs.{declared.{entry.RulesetTicket.RulesetTicket, limits.TheConstants.LAST_COUNT, limits.TheConstants.OFFERED_TABLE_LIMIT, name.RulesetKind.RulesetKind, name.RulesetKind.TheVariants.Filter, name.RulesetKind.TheVariants.Table, name.RulesetName.RulesetName, refusal.TicketRefusal.TicketRefusal, refusal.TicketRefusal.TheVariants.BadCount, refusal.TicketRefusal.TheVariants.Conflict, refusal.TicketRefusal.TheVariants.Busy, refusal.TicketRefusal.TheVariants.RulesetFull, refusal.TicketRefusal.TheVariants.TableFull, refusal.TicketRefusal.TheVariants.TooManyRulesets, refusal.TicketRefusal.TheVariants.TooManyTables, refusal.TicketRefusal.TheVariants.TicketsExhausted, ticket.Ticket.Ticket, ticket.TicketRange.TicketRange}, Laws.Tickets.{AreGiven, BeginsGive, TellsWhatIsGiven, IsFew, IsWithin, KeepsTheLimits}, Mentions.{gave, dropped, load, with_offers, take_out, moved, after, gives, switches, drops}, Names.{filter_at, table_ruleset_at, same_name, is_named, is_ticket, tickets_from, tickets_of}, Laws.Names.{names_alike, name_is}, Replies.{bad_count, range, begin_reply}, NamedTables.PlainDefinedTable, Tickets.{Loaded, nothing, with_rule, with_table, offered_as, PlainInactive, PlainSlots, offer_with, offer_at, with_offer, PlainTickets, next_ticket, ticket_in, loaded_in, valid_ticket, loaded, is_valid}}
 use Rattle.pf_ticket.proofs.{NamedTables.put_sorted, Moves.{load-keeps, made_by, reads, leaves_the_others, gives-named}, Offers.{reads_with, length_out, length_replaced}}
 
 -- ---- what stays when offers are taken out
@@ -99,13 +99,13 @@ one-table l name new short few old = record {
   order = put_sorted name new l.tables old.order;
 }
 
-abbrev IsShort : RulesetKind → Option PlainOffer → Type 0
+abbrev IsShort : RulesetKind → Option PlainInactive → Type 0
 IsShort k v = Short k (loaded_in v)
 
 abbrev AreShort : PlainSlots → Type 0
 AreShort os = (name : RulesetName) → IsShort name.kind (offer_at os name)
 
-short-put : (os : PlainSlots) (n : RulesetName) (new : PlainOffer) → Short n.kind new.loaded → AreShort os → AreShort (with_offer os n (Some new))
+short-put : (os : PlainSlots) (n : RulesetName) (new : PlainInactive) → Short n.kind new.loaded → AreShort os → AreShort (with_offer os n (Some new))
 short-put os n new short all q =
     subst (IsShort q.kind) (sym (reads_with os n (Some new) q)) (cond_both (same_name n q) (Some new) (offer_at os q) (IsShort q.kind) (λ b. subst (λ (m : RulesetName). Short m.kind new.loaded) (name_is n q b) short) (λ b. all q))
 
@@ -122,13 +122,13 @@ within-out t n w = record {
   offered = λ q. subst (IsShort q.kind) (sym (reads_with t.offers n None q)) (cond_both (same_name n q) None (offer_at t.offers q) (IsShort q.kind) (λ b. short-nothing q.kind) (λ b. w.offered q));
 }
 
-has-offer : (v : Option PlainOffer) (u : Ticket) → is_ticket (ticket_in v) u ≡ true → is_some v ≡ true
+has-offer : (v : Option PlainInactive) (u : Ticket) → is_ticket (ticket_in v) u ≡ true → is_some v ≡ true
 has-offer None u h = absurd (cc (h))
 has-offer (Some o) u h = refl
 
 within-loaded : (t : PlainTickets) (n : RulesetName) (u : Ticket) (l : Loaded) → Short n.kind l → IsWithin t → IsWithin (load t n u l)
 within-loaded t n u l short w =
-    let new : PlainOffer = offer_with u l in
+    let new : PlainInactive = offer_with u l in
     cond_both (is_valid t n u) (with_offers t (with_offer t.offers n (Some new))) t IsWithin
     (λ valid.
     let as-many = length_replaced t.offers n new (has-offer (offer_at t.offers n) u valid) in

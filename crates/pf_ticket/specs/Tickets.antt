@@ -45,22 +45,22 @@ tables_in (Rules rs) = []
 tables_in (Tables ts) = ts
 
 -- the valid ticket of an inactive ruleset, and what was loaded with it
-pub record PlainOffer : Type 0 where
+pub record PlainInactive : Type 0 where
   pub ticket : Ticket
   pub loaded : Loaded
 
-abbrev pub offer_with : Ticket → Loaded → PlainOffer
+abbrev pub offer_with : Ticket → Loaded → PlainInactive
 offer_with t l = record { ticket = t; loaded = l }
 
 -- inactive rulesets with their offers, in the order of their names: a finite map
 abbrev pub PlainSlots : Type 0
-PlainSlots = List (RulesetName × PlainOffer)
+PlainSlots = List (RulesetName × PlainInactive)
 
-abbrev pub offer_at : PlainSlots → RulesetName → Option PlainOffer
+abbrev pub offer_at : PlainSlots → RulesetName → Option PlainInactive
 offer_at os name = find ruleset_order name os
 
 -- with this as the ruleset's offer, or with none
-abbrev pub with_offer : PlainSlots → RulesetName → Option PlainOffer → PlainSlots
+abbrev pub with_offer : PlainSlots → RulesetName → Option PlainInactive → PlainSlots
 with_offer os name o = with_value ruleset_order os name o
 
 -- with these in turn
@@ -74,15 +74,15 @@ given_from epoch count (n ∷ ns) = (n, offer_with (ticket epoch count) nothing)
 
 -- the ruleset's offer is at this place
 pub record IsPlace (name : RulesetName) (os : PlainSlots) (i : ℕ) : Type 0 where
-  pub found : (e : RulesetName × PlainOffer) → e ≡ get_or os i e → (e.0 ≡ name) × (offer_at os name ≡ Some e.1)
+  pub found : (e : RulesetName × PlainInactive) → e ≡ get_or os i e → (e.0 ≡ name) × (offer_at os name ≡ Some e.1)
   pub some : is_some (offer_at os name) ≡ true
-  pub replaced : (o : PlainOffer) → with_offer os name (Some o) ≡ set os i (name, o)
+  pub replaced : (o : PlainInactive) → with_offer os name (Some o) ≡ set os i (name, o)
   pub removed : with_offer os name None ≡ remove os i
 
 -- the ruleset has no offer, and this is where it would be
 pub record IsGap (name : RulesetName) (os : PlainSlots) (i : ℕ) : Type 0 where
   pub none : offer_at os name ≡ None
-  pub inserted : (o : PlainOffer) → with_offer os name (Some o) ≡ insert os i (name, o)
+  pub inserted : (o : PlainInactive) → with_offer os name (Some o) ≡ insert os i (name, o)
   pub kept : with_offer os name None ≡ os
 
 -- ---- the transactions of an opening
@@ -108,11 +108,11 @@ next_ticket t = ticket t.epoch t.next
 abbrev pub open_rulesets : PlainTickets → List RulesetName
 open_rulesets t = map (λ e. e.0) t.offers
 
-abbrev pub ticket_in : Option PlainOffer → Option Ticket
+abbrev pub ticket_in : Option PlainInactive → Option Ticket
 ticket_in None = None
 ticket_in (Some o) = Some o.ticket
 
-abbrev pub loaded_in : Option PlainOffer → Loaded
+abbrev pub loaded_in : Option PlainInactive → Loaded
 loaded_in None = nothing
 loaded_in (Some o) = o.loaded
 

@@ -41,9 +41,9 @@ impl Drop for Slot {
 
 impl Model for Slot {
     ghost use Rattle.pf_ticket.specs.declared.name.RulesetName.{RulesetName};
-    ghost use Rattle.pf_ticket.specs.Tickets.{PlainOffer, offer_with, loaded_with};
+    ghost use Rattle.pf_ticket.specs.Tickets.{PlainInactive, offer_with, loaded_with};
 
-    ghost Value = { RulesetName × PlainOffer };
+    ghost Value = { RulesetName × PlainInactive };
 
     ghost view = { λ s. (s.inactive.value.name, offer_with s.inactive.value.ticket (loaded_with s.inactive.value.rules s.inactive.value.tables)) };
 }

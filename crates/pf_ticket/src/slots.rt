@@ -2,7 +2,7 @@
 ghost use Rattle.std.specs.{Prelude.{◌≡◌, ◌<◌, ◌≤◌, ◌+◌, ◌^◌, T, [], length, get_or, IfOk, IfErr, OnOk, OnErr, Some, None, vec_len, vec_capacity}, FinMap.is_sorted, List.Sorted.IsSearchInRange};
 ghost use Rattle.pf_anchor.specs.declared.limits.TheConstants.{RULE_LIMIT};
 ghost use Rattle.pf_ticket.specs.Names.{ruleset_order};
-ghost use Rattle.pf_ticket.specs.Tickets.{PlainOffer, offer_with, with_rule, with_table, with_offer, with_all, IsPlace, IsGap};
+ghost use Rattle.pf_ticket.specs.Tickets.{PlainInactive, offer_with, with_rule, with_table, with_offer, with_all, IsPlace, IsGap};
 
 use crate::name::RulesetName;
 use crate::slot::Slot;
@@ -138,8 +138,8 @@ impl Slots {
     ) -> Result<(), AllocError>
         requires within { place < length self.old }
         requires stands { IsPlace name.now self.old place }
-        requires room { (e : RulesetName × PlainOffer) → e ≡ get_or self.old place e → length e.1.loaded.rules < RULE_LIMIT }
-        ensures ok { OnOk result ((e : RulesetName × PlainOffer) → e ≡ get_or self.old place e →
+        requires room { (e : RulesetName × PlainInactive) → e ≡ get_or self.old place e → length e.1.loaded.rules < RULE_LIMIT }
+        ensures ok { OnOk result ((e : RulesetName × PlainInactive) → e ≡ get_or self.old place e →
             self.new ≡ with_offer self.old name.now (Some (offer_with e.1.ticket (with_rule e.1.loaded rule)))) }
         ensures err { OnErr result (self.new ≡ self.old) }
     {
@@ -158,7 +158,7 @@ impl Slots {
     ) -> Result<(), AllocError>
         requires within { place < length self.old }
         requires stands { IsPlace name.now self.old place }
-        ensures ok { OnOk result ((e : RulesetName × PlainOffer) → e ≡ get_or self.old place e →
+        ensures ok { OnOk result ((e : RulesetName × PlainInactive) → e ≡ get_or self.old place e →
             self.new ≡ with_offer self.old name.now (Some (offer_with e.1.ticket (with_table e.1.loaded table_name.now table)))) }
         ensures err { OnErr result (self.new ≡ self.old) }
     {

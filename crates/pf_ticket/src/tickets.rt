@@ -5,7 +5,7 @@ ghost use Rattle.pf_table.specs.Edits.{conflict_in, replaced};
 ghost use Rattle.pf_addr.specs.Refusing.{OrMemory};
 ghost use Rattle.pf_ticket.specs.declared.limits.TheConstants.{LAST_COUNT};
 ghost use Rattle.pf_ticket.specs.declared.refusal.TicketRefusal.TheVariants.{Memory};
-ghost use Rattle.pf_ticket.specs.{Mentions.{added, defined, load, moved, take_out, after, gives, switches, drops}, Names.{filter_at, table_ruleset_at, is_named, same_name}, Replies.{bad_count, twice_behind, twice_in, busy_in, list_check, commit_check, begin_reply, add_reply, table_reply, define_reply}, Tickets.{PlainOffer, offer_at, loaded, with_rule, with_table, given_from, IsPlace, fresh, tickets_with, content, is_valid}};
+ghost use Rattle.pf_ticket.specs.{Mentions.{added, defined, load, moved, take_out, after, gives, switches, drops}, Names.{filter_at, table_ruleset_at, is_named, same_name}, Replies.{bad_count, twice_behind, twice_in, busy_in, list_check, commit_check, begin_reply, add_reply, table_reply, define_reply}, Tickets.{PlainInactive, offer_at, loaded, with_rule, with_table, given_from, IsPlace, fresh, tickets_with, content, is_valid}};
 
 use crate::entry::RulesetTicket;
 use crate::limits::{ENTRY_LIMIT, LAST_COUNT};
@@ -147,7 +147,7 @@ impl Tickets {
     fn valid_place(&self, name: &RulesetName, ticket: Ticket) -> Option<usize>
         ensures within { IfSome result (λ i. i < length self.now.offers) }
         ensures some { IfSome result (IsPlace name.now self.now.offers) }
-        ensures ticket { IfSome result (λ i. (e : RulesetName × PlainOffer) → e ≡ get_or self.now.offers i e → e.1.ticket ≡ ticket) }
+        ensures ticket { IfSome result (λ i. (e : RulesetName × PlainInactive) → e ≡ get_or self.now.offers i e → e.1.ticket ≡ ticket) }
         ensures valid { is_some result ≡ is_valid self.now name.now ticket }
     {
         let place = self.slots.place_of(name).ok()?;
@@ -203,7 +203,7 @@ impl Tickets {
         requires within { place < length self.old.offers }
         requires stands { IsPlace name.now self.old.offers place }
         requires room { length (loaded self.old name.now).rules < RULE_LIMIT }
-        ensures ok { OnOk result ((e : RulesetName × PlainOffer) → e ≡ get_or self.old.offers place e →
+        ensures ok { OnOk result ((e : RulesetName × PlainInactive) → e ≡ get_or self.old.offers place e →
             self.new ≡ load self.old name.now e.1.ticket (with_rule (loaded self.old name.now) rule)) }
         ensures err { OnErr result (self.new ≡ self.old) }
     {
@@ -220,7 +220,7 @@ impl Tickets {
     ) -> Result<(), AllocError>
         requires within { place < length self.old.offers }
         requires stands { IsPlace name.now self.old.offers place }
-        ensures ok { OnOk result ((e : RulesetName × PlainOffer) → e ≡ get_or self.old.offers place e →
+        ensures ok { OnOk result ((e : RulesetName × PlainInactive) → e ≡ get_or self.old.offers place e →
             self.new ≡ load self.old name.now e.1.ticket (with_table (loaded self.old name.now) table_name.now table)) }
         ensures err { OnErr result (self.new ≡ self.old) }
     {
@@ -341,11 +341,11 @@ impl Tickets {
     pub fn check_all(&self, entries: &[RulesetTicket]) -> Result<(), TicketRefusal>
         ensures { result ≡ commit_check self.now entries.now }
     {
-        self.check_behind(&[], entries)
+        self.check_all_after(&[], entries)
     }
 
-    /// The same, after the tickets of these rulesets were voided.
-    pub fn check_behind(
+    /// As [`Tickets::check_all`], after the tickets of these rulesets were voided.
+    pub fn check_all_after(
         &self,
         voided: &[RulesetName],
         entries: &[RulesetTicket],
@@ -370,9 +370,9 @@ impl Tickets {
         }
     }
 
-    /// The same, after the tickets of these rulesets were voided.
+    /// As [`Tickets::contents`], after the tickets of these rulesets were voided.
     #[tactic(auto, using(crate::proofs::Voided::content_behind))]
-    pub fn contents_behind(
+    pub fn contents_after(
         &self,
         voided: &[RulesetName],
         name: &RulesetName,

@@ -45,5 +45,5 @@ abbrev pub Sees : PlainDurable → Book → List PlainChange → PlainShown → 
 Sees base history v x y w = IsPrefix v w × (w ≡ y.changes) × IsChain base history y
 
 -- the invariant of a shower: what is shown is a chain from the base, and so it is with all that is pending
-abbrev pub IsStage : PlainDurable → Book → PlainShown → List PlainShown → Type 0
-IsStage base history x pending = IsChain base history x × IsChain base history (offered_version x pending)
+abbrev pub IsShower : PlainDurable → Book → PlainShown → List PlainShown → Type 0
+IsShower base history x pending = IsChain base history x × IsChain base history (offered_version x pending)

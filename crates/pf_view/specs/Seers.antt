@@ -5,7 +5,7 @@ use Rattle.atomic_table.specs.Seated.{TableId}
 use Rattle.pf_core.specs.Durable.Changes.{PlainChange}
 
 -- a seer: the changes of the copy by which it judged last, or what it was given when it was made; the most that it learnt by a token; and
--- the copies at which it sits
+-- the copies by which it judges
 pub record PlainSeer : Type 0 where
   pub seen : List PlainChange
   pub learnt : List PlainChange
@@ -21,9 +21,9 @@ pub record PlainShower : Type 0 where
 abbrev pub IsNewSeer : PlainSeer → Type 0
 IsNewSeer s = (s.seen ≡ []) × (s.learnt ≡ [])
 
--- it sits at these copies
-abbrev pub SitsAt : TableId → PlainSeer → Type 0
-SitsAt copies s = s.copies ≡ copies
+-- it judges by these copies
+abbrev pub JudgesBy : TableId → PlainSeer → Type 0
+JudgesBy copies s = s.copies ≡ copies
 
 -- nothing is offered, and so nothing is shown
 abbrev pub IsNewShower : PlainShower → Type 0

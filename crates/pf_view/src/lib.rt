@@ -4,9 +4,9 @@
 //! disk, command, ticket or reply: whoever offers a change has kept it before.
 //!
 //! There are two copies of what is kept. A [`Shower`] takes changes by [`Publisher::offer`] and shows all of them at once by
-//! [`Publisher::show`]; a [`Seer`] judges by the copy that is shown. All of them rely on one rule: the copy that is shown is what the opening gave after the
-//! copy's changes, these are a front of the opening's history, each acknowledged, and what a seer saw is a front of them. Read first
-//! `specs/Copies.antt`, then `specs/Seers.antt`: what contracts see. The modules, each of which uses none below it:
+//! [`Publisher::show`]; a [`Seer`] judges by the copy that is shown. All of them rely on one rule: the copy that is shown is what the
+//! opening gave after the copy's changes, these are a front of the opening's history, each acknowledged, and what a seer saw is a front of
+//! them. Read first `specs/Copies.antt`, then `specs/Seers.antt`: what contracts see. The modules, each of which uses none below it:
 //!
 //! - `shown`: one copy, and what is published.
 //! - `law`: the rule.
@@ -17,10 +17,10 @@
 //! - `opening`: [`views`], which makes a shower and its seers.
 //!
 //! Proved, in the public contracts: each verdict is by what the opening gave after a front of its history, which begins with all that the
-//! seer saw and learnt before ([`Seer::judge`], [`Seer::learn`]); [`Publisher::show`] shows exactly what was offered; and a seer sits at the
-//! copies of its shower. That judging takes no lock, no memory and no handle is to be read in its signature. Only a test of `server_tests`
-//! shows that a seer gets an answer while its shower is there: contracts allow [`Gone`] and [`ViewFault::Places`] at any time. Neither
-//! proved nor tested: that [`Shower::told_seer`] gives a seer when a place is free.
+//! seer saw and learnt before ([`Seer::judge`], [`Seer::learn`]); [`Publisher::show`] shows exactly what was offered; and a seer judges by
+//! the copies of its shower. That judging takes no lock, no memory and no handle is to be read in its signature. Only a test of
+//! `server_tests` shows that a seer gets an answer while its shower is there: contracts allow [`Gone`] and [`ViewFault::Places`] at any
+//! time. Neither proved nor tested: that [`Shower::told_seer`] gives a seer when a place is free.
 #![tactic(auto)]
 
 mod law;

@@ -2,7 +2,7 @@
 ghost use Rattle.std.specs.{Prelude.{◌≡◌, ◌<◌, ◌≤◌, [], drop, vec_len, All, IfOk}, Arc.arc_value};
 ghost use Rattle.pf_view.specs.declared.opening.ViewFault.TheVariants.{Memory};
 ghost use Rattle.pf_past.specs.Pasts.{all_acked, trace_with};
-ghost use Rattle.pf_view.specs.{Copies.{IsChain, shown_with}, Seers.{IsNewSeer, IsNewShower, SitsAt}};
+ghost use Rattle.pf_view.specs.{Copies.{IsChain, shown_with}, Seers.{IsNewSeer, IsNewShower, JudgesBy}};
 
 use crate::law::{Law, Sight};
 use crate::seer::{CopyReader, Seer};
@@ -49,10 +49,10 @@ pub fn views<J: Naming, R: Wait + Drop>(
     ensures shower { IfOk result (λ r. IsNewShower r.0) }
     ensures seers { IfOk result (λ r. vec_len r.1 ≡ seers) }
     ensures new { IfOk result (λ r. All IsNewSeer r.1.items) }
-    ensures seated { IfOk result (λ r. All (SitsAt r.0.copies) r.1.items) }
+    ensures copies { IfOk result (λ r. All (JudgesBy r.0.copies) r.1.items) }
 {
     let writer: CopyWriter<J> = two_copies(alloc, base, start, seers)?;
-    match seated(alloc, writer.factory(), start, seers) {
+    match new_seers(alloc, writer.factory(), start, seers) {
         Ok(all) => Ok((Shower::new(writer, rt), all)),
         Err(fault) => {
             drop(writer.take(&rt));
@@ -74,7 +74,7 @@ fn two_copies<J: Naming>(
     ensures base { IfOk result (λ w. IsChain J.base J.history w.desk.shown.value) }
     ensures nothing_shown { IfOk result (λ w. w.desk.shown.value.changes ≡ []) }
     ensures nothing_pending { IfOk result (λ w. drop w.behind w.log.items ≡ []) }
-    ensures seated { IfOk result (λ w. w.desk.place.table_id ≡ (arc_value w.desk.from.board).shared.table_id) }
+    ensures copies { IfOk result (λ w. w.desk.place.table_id ≡ (arc_value w.desk.from.board).shared.table_id) }
 {
     let first = copy_of(alloc, base, start)?;
     let second = copy_of(alloc, base, start)?;
@@ -98,7 +98,7 @@ fn copy_of<J: Naming>(
 }
 
 // This many seers that saw nothing.
-fn seated<J: Naming>(
+fn new_seers<J: Naming>(
     alloc: Global,
     factory: &Factory<Shown, Sight, Law<J>>,
     start: &Front<J>,
@@ -107,7 +107,7 @@ fn seated<J: Naming>(
     requires start { start.now ≡ all_acked [] }
     ensures count { IfOk result (λ v. vec_len v ≡ seers) }
     ensures new { IfOk result (λ v. All IsNewSeer v.items) }
-    ensures seated { IfOk result (λ v. All (SitsAt (arc_value factory.now.board).shared.table_id) v.items) }
+    ensures copies { IfOk result (λ v. All (JudgesBy (arc_value factory.now.board).shared.table_id) v.items) }
 {
     let mut all = Vec::with_capacity(alloc, seers)?;
     for _ in 0..seers {
@@ -124,7 +124,7 @@ fn seated<J: Naming>(
 fn new_seer<J: Naming>(reader: CopyReader<J>, start: &Front<J>) -> Seer<J>
     requires start { start.now ≡ all_acked [] }
     ensures new { IsNewSeer result }
-    ensures seated { SitsAt reader.place.table_id result }
+    ensures copies { JudgesBy reader.place.table_id result }
 {
     Seer::told(reader, Token::new(start.again(), 0))
 }

@@ -4,7 +4,7 @@ ghost use mathlib.Core.List.{IsPrefix};
 ghost use Rattle.left_right.specs.Sides.{view};
 ghost use Rattle.pf_core.specs.Durable.Changes.{after, verdict};
 ghost use Rattle.pf_past.specs.Pasts.{all_acked};
-ghost use Rattle.pf_view.specs.Seers.{SitsAt, learns};
+ghost use Rattle.pf_view.specs.Seers.{JudgesBy, learns};
 
 use crate::law::{Law, Seeing, Sight};
 use crate::shown::Shown;
@@ -23,7 +23,7 @@ pub struct Gone;
 pub(crate) type CopyReader<J> = Reader<Shown, Sight, Law<J>>;
 
 /// A worker's own way into the published copies. Contracts see what it saw and what it learnt, both of them fronts of the history whose
-/// changes were all acknowledged, and which copies it sits at (`PlainSeer`).
+/// changes were all acknowledged, and which copies it judges by (`PlainSeer`).
 #[derive(Drop)]
 pub struct Seer<J: Naming> {
     reader: CopyReader<J>,
@@ -50,7 +50,7 @@ impl<J: Naming> Seer<J> {
     pub(crate) fn told(reader: CopyReader<J>, token: Token<J>) -> Seer<J>
         ensures seen { result.seen ≡ token }
         ensures learnt { result.learnt ≡ token }
-        ensures seated { SitsAt reader.place.table_id result }
+        ensures copies { JudgesBy reader.place.table_id result }
     {
         Seer {
             reader,

@@ -1,6 +1,6 @@
 //! What publishes to the copies.
 ghost use Rattle.std.specs.Prelude.{◌≡◌, [], drop, IfSome, OnOk, OnErr};
-ghost use Rattle.pf_view.specs.{Copies.{offered_version, IsChain}, Seers.{IsNewShower, SitsAt}};
+ghost use Rattle.pf_view.specs.{Copies.{offered_version, IsChain}, Seers.{IsNewShower, JudgesBy}};
 
 use crate::law::{Law, Seeing, Sight};
 use crate::publisher::Publisher;
@@ -19,8 +19,8 @@ pub(crate) type CopyWriter<J> = Writer<Shown, Operation, Sight, Law<J>>;
 
 /// Shows changes to all seers at once. Contracts see what is shown, what is offered, and which copies it publishes to (`PlainShower`).
 ///
-/// It keeps a handle on the runtime, since its [`Publisher::show`] and its drop wait for the seers that are judging. After its drop they return
-/// `Gone`.
+/// It keeps a handle on the runtime, since its [`Publisher::show`] and its drop wait for the seers that are judging. After its drop they
+/// return `Gone`.
 pub struct Shower<J: Naming, R: Wait + Drop> {
     writer: CopyWriter<J>,
     rt: R,
@@ -35,14 +35,14 @@ impl<J: Naming, R: Wait + Drop> Drop for Shower<J, R> {
 
 impl<J: Naming, R: Wait + Drop> Model for Shower<J, R> {
     ghost use Rattle.std.specs.Prelude.{drop};
-    ghost use Rattle.pf_view.specs.{Seers.PlainShower, Copies.{shower_with, IsStage}};
+    ghost use Rattle.pf_view.specs.{Seers.PlainShower, Copies.{shower_with, IsShower}};
 
     ghost Value = { PlainShower };
 
     ghost view = { λ s. shower_with s.writer.desk.shown.value (drop s.writer.behind s.writer.log.items) s.writer.desk.place.table_id };
 
     ghost invariant = { λ s.
-        IsStage J.base J.history s.writer.desk.shown.value (drop s.writer.behind s.writer.log.items) };
+        IsShower J.base J.history s.writer.desk.shown.value (drop s.writer.behind s.writer.log.items) };
 }
 
 impl<J: Naming, R: Wait + Drop> Shower<J, R> {
@@ -62,7 +62,7 @@ impl<J: Naming, R: Wait + Drop> Shower<J, R> {
     pub fn told_seer(&self) -> Option<Seer<J>>
         ensures seen { IfSome result (λ s. s.seen ≡ self.now.shown) }
         ensures learnt { IfSome result (λ s. s.learnt ≡ self.now.shown) }
-        ensures seated { IfSome result (SitsAt self.now.copies) }
+        ensures copies { IfSome result (JudgesBy self.now.copies) }
     {
         let reader = self.writer.factory().reader().ok()?;
         Some(Seer::told(reader, self.token()))

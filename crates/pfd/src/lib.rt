@@ -12,8 +12,8 @@
 //! The crate knows no text of a command or a reply, and doesn't judge, compare, change or keep rules, tables and states itself. Its own
 //! are what the program does with its words, and the statuses that it ends with.
 //!
-//! Proved: what `start` does with its words, and its status; which connections a listener serves. Only tested: what listeners and clients do with sockets, what becomes of
-//! files, the texts of help and of faults, and which words are refused.
+//! Proved: what `start` does with its words, and its status; which connections a listener serves. Only tested: what listeners and clients
+//! do with sockets, what becomes of files, the texts of help and of faults, and which words are refused.
 //!
 //! Read `specs/Program.antt` after `pf_session`'s definitions of a session.
 #![tactic(auto)]

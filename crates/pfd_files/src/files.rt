@@ -34,6 +34,9 @@ pub fn format_file<S: Files<File = File>>(
 }
 
 /// Opens the disk in a file, which is locked until the disk is dropped. The file must have `size` bytes, if a size is given.
+///
+/// `Input`: it can't be opened, or another program has locked it. `BadSize`: no disk has as many bytes as the file has, or they aren't
+/// `size`. Then come the faults of [`FileDisk::of`]. The file is closed after a fault, and nothing was written to it.
 pub fn open_file<S: Files<File = File>>(
     alloc: Global,
     files: &S,
@@ -52,7 +55,8 @@ pub fn open_file<S: Files<File = File>>(
     Ok(disk)
 }
 
-/// Writes what the disk in a file holds, as [`show_on`] does. The file is opened for reading only.
+/// Writes what the disk in a file holds, as [`show_on`] does, and with its faults. The file is opened for reading only; `Input`: it can't
+/// be.
 pub fn show_file<S: Files<File = File>, W: Write>(
     alloc: Global,
     files: &S,

@@ -5,7 +5,7 @@ ghost use Rattle.pf_addr.specs.Path.FirstBytes.{front_number, front_rises};
 
 use crate::path::name::Name;
 use crate::path::path::Path;
-use pf_key::{Key, Probe};
+use pf_key::{Key, Sought};
 use std::cmp::Ordering;
 
 // The byte at a place; zero past the end.
@@ -57,7 +57,7 @@ pub struct PathBytes<'a> {
     pub bytes: &'a [u8],
 }
 
-impl<'a> Probe<Path> for PathBytes<'a> {
+impl<'a> Sought<Path> for PathBytes<'a> {
     ghost key = { λ p. p.bytes.now };
 
     fn order(&self, other: &Path) -> Ordering {

@@ -5,7 +5,7 @@ ghost use Rattle.pf_form.specs.Bytes.Forms.{Form, number, times, counted, onto};
 use byteorder::{BigEndian, ByteOrder};
 use std::alloc::AllocError;
 
-/// Appends a number in one byte.
+/// Appends a number in one byte. Fails only when out of memory.
 #[tactic(auto, unfolding(crate::specs::Bytes::BasicForms::number_bytes))]
 pub fn push_u8(out: &mut Vec<u8>, number: u8) -> Result<(), AllocError>
     ensures { OnOk result (out.new.items ≡ onto (Form.number 1) number out.old.items) }
@@ -13,7 +13,7 @@ pub fn push_u8(out: &mut Vec<u8>, number: u8) -> Result<(), AllocError>
     out.extend_from_slice(&[number])
 }
 
-/// Appends a number in two bytes, big-endian.
+/// Appends a number in two bytes, big-endian. Fails only when out of memory.
 #[tactic(auto, unfolding(crate::specs::Bytes::BasicForms::number_bytes))]
 pub fn push_u16(out: &mut Vec<u8>, number: u16) -> Result<(), AllocError>
     ensures { OnOk result (out.new.items ≡ onto (Form.number 2) number out.old.items) }
@@ -23,7 +23,7 @@ pub fn push_u16(out: &mut Vec<u8>, number: u16) -> Result<(), AllocError>
     out.extend_from_slice(&bytes)
 }
 
-/// Appends a number in four bytes, big-endian.
+/// Appends a number in four bytes, big-endian. Fails only when out of memory.
 #[tactic(auto, unfolding(crate::specs::Bytes::BasicForms::number_bytes))]
 pub fn push_u32(out: &mut Vec<u8>, number: u32) -> Result<(), AllocError>
     ensures { OnOk result (out.new.items ≡ onto (Form.number 4) number out.old.items) }
@@ -33,7 +33,7 @@ pub fn push_u32(out: &mut Vec<u8>, number: u32) -> Result<(), AllocError>
     out.extend_from_slice(&bytes)
 }
 
-/// Appends a number in eight bytes, big-endian.
+/// Appends a number in eight bytes, big-endian. Fails only when out of memory.
 #[tactic(auto, unfolding(crate::specs::Bytes::BasicForms::number_bytes))]
 pub fn push_u64(out: &mut Vec<u8>, number: u64) -> Result<(), AllocError>
     ensures { OnOk result (out.new.items ≡ onto (Form.number 8) number out.old.items) }
@@ -43,7 +43,7 @@ pub fn push_u64(out: &mut Vec<u8>, number: u64) -> Result<(), AllocError>
     out.extend_from_slice(&bytes)
 }
 
-/// Appends a number in 16 bytes, big-endian.
+/// Appends a number in 16 bytes, big-endian. Fails only when out of memory.
 #[tactic(auto, unfolding(crate::specs::Bytes::BasicForms::number_bytes))]
 pub fn push_u128(out: &mut Vec<u8>, number: u128) -> Result<(), AllocError>
     ensures { OnOk result (out.new.items ≡ onto (Form.number 16) number out.old.items) }
@@ -53,14 +53,14 @@ pub fn push_u128(out: &mut Vec<u8>, number: u128) -> Result<(), AllocError>
     out.extend_from_slice(&bytes)
 }
 
-/// Appends the byte that says which way a choice goes.
+/// Appends the byte that says which way a choice goes. Fails only when out of memory.
 pub fn push_key(out: &mut Vec<u8>, key: u8) -> Result<(), AllocError>
     ensures { OnOk result (out.new.items ≡ out.old.items ++ key ∷ []) }
 {
     out.extend_from_slice(&[key])
 }
 
-/// Appends these bytes as they are.
+/// Appends these bytes as they are. Fails only when out of memory.
 pub fn push_bytes(out: &mut Vec<u8>, bytes: &[u8]) -> Result<(), AllocError>
     ensures constant { OnOk result (out.new.items ≡ out.old.items ++ bytes.now) }
     ensures text { OnOk result (out.new.items ≡ onto (times (length bytes.now) (Form.number 1)) bytes.now out.old.items) }
@@ -68,7 +68,7 @@ pub fn push_bytes(out: &mut Vec<u8>, bytes: &[u8]) -> Result<(), AllocError>
     out.extend_from_slice(bytes)
 }
 
-/// Appends at most 255 bytes, after their number in one byte.
+/// Appends at most 255 bytes, after their number in one byte. Fails only when out of memory.
 pub fn push_counted_bytes(out: &mut Vec<u8>, bytes: &[u8]) -> Result<(), AllocError>
     requires { length bytes.now < 256 }
     ensures { OnOk result (out.new.items ≡ onto (counted 1 (Form.number 1)) bytes.now out.old.items) }

@@ -18,6 +18,7 @@ pub enum Kind {
 /// The first word that isn't allowed at its place.
 #[derive(Clone, Copy, Debug, PartialEq, Eq)]
 pub struct Stop {
+    /// What is wrong with the word.
     pub kind: Kind,
     /// How many words were left, with the one at fault; 0 if a word is missing.
     pub left: usize,

@@ -39,7 +39,7 @@ pub fn takes<'a>(words: &mut Words<'a>, key: &[u8]) -> bool
     }
 }
 
-/// Takes this word, which has to come next.
+/// Takes this word, which has to come next. Fails with [`Kind::BadWord`] at the first word if it is another one, or if none is left.
 pub fn expect<'a>(words: &mut Words<'a>, key: &[u8]) -> Result<(), Stop>
     ensures { Moves (there key.now) result words.old.now words.new.now }
 {
@@ -52,7 +52,7 @@ pub fn expect<'a>(words: &mut Words<'a>, key: &[u8]) -> Result<(), Stop>
     }
 }
 
-/// Fails if a word is left.
+/// Fails with [`Kind::BadWord`] at the first word that is left, if any.
 pub fn end(words: &[&[u8]]) -> Result<(), Stop>
     ensures { GivesWhole (λ x. tt) result (end_at (texts words.now)) }
 {

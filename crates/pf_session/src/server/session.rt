@@ -165,8 +165,8 @@ pub fn serve<W: Wait, D: Disk + Drop, J: Chapter, H: Wait + Drop, G: Gate, R: Re
     )
 }
 
-/// The same, but the session's first call hands in the receipt that the caller has, if it has one. Afterwards the caller has the receipt
-/// of the session's last call, or its own if there was no call.
+/// As [`serve`], with its faults, but the session's first call hands in the receipt that the caller has, if it has one. Afterwards the
+/// caller has the receipt of the session's last call, or its own if there was no call.
 ///
 /// The front of the receipt that the caller then has begins with what each reply was answered by, as
 /// [`the_last_receipt_has_all`](crate::laws::the_last_receipt_has_all) says. So does the history of the Book that confirms it.

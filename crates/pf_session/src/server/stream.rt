@@ -211,8 +211,8 @@ pub fn serve_peer<W: Wait, D: Disk + Drop, J: Chapter, H: Wait + Drop, R: Read, 
     serve_peer_from(rt, alloc, reader, writer, shared, &mut last)
 }
 
-/// The same, but the first call hands in the receipt that the caller has, if it has one. Afterwards the caller has the receipt of the
-/// last message whose group wasn't refused whole, or its own if there was none.
+/// As [`serve_peer`], with its faults, but the first call hands in the receipt that the caller has, if it has one. Afterwards the caller
+/// has the receipt of the last message whose group wasn't refused whole, or its own if there was none.
 ///
 /// The front of the receipt that the caller then has begins with what each reply that has a receipt was answered by, as
 /// [`the_last_receipt_has_all`](crate::laws::the_last_receipt_has_all) says. So does the history of the Book that confirms it.

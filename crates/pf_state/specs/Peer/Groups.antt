@@ -1,7 +1,7 @@
 -- A message's groups, in order, and the fault of the first that is invalid. A group is an action, a zero byte, a count in two bytes, and
 -- that many records of 64 bytes.
 use Rattle.std.specs.Prelude.{◌≡◌, ◌≢◌, ◌*◌, ◌==◌, ◌&&◌, ◌||◌, nat_lt, ℕ, zero, suc, Bool, List, [], ◌∷◌, length, take, drop, Option, Some, None, Result, Ok, Err, if◌then◌else◌}
-use Rattle.pf_state.specs.{declared.{peer.fault.PeerFault.PeerFault, peer.fault.PeerFault.TheVariants.BadLength, peer.fault.PeerFault.TheVariants.BadAction, peer.fault.PeerFault.TheVariants.BadRecord, peer.message.Group.Group, peer.message.Group.TheVariants.Inserts, peer.message.Group.TheVariants.Deletes, peer.message.Group.TheVariants.Clears, peer.message.TheConstants.INSERT, peer.message.TheConstants.DELETE, peer.message.TheConstants.CLEAR, peer.record.TheConstants.RECORD}, Peer.Records.{insert_of, delete_of, clear_of}}
+use Rattle.pf_state.specs.{declared.{peer.fault.PeerFault.PeerFault, peer.fault.PeerFault.TheVariants.BadLength, peer.fault.PeerFault.TheVariants.BadAction, peer.fault.PeerFault.TheVariants.BadRecord, peer.message.Group.Group, peer.message.Group.TheVariants.Inserts, peer.message.Group.TheVariants.Deletes, peer.message.Group.TheVariants.Clears, peer.message.TheConstants.INSERT, peer.message.TheConstants.DELETE, peer.message.TheConstants.CLEAR, peer.record.TheConstants.RECORD_LENGTH}, Peer.Records.{insert_of, delete_of, clear_of}}
 use Rattle.pf_rule.specs.Bytes.{byte_at, number_at}
 
 infixl 10 ◌>>=◌
@@ -20,7 +20,7 @@ or_bad None = Err BadRecord
 abbrev pub records_of : {A : Type 0} → (List ℕ → Option A) → ℕ → List ℕ → Result (List A) PeerFault
 records_of reading zero bytes = Ok []
 records_of reading (suc n) bytes =
-    or_bad (reading (take RECORD bytes)) >>= λ x. records_of reading n (drop RECORD bytes) >>= λ xs. Ok (x ∷ xs)
+    or_bad (reading (take RECORD_LENGTH bytes)) >>= λ x. records_of reading n (drop RECORD_LENGTH bytes) >>= λ xs. Ok (x ∷ xs)
 
 -- ---- a group
 
@@ -35,7 +35,7 @@ content a n bytes = if a == INSERT then (records_of insert_of n bytes >>= λ xs.
 
 -- how many bytes its records take
 abbrev pub size_at : List ℕ → ℕ
-size_at bytes = RECORD * number_at 2 2 bytes
+size_at bytes = RECORD_LENGTH * number_at 2 2 bytes
 
 -- The group at the front of what is left of a message, and what follows it. The fault is the first in this order: fewer bytes than a
 -- group's header; an unknown action, or a byte other than 0 after it; records past the message's end; a record.

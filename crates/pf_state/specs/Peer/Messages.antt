@@ -6,12 +6,12 @@
 --       2     2 length of the whole message
 --       4    16 checksum
 use Rattle.std.specs.Prelude.{◌≡◌, ◌≤◌, ℕ, List, length, take, drop, Result, Ok, Err}
-use Rattle.pf_state.specs.{declared.{peer.fault.PeerFault.PeerFault, peer.message.Group.Group, peer.message.Message.Message, peer.fields.TheConstants.VERSION, peer.fields.TheConstants.MESSAGE_HEADER}, Peer.Groups.{AreGroups, BreakBehind}}
+use Rattle.pf_state.specs.{declared.{peer.fault.PeerFault.PeerFault, peer.message.Group.Group, peer.message.Message.Message, peer.fields.TheConstants.MESSAGE_VERSION, peer.fields.TheConstants.MESSAGE_HEADER}, Peer.Groups.{AreGroups, BreakBehind}}
 use Rattle.pf_rule.specs.Bytes.{byte_at, number_at}
 
 -- the bytes have the header of a message that is as long as they are
 pub record IsWhole (bytes : List ℕ) : Type 0 where
-  pub version : byte_at 0 bytes ≡ VERSION
+  pub version : byte_at 0 bytes ≡ MESSAGE_VERSION
   pub zero : byte_at 1 bytes ≡ 0
   pub measured : number_at 2 2 bytes ≡ length bytes
   pub enough : MESSAGE_HEADER ≤ length bytes

@@ -1,6 +1,6 @@
 -- A stream: messages one after the other, and then a message that isn't whole yet, or a fault.
 use Rattle.std.specs.Prelude.{◌≡◌, ◌≢◌, ◌⊎◌, ◌+◌, ◌*◌, ◌≤◌, ◌<◌, ℕ, List, [], ◌∷◌, ◌++◌, length, take}
-use Rattle.pf_state.specs.{declared.{peer.fault.PeerFault.PeerFault, peer.fault.PeerFault.TheVariants.BadVersion, peer.fault.PeerFault.TheVariants.BadLength, peer.message.Message.Message, peer.fields.TheConstants.VERSION, peer.fields.TheConstants.MESSAGE_HEADER, peer.stream.MessageStart.MessageStart, peer.stream.MessageStart.TheVariants.Partial, peer.stream.MessageStart.TheVariants.Whole, peer.stream.MessageStart.TheVariants.Bad}, Peer.Messages.{IsWhole, IsMessage, IsBroken}}
+use Rattle.pf_state.specs.{declared.{peer.fault.PeerFault.PeerFault, peer.fault.PeerFault.TheVariants.BadVersion, peer.fault.PeerFault.TheVariants.BadLength, peer.message.Message.Message, peer.fields.TheConstants.MESSAGE_VERSION, peer.fields.TheConstants.MESSAGE_HEADER, peer.stream.MessageStart.MessageStart, peer.stream.MessageStart.TheVariants.Partial, peer.stream.MessageStart.TheVariants.Whole, peer.stream.MessageStart.TheVariants.Bad}, Peer.Messages.{IsWhole, IsMessage, IsBroken}}
 
 -- how it ends so far
 pub data Ending : Type 0 where
@@ -12,20 +12,20 @@ pub data Ending : Type 0 where
 -- These bytes may become a message but aren't one yet: each byte so far is valid, and the length isn't reached.
 abbrev pub IsUnfinished : List ℕ → Type 0
 IsUnfinished [] = Unit {0}
-IsUnfinished (v ∷ []) = v ≡ VERSION
-IsUnfinished (v ∷ z ∷ []) = (v ≡ VERSION) × (z ≡ 0)
-IsUnfinished (v ∷ z ∷ a ∷ []) = (v ≡ VERSION) × (z ≡ 0)
-IsUnfinished (v ∷ z ∷ a ∷ b ∷ bytes) = (v ≡ VERSION) × (z ≡ 0) × (MESSAGE_HEADER ≤ a * 256 + b) × (length bytes + 4 < a * 256 + b)
+IsUnfinished (v ∷ []) = v ≡ MESSAGE_VERSION
+IsUnfinished (v ∷ z ∷ []) = (v ≡ MESSAGE_VERSION) × (z ≡ 0)
+IsUnfinished (v ∷ z ∷ a ∷ []) = (v ≡ MESSAGE_VERSION) × (z ≡ 0)
+IsUnfinished (v ∷ z ∷ a ∷ b ∷ bytes) = (v ≡ MESSAGE_VERSION) × (z ≡ 0) × (MESSAGE_HEADER ≤ a * 256 + b) × (length bytes + 4 < a * 256 + b)
 
 -- the version is wrong, as soon as a byte of it is there
 abbrev pub HasBadVersion : List ℕ → Type 0
 HasBadVersion [] = ⊥
-HasBadVersion (v ∷ []) = v ≢ VERSION
-HasBadVersion (v ∷ z ∷ bytes) = (v ≢ VERSION) ⊎ ((v ≡ VERSION) × (z ≢ 0))
+HasBadVersion (v ∷ []) = v ≢ MESSAGE_VERSION
+HasBadVersion (v ∷ z ∷ bytes) = (v ≢ MESSAGE_VERSION) ⊎ ((v ≡ MESSAGE_VERSION) × (z ≢ 0))
 
 -- the length is below that of the header, as soon as its two bytes are there
 abbrev pub HasShortLength : List ℕ → Type 0
-HasShortLength (v ∷ z ∷ a ∷ b ∷ bytes) = (v ≡ VERSION) × (z ≡ 0) × (a * 256 + b < MESSAGE_HEADER)
+HasShortLength (v ∷ z ∷ a ∷ b ∷ bytes) = (v ≡ MESSAGE_VERSION) × (z ≡ 0) × (a * 256 + b < MESSAGE_HEADER)
 HasShortLength bytes = ⊥
 
 -- the bytes begin with a whole message that has this fault

@@ -1,7 +1,7 @@
 -- The bytes of a message.
 use Rattle.std.specs.{Prelude.{◌+◌, ◌<◌, ℕ, List, [], ◌∷◌, ◌++◌, length, ◌^◌, ◌≡◌}, List.flat_map}
 use Rattle.byteorder.specs.Endian.{big_bytes}
-use Rattle.pf_state.specs.{declared.{peer.message.Group.Group, peer.message.Group.TheVariants.Inserts, peer.message.Group.TheVariants.Deletes, peer.message.Group.TheVariants.Clears, peer.message.Message.Message, peer.message.TheConstants.INSERT, peer.message.TheConstants.DELETE, peer.message.TheConstants.CLEAR, peer.fields.TheConstants.VERSION, peer.fields.TheConstants.MESSAGE_HEADER, peer.record.Delete.Delete, peer.record.Clear.Clear}, Peer.Records.{IsInsert, insert_bytes, delete_bytes, clear_bytes}}
+use Rattle.pf_state.specs.{declared.{peer.message.Group.Group, peer.message.Group.TheVariants.Inserts, peer.message.Group.TheVariants.Deletes, peer.message.Group.TheVariants.Clears, peer.message.Message.Message, peer.message.TheConstants.INSERT, peer.message.TheConstants.DELETE, peer.message.TheConstants.CLEAR, peer.fields.TheConstants.MESSAGE_VERSION, peer.fields.TheConstants.MESSAGE_HEADER, peer.record.Delete.Delete, peer.record.Clear.Clear}, Peer.Records.{IsInsert, insert_bytes, delete_bytes, clear_bytes}}
 
 -- an action, a zero, how many records, and the records
 abbrev pub group_with : {A : Type 0} → ℕ → (A → List ℕ) → List A → List ℕ
@@ -20,7 +20,7 @@ abbrev pub message_length : Message → ℕ
 message_length m = MESSAGE_HEADER + length (groups_bytes m.groups)
 
 abbrev pub message_bytes : Message → List ℕ
-message_bytes m = VERSION ∷ 0 ∷ (big_bytes 2 (message_length m) ++ (m.checksum ++ groups_bytes m.groups))
+message_bytes m = MESSAGE_VERSION ∷ 0 ∷ (big_bytes 2 (message_length m) ++ (m.checksum ++ groups_bytes m.groups))
 
 -- ---- which messages can be written
 

@@ -7,7 +7,7 @@ use crate::index::States;
 use crate::layouts::state::{EXPIRY_FROM, STATE_BYTES, StoredState, push_state};
 use crate::layouts::step::push_step;
 use crate::limits::STATE_LIMIT;
-use crate::state::{State, tell_whole};
+use crate::state::{State, sum_is_whole};
 use crate::step::{StateStep, StepList};
 use crate::table::StateTable;
 use pf_form::bytes::{Fault, Rest, Undecoded, are_in_order, push_u32, read_list};
@@ -70,7 +70,7 @@ fn states_of(alloc: Global, rows: &[StoredState]) -> Result<Vec<State>, AllocErr
 {
     let mut states = Vec::with_capacity(alloc, rows.len())?;
     for row in rows {
-        tell_whole(&row.state);
+        sum_is_whole(&row.state);
         states.push(row.state.shared()?)?;
     }
     Ok(states)
@@ -118,7 +118,7 @@ pub fn steps_are_allowed_in(steps: &[StateStep], version: u8) -> bool
 pub fn states_length(states: &StateTable) -> usize
     ensures { (version : ℕ) → result ≡ length_of (states_form version) (plain_states states.now) }
 {
-    states.tell_whole();
+    states.sums_are_whole();
     4 + STATE_BYTES * states.len()
 }
 

@@ -6,18 +6,18 @@ ghost use Rattle.pf_state.specs.Layouts.Steps.{step_form, plain_step, allows_ste
 use crate::layouts::state::{
     EXPIRY_FROM, STATE_BYTES, push_name, push_state, read_name, read_state,
 };
-use crate::state::tell_whole;
+use crate::state::sum_is_whole;
 use crate::step::StateStep;
 use pf_form::bytes::{
     Layout, Rest, Undecoded, expect, push_bytes, push_key, push_u32, read_u32, takes,
 };
 use std::alloc::{AllocError, Global};
 
-const INSERT: u8 = 1;
+const INSERT_STEP: u8 = 1;
 
-const DELETE: u8 = 2;
+const DELETE_STEP: u8 = 2;
 
-const CLEAR: u8 = 3;
+const CLEAR_STEP: u8 = 3;
 
 impl Layout for StateStep {
     ghost use Rattle.std.specs.Prelude.{true};
@@ -33,15 +33,15 @@ impl Layout for StateStep {
 
     #[tactic(auto, unfolding(crate::specs::Layouts::Steps::step_form))]
     fn read<'a>(alloc: Global, version: u8, from: &mut Rest<'a>) -> Result<StateStep, Undecoded> {
-        if takes(from, INSERT)? {
+        if takes(from, INSERT_STEP)? {
             let state = read_state(alloc, version, from)?;
             return Ok(StateStep::Insert(state));
         }
-        if takes(from, DELETE)? {
+        if takes(from, DELETE_STEP)? {
             let name = read_name(from)?;
             return Ok(StateStep::Delete(name));
         }
-        expect(from, &[CLEAR])?;
+        expect(from, &[CLEAR_STEP])?;
         let creator = read_u32(from)?;
         Ok(StateStep::Clear { creator })
     }
@@ -62,15 +62,15 @@ pub fn push_step(out: &mut Vec<u8>, version: u8, step: &StateStep) -> Result<(),
 {
     match step {
         StateStep::Insert(state) => {
-            push_key(out, INSERT)?;
+            push_key(out, INSERT_STEP)?;
             push_state(out, version, state)
         }
         StateStep::Delete(name) => {
-            push_key(out, DELETE)?;
+            push_key(out, DELETE_STEP)?;
             push_name(out, *name)
         }
         StateStep::Clear { creator } => {
-            push_bytes(out, &[CLEAR])?;
+            push_bytes(out, &[CLEAR_STEP])?;
             push_u32(out, *creator)
         }
     }
@@ -83,7 +83,7 @@ pub fn step_length(step: &StateStep) -> usize
 {
     match step {
         StateStep::Insert(state) => {
-            tell_whole(state);
+            sum_is_whole(state);
             1 + STATE_BYTES
         }
         StateStep::Delete(_) => 13,

@@ -5,7 +5,7 @@ ghost use Rattle.pf_rule.specs.Bytes.{number_at};
 use byteorder::{BigEndian, ByteOrder};
 
 /// The first byte of each message.
-pub(crate) const VERSION: u8 = 5;
+pub(crate) const MESSAGE_VERSION: u8 = 5;
 /// How many bytes the header of a message has.
 pub const MESSAGE_HEADER: usize = 20;
 

@@ -6,7 +6,7 @@ ghost use Rattle.pf_state.specs.declared.peer.message.Group.{Group};
 use crate::peer::fault::{PeerFault, ReadError};
 use crate::peer::fields::{MESSAGE_HEADER, u16_at};
 use crate::peer::message::{CLEAR, DELETE, Group, INSERT, Message, Records};
-use crate::peer::record::{RECORD, Record};
+use crate::peer::record::{PeerRecord, RECORD_LENGTH};
 use pf_form::bytes::Undecoded;
 use std::alloc::{AllocError, Global};
 
@@ -60,11 +60,11 @@ fn group_of(alloc: Global, bytes: &[u8]) -> Result<(Group, &[u8]), ReadError>
     }
     let count = u16_at(2, bytes) as usize;
     let behind = &bytes[GROUP_HEADER..];
-    if behind.len() < RECORD * count {
+    if behind.len() < RECORD_LENGTH * count {
         return Err(ReadError::Fault(PeerFault::BadLength));
     }
     let group = content_of(alloc, action, count, behind)?;
-    Ok((group, &behind[RECORD * count..]))
+    Ok((group, &behind[RECORD_LENGTH * count..]))
 }
 
 fn is_action(action: u8) -> bool
@@ -76,7 +76,7 @@ fn is_action(action: u8) -> bool
 // The content of this many records of an action.
 #[tactic(auto, unfolding(crate::specs::Peer::Groups::content))]
 fn content_of(alloc: Global, action: u8, count: usize, bytes: &[u8]) -> Result<Group, ReadError>
-    requires { RECORD * count ≤ length bytes.now }
+    requires { RECORD_LENGTH * count ≤ length bytes.now }
     ensures { Gives (λ g. g) result (content action count bytes.now) }
 {
     if action == INSERT {
@@ -89,14 +89,18 @@ fn content_of(alloc: Global, action: u8, count: usize, bytes: &[u8]) -> Result<G
 }
 
 // This many records from the front.
-fn records_of<T: Record>(alloc: Global, count: usize, bytes: &[u8]) -> Result<Records<T>, ReadError>
-    requires { RECORD * count ≤ length bytes.now }
+fn records_of<T: PeerRecord>(
+    alloc: Global,
+    count: usize,
+    bytes: &[u8],
+) -> Result<Records<T>, ReadError>
+    requires { RECORD_LENGTH * count ≤ length bytes.now }
     ensures { Gives (λ r. r) result (records_of T.reading count bytes.now) }
 {
     let mut records = Vec::new(alloc);
     let mut rest = bytes;
     for _ in 0..count {
-        let (record, behind) = rest.split_at(RECORD);
+        let (record, behind) = rest.split_at(RECORD_LENGTH);
         match T::from_row(alloc, record) {
             Ok(read) => records.push(read)?,
             Err(Undecoded::Memory) => return Err(ReadError::Memory),

@@ -6,9 +6,9 @@ ghost use Rattle.pf_state.specs.Laws.Messages as example;
 ghost use Rattle.pf_state.specs.Peer.Records.{PlainInsert, IsInsert, insert_form, plain_insert, insert_in, insert_bytes};
 ghost use Rattle.pf_state.specs.{Peer.Messages.IsMessage, Peer.One.IsOne, Peer.Streams.{Ending, Faulty, Reads, Feeds}, Peer.Written.{message_bytes, CanBeWritten}};
 
-use crate::peer::fields::{MESSAGE_HEADER, VERSION};
+use crate::peer::fields::{MESSAGE_HEADER, MESSAGE_VERSION};
 use crate::peer::message::{CLEAR, DELETE, INSERT, MESSAGE_LIMIT};
-use crate::peer::record::RECORD;
+use crate::peer::record::RECORD_LENGTH;
 
 /// The bytes so far have one reading: one list of messages, and one ending.
 #[tactic(auto, using(crate::proofs::OneReading::one_reading))]
@@ -57,8 +57,8 @@ pub fn one_message_has_one_answer()
 pub fn numbers_of_messages_are_these()
     ensures limit { MESSAGE_LIMIT ≡ 65_535 }
     ensures header { MESSAGE_HEADER ≡ 20 }
-    ensures record { RECORD ≡ 64 }
-    ensures version { VERSION ≡ 5 }
+    ensures record { RECORD_LENGTH ≡ 64 }
+    ensures version { MESSAGE_VERSION ≡ 5 }
     ensures actions { (INSERT ≡ 1) × (DELETE ≡ 6) × (CLEAR ≡ 0) }
 {}
 

@@ -3,7 +3,7 @@ ghost use Rattle.std.specs.Prelude.{◌≡◌, ◌++◌, length, Option, List, �
 ghost use Rattle.pf_state.specs.Peer.Records.{IsInsert, told_flow, Says};
 
 use crate::flow::Flow;
-use crate::peer::fields::{VERSION, u32_at, u64_at};
+use crate::peer::fields::{MESSAGE_VERSION, u32_at, u64_at};
 use pf_addr::Addr;
 use pf_form::bytes::{Layout, Undecoded, decode, push_u32, push_u64};
 use pf_rule::value::{Direction, Protocol};
@@ -11,7 +11,7 @@ use std::alloc::{AllocError, Global};
 use std::marker::Model;
 
 /// How many bytes a record has, whatever its action.
-pub const RECORD: usize = 64;
+pub const RECORD_LENGTH: usize = 64;
 
 /// What an insert says of a state. Contracts see an [`Insert`] as these fields.
 #[derive(Clone, Copy)]
@@ -108,8 +108,8 @@ pub struct Clear {
     pub creator: u32,
 }
 
-/// A kind of record, of [`RECORD`] bytes.
-pub trait Record: Drop + Sized {
+/// A kind of record, of [`RECORD_LENGTH`] bytes.
+pub trait PeerRecord: Drop + Sized {
     /// What the bytes of a record mean, if anything.
     ghost reading: { List ℕ → Option Self };
 
@@ -121,7 +121,7 @@ pub trait Record: Drop + Sized {
 
     /// Reads the record from the bytes. Fails if a field has an invalid value, or when out of memory.
     fn from_row(alloc: Global, row: &[u8]) -> Result<Self, Undecoded>
-        requires { length row.now ≡ RECORD }
+        requires { length row.now ≡ RECORD_LENGTH }
         ensures { Says result (reading row.now) };
 
     /// Appends the record to these bytes. When out of memory, how much of it was appended is unspecified.
@@ -130,7 +130,7 @@ pub trait Record: Drop + Sized {
         ensures kept { OnOk result (keeps self.now) };
 }
 
-impl Record for Insert {
+impl PeerRecord for Insert {
     ghost use Rattle.pf_state.specs.Peer.Records.{IsInsert, insert_of, insert_bytes};
 
     ghost reading = { insert_of };
@@ -141,19 +141,19 @@ impl Record for Insert {
 
     #[tactic(auto, unfolding(crate::specs::Peer::Records::insert_of))]
     fn from_row(alloc: Global, row: &[u8]) -> Result<Insert, Undecoded> {
-        decode::<Insert>(alloc, VERSION, row)
+        decode::<Insert>(alloc, MESSAGE_VERSION, row)
     }
 
     #[tactic(auto, using(crate::proofs::Inserts::insert_fits))]
     fn push(&self, out: &mut Vec<u8>) -> Result<(), AllocError> {
         // the insert's invariant lets it be written
         let _fields = self.fields();
-        self.write(VERSION, out)?;
+        self.write(MESSAGE_VERSION, out)?;
         Ok(())
     }
 }
 
-impl Record for Delete {
+impl PeerRecord for Delete {
     ghost use Rattle.pf_state.specs.Peer.Records.{delete_of, delete_bytes};
     ghost use Rattle.pf_state.specs.Peer.Written.{IsDelete};
 
@@ -178,7 +178,7 @@ impl Record for Delete {
     }
 }
 
-impl Record for Clear {
+impl PeerRecord for Clear {
     ghost use Rattle.pf_state.specs.Peer.Records.{clear_of, clear_bytes};
     ghost use Rattle.pf_state.specs.Peer.Written.{IsClear};
 

@@ -3,7 +3,7 @@ ghost use Rattle.std.specs.Prelude.{◌≡◌, IfOk};
 ghost use Rattle.pf_state.specs.{Peer.Outcomes.ending, Peer.Streams.{Reads, IsFront}};
 
 use crate::peer::fault::PeerFault;
-use crate::peer::fields::{MESSAGE_HEADER, VERSION};
+use crate::peer::fields::{MESSAGE_HEADER, MESSAGE_VERSION};
 use crate::peer::groups::message_of;
 use crate::peer::message::Message;
 use std::alloc::{AllocError, Global};
@@ -73,7 +73,7 @@ fn front_of(bytes: &[u8]) -> MessageStart
     if bytes.is_empty() {
         return MessageStart::Partial;
     }
-    if bytes[0] != VERSION || (bytes.len() > 1 && bytes[1] != 0) {
+    if bytes[0] != MESSAGE_VERSION || (bytes.len() > 1 && bytes[1] != 0) {
         return MessageStart::Bad(PeerFault::BadVersion);
     }
     if bytes.len() < 4 {

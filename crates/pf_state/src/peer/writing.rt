@@ -3,14 +3,14 @@ ghost use Rattle.std.specs.Prelude.{◌≡◌, ◌++◌, ◌<◌, ◌≤◌, ◌
 ghost use Rattle.byteorder.specs.Endian.{big_bytes};
 ghost use Rattle.pf_state.specs.{Peer.Messages.IsMessage, Peer.Written.{message_bytes, message_length, groups_bytes, group_bytes, group_with, Each, IsGroup}};
 
-use crate::peer::fields::{MESSAGE_HEADER, VERSION};
+use crate::peer::fields::{MESSAGE_HEADER, MESSAGE_VERSION};
 use crate::peer::message::{CLEAR, DELETE, Group, INSERT, MESSAGE_LIMIT, Message};
-use crate::peer::record::Record;
+use crate::peer::record::PeerRecord;
 use byteorder::{BigEndian, ByteOrder};
 use std::alloc::{AllocError, Global};
 
 /// The bytes of a message, which are read back as that message. The caller ensures that the whole fits in
-/// [`MESSAGE_LIMIT`](crate::peer::MESSAGE_LIMIT) bytes: its header, 4 bytes for each group and [`RECORD`](crate::peer::RECORD) for each
+/// [`MESSAGE_LIMIT`](crate::peer::MESSAGE_LIMIT) bytes: its header, 4 bytes for each group and [`RECORD_LENGTH`](crate::peer::RECORD_LENGTH) for each
 /// record. The only error is out of memory.
 pub fn write_peer(alloc: Global, message: &Message) -> Result<Vec<u8>, AllocError>
     requires { message_length message.now ≤ MESSAGE_LIMIT }
@@ -20,7 +20,7 @@ pub fn write_peer(alloc: Global, message: &Message) -> Result<Vec<u8>, AllocErro
     let mut groups = Vec::new(alloc);
     push_groups(&mut groups, message.groups.as_slice())?;
     let mut out = Vec::new(alloc);
-    out.extend_from_slice(&[VERSION, 0])?;
+    out.extend_from_slice(&[MESSAGE_VERSION, 0])?;
     push_u16(&mut out, (MESSAGE_HEADER + groups.len()) as u16)?;
     out.extend_from_slice(&message.checksum)?;
     out.extend_from_slice(&groups)?;
@@ -50,7 +50,11 @@ fn push_group(out: &mut Vec<u8>, group: &Group) -> Result<(), AllocError>
     }
 }
 
-fn push_records<T: Record>(out: &mut Vec<u8>, action: u8, records: &[T]) -> Result<(), AllocError>
+fn push_records<T: PeerRecord>(
+    out: &mut Vec<u8>,
+    action: u8,
+    records: &[T],
+) -> Result<(), AllocError>
     requires { length records.now < 65536 }
     ensures written { OnOk result (out.new.items ≡ out.old.items ++ group_with action T.writing records.now) }
     ensures kept { OnOk result (Each T.keeps records.now) }

@@ -10,6 +10,7 @@ pub trait AsChange {
 
     ghost as_plain: { Self → PlainChange };
 
+    /// The change.
     fn as_change(&self) -> &Change
         ensures { result.now ≡ as_plain self.now };
 }

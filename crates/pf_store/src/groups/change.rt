@@ -6,10 +6,10 @@ ghost use Rattle.pf_core.specs.Durable.Changes.{expires};
 ghost use Rattle.pf_state.specs.Layouts.States.{has_expiry};
 ghost use Rattle.pf_store.specs.Groups.{EditShape, edit_form, expire_form, change_form, plain_record, has_form, allows_record};
 
+use crate::groups::facts::record_is_its_data;
 use crate::groups::items::{have_form, items_are_allowed_in, push_items, read_items};
 use crate::groups::recorded::Recorded;
 use crate::groups::tables::{push_entries, read_entries};
-use crate::groups::telling::tells;
 use pf_addr::path::{Path, TableName};
 use pf_core::{Change, ChangeKind, EntryList};
 use pf_form::bytes::{
@@ -60,27 +60,27 @@ impl Layout for Recorded {
 
     #[tactic(auto, using(crate::proofs::RecordedForms::formed, crate::proofs::Allowing::allowed))]
     fn write(&self, version: u8, out: &mut Vec<u8>) -> Result<(), AllocError> {
-        tells(self);
+        record_is_its_data(self);
         push_record(out, version, self)
     }
 }
 
 // A table's path and name, and entries as handed in.
 #[derive(Drop)]
-struct TableEdit {
+struct StoredEdit {
     path: Path,
     name: TableName,
     entries: EntryList,
 }
 
 #[tactic(auto, unfolding(crate::specs::Groups::edit_form))]
-fn read_edit<'a>(alloc: Global, version: u8, from: &mut Rest<'a>) -> Result<TableEdit, Undecoded>
+fn read_edit<'a>(alloc: Global, version: u8, from: &mut Rest<'a>) -> Result<StoredEdit, Undecoded>
     ensures { Reads {a = EditShape} (λ e. (e.path, (e.name, plain_entries e.entries))) edit_form result from.old.now from.new.now }
 {
     let path = Path::read(alloc, version, from)?;
     let name = TableName::read(alloc, version, from)?;
     let entries = read_entries(alloc, version, from)?;
-    Ok(TableEdit {
+    Ok(StoredEdit {
         path,
         name,
         entries: EntryList::new(entries),

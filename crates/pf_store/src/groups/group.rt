@@ -6,9 +6,9 @@ ghost use Rattle.pf_store.specs.{Groups.{change_form, group_form, have_form, hav
 
 use crate::groups::as_change::AsChange;
 use crate::groups::change::{OPEN, has_change_form, is_allowed_in, push_change, push_record};
+use crate::groups::facts::{change_is_its_data, record_is_its_data};
 use crate::groups::fault::GroupFault;
 use crate::groups::recorded::Recorded;
-use crate::groups::telling::{tell_change, tells};
 use pf_core::GROUP_LIMIT;
 use pf_form::bytes::{
     Fault, Layout, Rest, Undecoded, decode, push_bytes, push_u8, push_u32, read_times, read_u8,
@@ -47,7 +47,7 @@ impl Layout for StoredGroup {
 
     #[tactic(auto, using(crate::proofs::RecordedForms::group_formed, crate::proofs::Allowing::group_allowed))]
     fn write(&self, version: u8, out: &mut Vec<u8>) -> Result<(), AllocError> {
-        tell_records(self.records.as_slice());
+        records_are_their_data(self.records.as_slice());
         push_records(out, version, self.records.as_slice())
     }
 }
@@ -71,11 +71,11 @@ fn is_group<T>(records: &[T]) -> bool
     !records.is_empty() && records.len() <= GROUP_LIMIT
 }
 
-fn tell_records(records: &[Recorded])
+fn records_are_their_data(records: &[Recorded])
     ensures { map record_in (map plain_record records.now) ≡ records.now }
 {
     for recorded in records {
-        tells(recorded);
+        record_is_its_data(recorded);
     }
 }
 
@@ -92,11 +92,11 @@ fn push_records(out: &mut Vec<u8>, version: u8, records: &[Recorded]) -> Result<
     Ok(())
 }
 
-fn tell_changes<C: AsChange>(changes: &[C])
+fn changes_are_their_data<C: AsChange>(changes: &[C])
     ensures { map record_in (map plain_record (made_all (map C.as_plain changes.now))) ≡ made_all (map C.as_plain changes.now) }
 {
     for change in changes {
-        tell_change(change.as_change());
+        change_is_its_data(change.as_change());
     }
 }
 
@@ -191,7 +191,7 @@ fn push_group<C: AsChange>(out: &mut Vec<u8>, version: u8, changes: &[C]) -> Res
     ensures { OnOk result ((payload : List ℕ) × (out.new.items ≡ out.old.items ++ payload)
         × IsRecorded version (made_all (map C.as_plain changes.now)) payload) }
 {
-    tell_changes(changes);
+    changes_are_their_data(changes);
     push_changes(out, version, changes)
 }
 
@@ -233,7 +233,7 @@ pub fn read_group(alloc: Global, version: u8, bytes: &[u8]) -> Result<Vec<Record
 {
     match decode::<StoredGroup>(alloc, version, bytes) {
         Ok(group) => {
-            tell_records(group.records.as_slice());
+            records_are_their_data(group.records.as_slice());
             Ok(group.records)
         }
         Err(Undecoded::Memory) => Err(GroupFault::Memory),

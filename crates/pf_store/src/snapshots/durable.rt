@@ -10,9 +10,9 @@ ghost use Rattle.pf_core.specs.Durable.Forms.{allows, durable_length, tick_form,
 ghost use Rattle.pf_store.specs.{Durables.{durable_has_form, durable_has_form_in, IsDurable}, Lengths.snapshot_length, Snapshots.EndsInSnapshot};
 
 use crate::groups::GroupFault;
+use crate::snapshots::facts::durable_is_its_data;
 use crate::snapshots::rulesets::{push_rulesets, read_rulesets};
 use crate::snapshots::tables::{push_tables, read_tables};
-use crate::snapshots::telling::tell_durable;
 use pf_anchor::{Config, Placed, PlacedTable};
 use pf_core::Durable;
 use pf_form::bytes::{
@@ -58,7 +58,7 @@ impl Layout for Snapshot {
 
     #[tactic(auto, using(crate::proofs::Durables::durable_formed, crate::proofs::Allowing::snapshot_allowed))]
     fn write(&self, version: u8, out: &mut Vec<u8>) -> Result<(), AllocError> {
-        tell_durable(&self.durable);
+        durable_is_its_data(&self.durable);
         push_durable(out, version, &self.durable)
     }
 }
@@ -138,7 +138,7 @@ pub(crate) fn push_snapshot(
     requires allowed { allows version durable.now ≡ true }
     ensures { OnOk result (EndsInSnapshot version durable.now out.old.items out.new.items) }
 {
-    tell_durable(durable);
+    durable_is_its_data(durable);
     push_durable(out, version, durable)
 }
 
@@ -171,7 +171,7 @@ pub fn read_durable(alloc: Global, version: u8, bytes: &[u8]) -> Result<Durable,
 {
     match decode::<Snapshot>(alloc, version, bytes) {
         Ok(snapshot) => {
-            tell_durable(&snapshot.durable);
+            durable_is_its_data(&snapshot.durable);
             Ok(snapshot.durable)
         }
         Err(Undecoded::Memory) => Err(GroupFault::Memory),

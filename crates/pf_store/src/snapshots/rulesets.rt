@@ -98,7 +98,7 @@ pub(crate) fn read_rulesets<'a>(
 }
 
 // That the rulesets are a map: the contract of `rules_at` says so.
-fn tell_map(config: &Config)
+fn rulesets_are_a_map(config: &Config)
     ensures { IsMap config.now.rulesets }
 {
     let _rules = config.rules_at(&Path::main());
@@ -116,7 +116,7 @@ pub(crate) fn push_rulesets(
     ensures written { OnOk result (out.new.items ≡ onto (rulesets_form version) (map plain_ruled config.now.rulesets) out.old.items) }
     ensures fits { OnOk result (Fits (rulesets_form version) (map plain_ruled config.now.rulesets)) }
 {
-    tell_map(config);
+    rulesets_are_a_map(config);
     push_u32(out, config.ruleset_count() as u32)?;
     for placed in config.each_ruleset() {
         push_rules(out, version, placed)?;

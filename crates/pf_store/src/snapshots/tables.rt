@@ -102,7 +102,7 @@ pub(crate) fn read_tables<'a>(
 }
 
 // That the tables are a map: the contract of `table_at` says so. Without tables there is no place to ask for, and none is needed.
-fn tell_map(config: &Config)
+fn tables_are_a_map(config: &Config)
     ensures { IsTableMap config.now.tables }
 {
     if let Some(first) = config.each_table().next() {
@@ -130,7 +130,7 @@ pub(crate) fn push_tables(out: &mut Vec<u8>, version: u8, config: &Config) -> Re
     ensures written { OnOk result (out.new.items ≡ onto kept_tables_form (map plain_tabled config.now.tables) out.old.items) }
     ensures fits { OnOk result (Fits kept_tables_form (map plain_tabled config.now.tables)) }
 {
-    tell_map(config);
+    tables_are_a_map(config);
     push_u32(out, config.table_count() as u32)?;
     for placed in config.each_table() {
         push_placed(out, version, placed)?;

@@ -1,6 +1,6 @@
 -- What edits leave: the sign that each network then has, and that the table stays in order.
 use Rattle.std.proofs.{Common.{◌≡◌, ◌≤◌, T, Bool, true, false, not, cond, ◌&&◌, ◌||◌, List, [], ◌∷◌, ◌++◌, length, Option, Some, None, is_some, refl, sym, ap, ◌∙◌, true≢false, arith}, lemmas.List.Folds.list_any-append}
-use Rattle.std.specs.{Bool.beq, Cmp.{alike_right, eq_by_cmp_equiv}, FinMap.{put, is_sorted}, FinMap.Entries.{by_order, where_key, below_all, find-put, find-where_key, find_tied, is_sorted-put, is_sorted-where_key, same_entries}, List.{list_any, AllByRecursion}, Option.option_or, Ordering.{eq_by_cmp, is_eq, is_lt}, declared.{cmp.Ordering.Ordering, cmp.Ordering.TheVariants.Less, cmp.Ordering.TheVariants.Equal, cmp.Ordering.TheVariants.Greater}}
+use Rattle.std.specs.{Bool.beq, Cmp.{alike_right, eq_by_cmp_equiv}, FinMap.{put, is_sorted}, FinMap.Entries.{by_order, where_key, find-put, find-where_key, find_tied, is_sorted-put, is_sorted-where_key, same_entries}, List.{list_any, AllByRecursion}, Option.option_or, Ordering.{eq_by_cmp, is_eq}, declared.{cmp.Ordering.Ordering, cmp.Ordering.TheVariants.Less, cmp.Ordering.TheVariants.Equal, cmp.Ordering.TheVariants.Greater}}
 use Rattle.pf_addr.specs.Address.{PlainNet}
 use Rattle.pf_table.specs.{Entries.PlainEntry, Tables.sign_of, Edits.{with_entry, added, is_sign, has_entry, without_entry, deleted, same_entry, is_opposite}}
 use Rattle.pf_addr.specs.{NetOrder.net_order, Laws.NetOrder.{net_total, net_same}}
@@ -122,26 +122,6 @@ agree_push (e ∷ es) x agree none = (any, agree_push es x agree.1 (or_right _ _
 
   any : list_any (is_opposite e) (es ++ x ∷ []) ≡ false
   any = list_any-append (is_opposite e) es (x ∷ []) ∙ ap (λ b. b || (is_opposite e x || false)) agree.0 ∙ ap (λ b. b || false) (opposite_back e x ∙ or_left _ _ none)
-
-none_opposite : (e : PlainEntry) (es : List PlainEntry) → T (below_all net_order e.0 es) → list_any (is_opposite e) es ≡ false
-none_opposite e [] h = refl
-none_opposite e (f ∷ es) h = by (net_order e.0 f.0) h (none_opposite e es) where
-  by : (r : Ordering) → T (is_lt r && below_all net_order e.0 es) → (T (below_all net_order e.0 es) → list_any (is_opposite e) es ≡ false) → ((is_eq r && beq (not e.1) f.1) || list_any (is_opposite e) es) ≡ false
-  by Less h rest = rest h
-  by Equal h rest = absurd h
-  by Greater h rest = absurd h
-
--- in a table no network has both signs
-pub sorted_agree : (es : List PlainEntry) → T (is_sorted net_order es) → Agree es
-sorted_agree [] is = tt
-sorted_agree (e ∷ es) is = (none_opposite e es (left _ _ is), sorted_agree es (right _ _ is)) where
-  left : (a b : Bool) → T (a && b) → T a
-  left true b p = tt
-  left false b p = p
-
-  right : (a b : Bool) → T (a && b) → T b
-  right true b p = p
-  right false b p = absurd p
 
 -- ---- deleting
 

@@ -12,5 +12,5 @@ pub returns : goal.returns
 returns g c =
     let some : 0 < c.place_in-place.result = omega arith in
     let within : c.place_in-place.result - 1 < length c.args.slots.now = omega (arith, c.place_in-place.ensures.within) in
-    c.find.ensures ∙ ap (entry_at g.K.Key.order (g.Q.Probe.key c.args.sought.now)) c.part.ensures
-    ∙ read_at g.met.K.Key.total (g.Q.Probe.key c.args.sought.now) c.args.slots.now c.place_in-place.result c.index-slots-place.result some within c.index-slots-place.is c.place_in-place.ensures c.requires.sorted
+    c.find.ensures ∙ ap (entry_at g.K.Key.order (g.Q.Sought.key c.args.sought.now)) c.part.ensures
+    ∙ read_at g.met.K.Key.total (g.Q.Sought.key c.args.sought.now) c.args.slots.now c.place_in-place.result c.index-slots-place.result some within c.index-slots-place.is c.place_in-place.ensures c.requires.sorted

@@ -5,7 +5,7 @@ use Rattle.pf_map.proofs.level.part_up_to.Goals as goal
 
 pub returns-then-starts_behind : goal.returns-then-starts_behind
 returns-then-starts_behind g c =
-    let key = g.Q.Probe.key c.args.sought.now in
+    let key = g.Q.Sought.key c.args.sought.now in
     let slots = c.args.slots.now in
     let place = c.place_in-place.result in
     let some : 0 < place = omega arith in
@@ -16,7 +16,7 @@ returns-then-starts_behind g c =
 
 pub returns : goal.returns
 returns g c =
-    let key = g.Q.Probe.key c.args.sought.now in
+    let key = g.Q.Sought.key c.args.sought.now in
     let slots = c.args.slots.now in
     let place = c.place_in-place.result in
     let some : 0 < place = omega arith in

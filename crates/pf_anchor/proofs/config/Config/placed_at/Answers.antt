@@ -9,7 +9,7 @@ use Rattle.pf_anchor.proofs.config.Config.placed_at.Goals as goal
 
 pub returns-clause-rules : goal.returns-clause-rules
 returns-clause-rules g c =
-    let path = g.Q.Probe.key c.args.path.now in
+    let path = g.Q.Sought.key c.args.path.now in
     ruleset_found (λ e. e.now) c.get.result path (find path_order path c.args.self.now.rulesets)
     (subst (λ (x : PlainConfig). option_map (λ e. e.now) c.get.result ≡ entry_at path_order path x.rulesets) c.self.view_is c.get.ensures.entry)
 

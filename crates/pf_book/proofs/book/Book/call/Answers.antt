@@ -12,7 +12,7 @@ use Rattle.pf_book.proofs.BookInvariant.{stepped-book}
 use Rattle.pf_book.proofs.OpenedBooks.{parts, disk-of, folded-of, fronts-of, core-of, moment-of, openable-of, stays-of, all-of}
 use Rattle.pf_book.proofs.Wanting.{wanted-can}
 use Rattle.pf_book.proofs.book.Book.call.Given.{Over}
-use Rattle.pf_book.proofs.book.Book.call.Goals.{else-self-len-via-then-self-len+else-may_change, else-self-len-via-else-self-len, After-step_ready, After-make, After-tell}
+use Rattle.pf_book.proofs.book.Book.call.Goals.{else-self-len-via-then-self-len+else-may_change, else-self-len-via-else-self-len, After-step_ready, After-make, After-answer_history}
 use Rattle.pf_book.proofs.book.Book.call.Goals as goal
 
 pub returns-then-may_change-clause-leads : goal.returns-then-may_change-clause-leads
@@ -137,37 +137,37 @@ returns-in-Ok-Wants-clause-openable g c =
     subst (λ (l : PlainBook g.row.D.Denot). StaysOpenable g.D.Disk.moment g.D.Disk.left_since l c.make.new.self) (became g (goal.at.returns-in-Ok-Wants-clause-openable g c).After-make) c.make.ensures.openable
 
 -- the history is asked
-told : (g : Over) (c : After-tell g) → IsTold c.in-Ok-OfHistory.command c.tell.result (world_book c.args.self.now) (world_book c.tell.new.self)
+told : (g : Over) (c : After-answer_history g) → IsTold c.in-Ok-OfHistory.command c.answer_history.result (world_book c.args.self.now) (world_book c.answer_history.new.self)
 told g c =
     let e = rw c.in-Ok-OfHistory.field-0-is at c.in-Ok-OfHistory.ensures in
-    subst (λ (l : PlainBook g.row.D.Denot). IsTold c.in-Ok-OfHistory.command c.tell.result (world_book l) (world_book c.tell.new.self)) (core-of c.self.invariant c.self.view_is c.step_ready.new.self e.left) c.tell.ensures.told
+    subst (λ (l : PlainBook g.row.D.Denot). IsTold c.in-Ok-OfHistory.command c.answer_history.result (world_book l) (world_book c.answer_history.new.self)) (core-of c.self.invariant c.self.view_is c.step_ready.new.self e.left) c.answer_history.ensures.told
 
 pub returns-in-Ok-OfHistory-clause-leads : goal.returns-in-Ok-OfHistory-clause-leads
 returns-in-Ok-OfHistory-clause-leads g c h at =
-    let here = (goal.at.returns-in-Ok-OfHistory-clause-leads g c).After-tell in
+    let here = (goal.at.returns-in-Ok-OfHistory-clause-leads g c).After-answer_history in
     let k = c.args.command.now in
-    let new = c.tell.new.self in
+    let new = c.answer_history.new.self in
     let e = rw c.in-Ok-OfHistory.field-0-is at c.in-Ok-OfHistory.ensures in
     let steps : Steps (world_book c.args.self.now) k (Ok (OfHistory c.in-Ok-OfHistory.command)) = subst (λ (l : PlainBook g.row.D.Denot). Steps (world_book l) k (Ok (OfHistory c.in-Ok-OfHistory.command))) c.self.view_is e.reply in
     let n : ℕ = g.D.Disk.fault_count c.args.self.now.disk in
     let m : ℕ = g.D.Disk.fault_count new.disk in
-    let still : m ≡ n = ap g.D.Disk.fault_count (c.tell.ensures.device ∙ sym (disk-of c.self.invariant c.self.view_is)) in
-    no-fault h (world_book new) (call k c.tell.result) new.shown (nat_lt n m) (not-more n m (omega (arith, still))) (history-leads h (world_book c.args.self.now) (world_book new) k c.in-Ok-OfHistory.command c.tell.result at steps (told g here))
+    let still : m ≡ n = ap g.D.Disk.fault_count (c.answer_history.ensures.device ∙ sym (disk-of c.self.invariant c.self.view_is)) in
+    no-fault h (world_book new) (call k c.answer_history.result) new.shown (nat_lt n m) (not-more n m (omega (arith, still))) (history-leads h (world_book c.args.self.now) (world_book new) k c.in-Ok-OfHistory.command c.answer_history.result at steps (told g here))
 
 pub returns-in-Ok-OfHistory-clause-any_moment : goal.returns-in-Ok-OfHistory-clause-any_moment
 returns-in-Ok-OfHistory-clause-any_moment g c =
-    moment-of c.self.invariant c.self.view_is g.D.Disk.moment g.D.Disk.left_since (g.met.D.Disk.only_now c.self.inside.store.disk) (calling c.args.command.now) c.tell.new.self.disk c.tell.ensures.device
+    moment-of c.self.invariant c.self.view_is g.D.Disk.moment g.D.Disk.left_since (g.met.D.Disk.only_now c.self.inside.store.disk) (calling c.args.command.now) c.answer_history.new.self.disk c.answer_history.ensures.device
 
 pub returns-in-Ok-OfHistory-clause-stays : goal.returns-in-Ok-OfHistory-clause-stays
 returns-in-Ok-OfHistory-clause-stays g c =
-    told-stays c.in-Ok-OfHistory.command c.tell.result c.args.self.now c.tell.new.self (told g (goal.at.returns-in-Ok-OfHistory-clause-stays g c).After-tell) (c.tell.ensures.device ∙ sym (disk-of c.self.invariant c.self.view_is))
+    told-stays c.in-Ok-OfHistory.command c.answer_history.result c.args.self.now c.answer_history.new.self (told g (goal.at.returns-in-Ok-OfHistory-clause-stays g c).After-answer_history) (c.answer_history.ensures.device ∙ sym (disk-of c.self.invariant c.self.view_is))
 
 pub returns-in-Ok-OfHistory-clause-given : goal.returns-in-Ok-OfHistory-clause-given
-returns-in-Ok-OfHistory-clause-given g c = told-given c.in-Ok-OfHistory.command c.tell.result _ _ (world_book c.args.self.now) (world_book c.tell.new.self) c.tell.ensures.told
+returns-in-Ok-OfHistory-clause-given g c = told-given c.in-Ok-OfHistory.command c.answer_history.result _ _ (world_book c.args.self.now) (world_book c.answer_history.new.self) c.answer_history.ensures.told
 
 pub returns-in-Ok-OfHistory-clause-openable : goal.returns-in-Ok-OfHistory-clause-openable
 returns-in-Ok-OfHistory-clause-openable g c =
-    openable-of c.self.invariant c.self.view_is g.D.Disk.moment g.D.Disk.left_since (g.met.D.Disk.only_now c.self.inside.store.disk) c.tell.new.self c.tell.ensures.device c.tell.ensures.generation c.tell.ensures.size
+    openable-of c.self.invariant c.self.view_is g.D.Disk.moment g.D.Disk.left_since (g.met.D.Disk.only_now c.self.inside.store.disk) c.answer_history.new.self c.answer_history.ensures.device c.answer_history.ensures.generation c.answer_history.ensures.size
 
 pub returns-in-Err-clause-leads : goal.returns-in-Err-clause-leads
 returns-in-Err-clause-leads g c h at =

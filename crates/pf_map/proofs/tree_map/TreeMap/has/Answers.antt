@@ -5,5 +5,5 @@ use Rattle.pf_map.proofs.tree_map.TreeMap.has.Goals as goal
 
 pub returns : goal.returns
 returns g c =
-    let key = g.Q.Probe.key c.args.sought.now in
+    let key = g.Q.Sought.key c.args.sought.now in
     c.is_some.ensures ∙ is_there (λ e. g.E.Holder.pair e.now) key c.get.result (find g.K.Key.order key c.args.self.now) c.get.ensures.entry

@@ -7,7 +7,7 @@ replaced_in-requires-clause-sorted g c = rw c.in_ok-into_slots.ensures.value c.i
 
 pub invariant_of-result : goal.invariant_of-result
 invariant_of-result g c =
-    let key = g.Q.Probe.key c.args.sought.now in
+    let key = g.Q.Sought.key c.args.sought.now in
     let sorted = c.in_ok-into_slots.ensures.sorted in
     let has = c.is_some.ensures ∙ is_some-map (λ e. (g.E.Holder.pair e.now).1) c.args.new in
     rw (c.in_ok-whole.ensures, c.in_ok-slots.ensures, c.in_ok-into_slots.ensures.value) (

@@ -5,11 +5,11 @@ use Rattle.pf_state.proofs.peer.groups.records_of.Goals as goal
 pub returns-in-Err-Fault : goal.returns-in-Err-Fault
 returns-in-Err-Fault g c =
     let none = rw c.in-Err-Fault.field-0-is at c.in-Err-Fault.ensures in
-    bad_here g.T.Record.reading c.args.count c.loop.counter c.loop.rest.now c.loop.records.items _ c.loop-test.true (ap g.T.Record.reading (sym c.split_at.ensures.front) ∙ none) c.loop.invariant.told
+    bad_here g.T.PeerRecord.reading c.args.count c.loop.counter c.loop.rest.now c.loop.records.items _ c.loop-test.true (ap g.T.PeerRecord.reading (sym c.split_at.ensures.front) ∙ none) c.loop.invariant.told
 
 pub loop-preserved : goal.loop-preserved
 loop-preserved g c =
-    let reading = g.T.Record.reading in
+    let reading = g.T.PeerRecord.reading in
     record {
       told = one_more_record reading c.args.count c.loop.counter c.loop.rest.now _ c.loop.records.items _ c.in-Ok.read _ c.loop-test.true
           (ap reading (sym c.split_at.ensures.front) ∙ c.in-Ok.ensures) c.in_ok-push-in-Ok.ensures.items c.split_at.ensures.back c.loop.invariant.told;

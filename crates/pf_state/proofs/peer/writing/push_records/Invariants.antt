@@ -6,6 +6,6 @@ use Rattle.pf_state.proofs.peer.writing.push_records.Given as goal
 abbrev pub invariant-loop-record : goal.invariant-loop-record
 invariant-loop-record g l = record {
   written : l.out.items ≡ l.fn.out.items
-      ++ (l.fn.action ∷ 0 ∷ (big_bytes 2 (length l.fn.records) ++ flat_map g.T.Record.writing (take l.record-index l.fn.records)));
-  kept : All g.T.Record.keeps (take l.record-index l.fn.records);
+      ++ (l.fn.action ∷ 0 ∷ (big_bytes 2 (length l.fn.records) ++ flat_map g.T.PeerRecord.writing (take l.record-index l.fn.records)));
+  kept : All g.T.PeerRecord.keeps (take l.record-index l.fn.records);
 }

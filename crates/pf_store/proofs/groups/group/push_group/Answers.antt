@@ -30,6 +30,6 @@ returns g c =
     (λ is fits. (
       bytes,
       is ∙ ap (λ (vs : Value (list ChangeShape)). onto form vs old) same ∙ onto_is form (map plain_record rs) old,
-      spelled c.args.version rs bytes c.tell_changes.ensures (record { fits = subst (λ (vs : Value (list ChangeShape)). Fits form vs) same fits; written = refl }),
+      spelled c.args.version rs bytes c.changes_are_their_data.ensures (record { fits = subst (λ (vs : Value (list ChangeShape)). Fits form vs) same fits; written = refl }),
     ))
     c.push_changes.ensures.written c.push_changes.ensures.fits

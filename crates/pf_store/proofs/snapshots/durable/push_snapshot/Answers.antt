@@ -9,5 +9,5 @@ both (Err e) f p q = tt
 
 pub returns : goal.returns
 returns c =
-    both c.push_durable.result (ends_in_snapshot c.args.version c.args.durable.now c.args.out.now.items c.push_durable.new.out.items c.tell_durable.ensures)
+    both c.push_durable.result (ends_in_snapshot c.args.version c.args.durable.now c.args.out.now.items c.push_durable.new.out.items c.durable_is_its_data.ensures)
     c.push_durable.ensures.fits c.push_durable.ensures.written

@@ -1,5 +1,5 @@
 use Rattle.pf_view.proofs.Steps.{admits}
-use Rattle.pf_view.proofs.opening.seated.Goals as goal
+use Rattle.pf_view.proofs.opening.new_seers.Goals as goal
 
 pub reader-requires : goal.reader-requires
 reader-requires g c = admits g.J.Naming.base g.J.Naming.history

@@ -1,6 +1,6 @@
 use Rattle.std.proofs.Common.{◌≡◌, map, take}
 use Rattle.pf_store.specs.Groups.{made_all, plain_record, record_in}
-use Rattle.pf_store.proofs.groups.group.tell_changes.Given as goal
+use Rattle.pf_store.proofs.groups.group.changes_are_their_data.Given as goal
 
 abbrev pub invariant-loop-change : goal.invariant-loop-change
 invariant-loop-change g l =

@@ -5,7 +5,7 @@ use Rattle.pf_core.specs.declared.reply.Answer.TheVariants as answer
 use Rattle.pf_core.specs.Worlds.{flat}
 use Rattle.pf_book.specs.Books.{PlainBook, world_book, log_in, IsTold}
 use Rattle.pf_book.proofs.OpenedBooks.{acked-of, log-of}
-use Rattle.pf_book.proofs.book.Book.tell.Goals as goal
+use Rattle.pf_book.proofs.book.Book.answer_history.Goals as goal
 
 pub returns-in-Log-clause-told : goal.returns-in-Log-clause-told
 returns-in-Log-clause-told g c =

@@ -1,7 +1,7 @@
 use Rattle.std.proofs.Common.{subst}
 use Rattle.pf_book.specs.Books.{IsOpenable}
 use Rattle.pf_book.proofs.OpenedBooks.{images-of, folded-of}
-use Rattle.pf_book.proofs.book.Book.rests.Goals as goal
+use Rattle.pf_book.proofs.book.Book.between_calls.Goals as goal
 
 pub returns-clause-images : goal.returns-clause-images
 returns-clause-images g c = images-of c.self.invariant c.self.view_is

@@ -8,21 +8,21 @@ use pf_core::{Change, ChangeKind, Item};
 use pf_rule::Rule;
 
 /// Gives contracts the fact that what is recorded is what its data say; it does nothing.
-pub(crate) fn tells(recorded: &Recorded)
+pub(crate) fn record_is_its_data(recorded: &Recorded)
     ensures { record_in (plain_record recorded.now) ≡ recorded.now }
 {
     match recorded {
-        Recorded::Made(change) => tell_change(change),
+        Recorded::Made(change) => change_is_its_data(change),
         Recorded::Opens(_) => {}
     }
 }
 
 #[tactic(auto, using(crate::proofs::RecordedForms::entries_told, crate::proofs::RecordedForms::steps_told))]
-pub(crate) fn tell_change(change: &Change)
+pub(crate) fn change_is_its_data(change: &Change)
     ensures { record_in (plain_record (Recorded.Made change.now)) ≡ Recorded.Made change.now }
 {
     match change.kind() {
-        ChangeKind::Commit(items) => tell_items(items.as_slice()),
+        ChangeKind::Commit(items) => items_are_their_data(items.as_slice()),
         ChangeKind::Add { .. } => {}
         ChangeKind::Delete { .. } => {}
         ChangeKind::Set { .. } => {}
@@ -32,34 +32,34 @@ pub(crate) fn tell_change(change: &Change)
     }
 }
 
-fn tell_items(items: &[Item])
+fn items_are_their_data(items: &[Item])
     ensures { map item_in (map plain_item items.now) ≡ items.now }
 {
     for item in items {
-        tell_item(item);
+        item_is_its_data(item);
     }
 }
 
 #[tactic(auto, using(crate::proofs::RecordedForms::tables_told))]
-fn tell_item(item: &Item)
+fn item_is_its_data(item: &Item)
     ensures { item_in (plain_item item.now) ≡ item.now }
 {
     if let Item::Rules(placed) = item {
-        tell_rules(placed.value().as_slice());
+        rules_are_their_data(placed.value().as_slice());
     }
 }
 
 /// Gives contracts the fact that each rule is what its data say; it does nothing.
-pub(crate) fn tell_rules(rules: &[Rule])
+pub(crate) fn rules_are_their_data(rules: &[Rule])
     ensures { map rule_of (map plain_rule rules.now) ≡ rules.now }
 {
     for rule in rules {
-        tell_rule(rule);
+        rule_is_its_data(rule);
     }
 }
 
 #[tactic(auto, using(pf_rule::proofs::RuleBytes::rule_again))]
-fn tell_rule(rule: &Rule)
+fn rule_is_its_data(rule: &Rule)
     ensures { rule_of (plain_rule rule.now) ≡ rule.now }
 {
     // the contract of `effect` says what makes the rule a rule

@@ -3,22 +3,22 @@ ghost use Rattle.std.specs.Prelude.{◌≡◌, map};
 ghost use Rattle.pf_anchor.specs.Forms.{plain_ruled, ruled_in};
 ghost use Rattle.pf_core.specs.Durable.Forms.{plain_durable, durable_in};
 
-use crate::groups::tell_rules;
+use crate::groups::rules_are_their_data;
 use pf_anchor::Config;
 use pf_core::Durable;
 
 /// Gives contracts the fact that what is kept is what its data say; it does nothing.
 #[tactic(auto, using(crate::proofs::Durables::durable_told))]
-pub(crate) fn tell_durable(durable: &Durable)
+pub(crate) fn durable_is_its_data(durable: &Durable)
     ensures { durable_in (plain_durable durable.now) ≡ durable.now }
 {
-    tell_rulesets(durable.config());
+    rulesets_are_their_data(durable.config());
 }
 
-fn tell_rulesets(config: &Config)
+fn rulesets_are_their_data(config: &Config)
     ensures { map ruled_in (map plain_ruled config.now.rulesets) ≡ config.now.rulesets }
 {
     for placed in config.each_ruleset() {
-        tell_rules(placed.value().as_slice());
+        rules_are_their_data(placed.value().as_slice());
     }
 }
