@@ -1,7 +1,7 @@
 -- Rules eight at a time: what a block gives, and what is left after it.
 use Rattle.std.proofs.Common.{◌≡◌, ◌<◌, ◌≤◌, ℕ, zero, suc, ◌+◌, ◌-◌, ◌*◌, Bool, true, false, cond, ◌&&◌, ◌||◌, List, [], ◌∷◌, length, take, drop, get_or, Option, Some, None, refl, sym, ap, ◌∙◌, arith, ⊎_elim}
 use Rattle.std.specs.{Prelude.{slice_get, bit_and}, Option.option_or}
-use Rattle.std.proofs.lemmas.{Bool.cases_lt, List.drop-drop, Option.slice_get-get_or}
+use Rattle.std.proofs.lemmas.{Bool.{cases_lt, or_parts}, List.drop-drop, Option.slice_get-get_or}
 use Rattle.pf_addr.specs.Path.References.{PlainReference}
 use Rattle.pf_rule.specs.{Rules.PlainRule, declared.{rule.Action.Action, rule.Effect.Effect, rule.Effect.TheVariants.Decide, rule.Effect.TheVariants.Evaluate}}
 use Rattle.pf_lanes.specs.{Masks.{is_set, AreEnds}, Answered.{bit_by, block_mark, eight_from, is_anchor, stops}}
@@ -66,10 +66,6 @@ passed effect test n (r ∷ rs) none =
     let rest = passed effect test (n + 1) rs (λ i. none (suc i)) in
     λ j. and_then (cond (none 0 j) (settled r.quick (effect n r)) (Open None)) (rest j)
 
-neither : (a b : Bool) → (a || b) ≡ false → a ≡ false
-neither false b e = refl
-neither true b e = e
-
 -- a rule before the last one that matches doesn't end the evaluation
 left_open : (f : PlainPlaced → Evaluated PlainMatch) (c : List PlainPlaced) (p : List ℕ) (n : ℕ) (b q : Bool) (e : Effect) → (b ≡ true → (q || is_anchor e) ≡ false) →
     (o : Option PlainMatch) × (cond b (settled q (effected f c p n e)) (Open None) ≡ Open o)
@@ -91,7 +87,7 @@ last_stands f c p test n [] lane r a is decides = absurd (cc (is.there))
 last_stands f c p test n (x ∷ xs) zero r a is decides =
     let same = same_entry x r is.there in
     let m : test x ≡ true = ap test same ∙ is.matches in
-    let q : x.quick ≡ false = neither x.quick (is_anchor x.effect) (is.free 0 m) in
+    let q : x.quick ≡ false = (or_parts x.quick (is_anchor x.effect) (is.free 0 m)).0 in
     let e : x.effect ≡ Decide a = ap (λ (y : PlainRule). y.effect) same ∙ decides in
     let rest = passed (λ k x. effected f c p k x.effect) test (n + 1) xs (λ i. is.none (suc i) (omega arith)) in
     (λ j. and_then (cond (m j) (settled (q j) (effected f c p n (e j))) (Open None)) (rest j))

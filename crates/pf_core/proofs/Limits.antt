@@ -5,6 +5,7 @@ use Rattle.pf_addr.specs.Path.Names.{name_order}
 use Rattle.pf_ticket.specs.{declared.{ticket.Ticket.Ticket, name.RulesetKind.RulesetKind, name.RulesetKind.TheVariants.Filter, name.RulesetKind.TheVariants.Table, entry.RulesetTicket.RulesetTicket}, Laws.Tickets.{IsFew, IsWithin as AreTicketsWithin, AreOnce}, Mentions.after as moved_by, Names.{tickets_from, ticket}, Tickets.{Loaded, PlainTickets, offered_as, loaded, content}}
 use Rattle.pf_core.specs.{Durable.Changes.{is_in_order, PlainDurable, PlainChange, applied, after}, History.tickets_in, Laws.Worlds.{CommitsNameOnce, given_by, tickets_since, GivesEachOnce, KeepsTheLimits, failed_by, failed_since}, Laws.Wanted.wants, declared.{command.Command.Command, command.HistoryCommand.HistoryCommand, reply.Answer.Answer, reply.Outcome.Outcome, reply.Refusal.Refusal, reply.Reply.Reply, reply.Reply.TheVariants.Answer as Answered, reply.Reply.TheVariants.Applied, reply.Reply.TheVariants.Stored, reply.Reply.TheVariants.Refused, step.Step.Step, step.Step.TheVariants.Done, step.Step.TheVariants.Wants, step.Step.TheVariants.OfHistory}, Calls.{call, mentions_of, mentions_of_group, replies_in, Call}, Commands.{item_of, items, step_by, may_change, mentioned}, Laws.Durable.IsWithin, Worlds.{CurrentOpening, log_of, durable_of, is_halted, step_in, told_of_history, room_for, or_refused, due_at, due, StandsIn, LegalReply, LegalReplies, State, up, down, raised, Upshot, Doing, idle, calling, grouping, Event, called, called_group, entered, learned, crashed, opened, refused_opening, flat, group_in, kept_groups, acked_by, is_fault, pending_by, acked_by_group, pending_by_group, grouped, changes_due, group_all, heard, heard_group, sighted, next, LegalCall, LegalGroup, IsLegal, state_after, IsLegalFrom, IsWorld}}
 use Rattle.pf_core.proofs.{Checks.named_none, Courses.{durable-amid, length-with, course-within, IsTaken, taken-or-not, accepted, group-told, unkept-group}, Groups.{IsKept, IsNotKept, kept-or-not, either, room-of}, Stepping.{AreTold, none-told, answered-told, left-told, applied-told, unhalted, change-within}, LongerWorlds.{flat-push, refused-unkept}, Switching.named-alone}
+use Rattle.pf_map.proofs.Tests.{true_of}
 use Rattle.pf_ticket.proofs.{TicketLimits.keeps_the_limits as tickets_keep, Twice.gives_each_once as once_given}
 
 -- ---- by the reply
@@ -342,13 +343,9 @@ few-unacknowledged first world h legal comes =
 
 -- ---- no name twice
 
-holds-true : (b : Bool) → T b → b ≡ true
-holds-true true h = refl
-holds-true false h = absurd h
-
 item-ordered : (k : RulesetKind) (p : List ℕ) (l : Loaded) → IsFew (offered_as k l) → is_in_order (item_of (record { kind = k; path = p }) (offered_as k l)) ≡ true
 item-ordered Filter p l few = refl
-item-ordered Table p l few = holds-true (is_sorted name_order l.tables) few.order
+item-ordered Table p l few = true_of (is_sorted name_order l.tables) few.order
 
 items-ordered : (t : PlainTickets) (es : List RulesetTicket) → AreTicketsWithin t → list_all is_in_order (items (content t) es) ≡ true
 items-ordered t [] all = refl

@@ -11,7 +11,7 @@ use Rattle.pf_ticket.specs.{declared.{entry.RulesetTicket.RulesetTicket, name.Ru
 use Rattle.pf_ticket.proofs.{Moves.{leaves_the_others as mentions_leave, commit_takes_out, gives-named}, Twice.otherwise_once}
 use Rattle.pf_core.specs.{declared.{durable.change.Item.Item, command.Command.TheVariants.Transact, command.Command.TheVariants.Edit, command.Command.TheVariants.States as OfStates, command.Command.TheVariants.Ask, command.Command.TheVariants.History, command.Transaction.TheVariants.Begin, command.Transaction.TheVariants.Add, command.Transaction.TheVariants.Define, command.Transaction.TheVariants.Commit, command.Transaction.TheVariants.Rollback}, Commands.{item_of, items, mentioned, is_accepted}, Durable.Changes.{PlainDurable, PlainChange, name_of, commits, rulesets_in, placed, tables_in, entries_at, applied}, Laws.Commands.{tables_offered, AreTablesSwitched, AreSwitched, SwitchesAll, LeaveTheOtherKind, KeepsNoneValid, MentionsTheNamed, LeavesTheOthers, RefusedMentionNothing}, Laws.Wanted.{IsCommitted, names-items, wants_commit}}
 use Rattle.pf_core.proofs.Edited.{same-keys}
-use Rattle.pf_map.proofs.Tests.{first_of, second_of, equal_of}
+use Rattle.pf_map.proofs.Tests.{first_of, second_of, untied_of, equal_of}
 
 -- ---- each ruleset by itself
 
@@ -78,15 +78,10 @@ none-of-name p (t ∷ ts) name old h = by (eq_by_cmp name_order name t.0) refl h
   by true is none rest = absurd (cc (none))
   by false is none rest = ap (λ (b : Bool). list_by table_order (placed p ts) (p, name) (cond b t.1 old)) (same-names p t.0 name ∙ is) ∙ rest none
 
-not-equal : (r : Ordering) → T (is_lt r) → is_eq r ≡ false
-not-equal Less h = refl
-not-equal Equal h = absurd h
-not-equal Greater h = refl
-
 below-none : (name : List ℕ) (tables : List PlainDefinedTable) → T (below_all name_order name tables) → find name_order name tables ≡ None
 below-none name [] h = refl
 below-none name (t ∷ ts) h =
-    ap (λ (b : Bool). cond b (Some t.1) (find name_order name ts)) (not-equal (name_order name t.0) (first_of (is_lt (name_order name t.0)) (below_all name_order name ts) h))
+    ap (λ (b : Bool). cond b (Some t.1) (find name_order name ts)) (untied_of (name_order name t.0) (first_of (is_lt (name_order name t.0)) (below_all name_order name ts) h))
     ∙ below-none name ts (second_of (is_lt (name_order name t.0)) (below_all name_order name ts) h)
 
 -- of tables in the order of their names the one of this name is read

@@ -1,8 +1,8 @@
 -- One call more of a device that keeps its calls.
-use Rattle.std.proofs.{Common.{◌≡◌, inl, inr, ⊎_elim, ◌⊎◌, ℕ, zero, suc, ◌+◌, ◌<◌, ◌≤◌, Bool, true, false, ◌&&◌, cond, List, [], ◌∷◌, ◌++◌, length, take, refl, sym, ◌∙◌, ap, subst, arith, append_assoc, take-append-drop, drop, Result, Ok, Err}, lemmas.List.{take_all, take-append-le, length_push, length-take, length-drop, drop-drop}, lemmas.Bool.{cases_lt, cases_eq, leb-true, le-leb}}
+use Rattle.std.proofs.{Common.{◌≡◌, inl, inr, ⊎_elim, ◌⊎◌, ℕ, zero, suc, ◌+◌, ◌<◌, ◌≤◌, Bool, true, false, ◌&&◌, cond, List, [], ◌∷◌, ◌++◌, length, take, refl, sym, ◌∙◌, ap, subst, arith, append_assoc, take-append-drop, drop, Result, Ok, Err}, lemmas.List.{take_all, take-append-le, length_push, length-take, length-drop, drop-drop}, lemmas.Bool.{cases_lt, cases_eq, leb-true, le-leb, or_parts}}
 use Rattle.std.specs.Prelude.{OnOk, OnErr}
 use Rattle.pf_disk.specs.{Disk.{IsImage, AreIn, Elapses, with_range, is_within, overwritten}, Calls.{Event, reading, writing, syncing, State, at_rest, after_event, after, is_sync, is_sync_at, counting, state_at, IsImageAt, LeftSince, fits_in, all_fit}, Past.at_past}
-use Rattle.pf_disk.proofs.Images.{wide_image, overwritten_elsewhere, neither_left, neither_right}
+use Rattle.pf_disk.proofs.Images.{wide_image, overwritten_elsewhere}
 
 pub after-push : (s : State) (events : List Event) (event : Event) → after s (events ++ event ∷ []) ≡ after_event (after s events) event
 after-push s [] event = refl
@@ -164,8 +164,8 @@ wrote first old_bytes new_bytes size old new at n bytes keeps fits len is writte
     record {
       keeps = it.keeps;
       unsynced = λ i out. marks i ∙ out;
-      still = λ i out. neither_left (set i) (is_within at n i) (sym (marks i) ∙ out);
-      marked = λ i out. neither_right (set i) (is_within at n i) (sym (marks i) ∙ out);
+      still = λ i out. (or_parts (set i) (is_within at n i) (sym (marks i) ∙ out)).0;
+      marked = λ i out. (or_parts (set i) (is_within at n i) (sym (marks i) ∙ out)).1;
       time = it.time;
     }
 

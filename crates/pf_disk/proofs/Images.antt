@@ -1,14 +1,6 @@
 -- What an image is, where nothing or one range is unsynced.
-use Rattle.std.proofs.{Common.{◌≡◌, inl, inr, ℕ, ◌+◌, ◌<◌, ◌≤◌, Bool, false, true, ◌||◌, List, ◌++◌, length, take, drop, refl, sym, ◌∙◌, ap, arith, rules, append_assoc}, lemmas.List.{ext_get_or, places, length-take, length-drop, get_or-take, get_or-drop, drop_at}, lemmas.Bool.cases_lt, lemmas.Bool.Decides.nat_tests}
+use Rattle.std.proofs.{Common.{◌≡◌, inl, inr, ℕ, ◌+◌, ◌<◌, ◌≤◌, Bool, false, true, ◌||◌, List, ◌++◌, length, take, drop, refl, sym, ◌∙◌, ap, arith, rules, append_assoc}, lemmas.List.{ext_get_or, places, length-take, length-drop, get_or-take, get_or-drop, drop_at}, lemmas.Bool.{cases_lt, or_parts, Decides.nat_tests}}
 use Rattle.pf_disk.specs.Disk.{IsImage, IsSynced, is_within, with_range, overwritten}
-
-pub neither_left : (a b : Bool) → (a || b) ≡ false → a ≡ false
-neither_left true b out = out
-neither_left false b out = refl
-
-pub neither_right : (a b : Bool) → (a || b) ≡ false → b ≡ false
-neither_right true b out = absurd cc
-neither_right false b out = out
 
 -- with nothing unsynced, the read alone
 pub only_read : (seen : List ℕ) (set : ℕ → Bool) (c : List ℕ) → IsSynced set → IsImage seen set c → c ≡ seen
@@ -38,7 +30,7 @@ wide_image at old bytes set c fits image =
     let elsewhere = overwritten_elsewhere at old bytes fits in
     record {
       same_length = image.same_length ∙ sym elsewhere.same_length;
-      agrees = λ i out. image.agrees i (neither_left (set i) (is_within at (length bytes) i) out) ∙ sym (elsewhere.agrees i (neither_right (set i) (is_within at (length bytes) i) out));
+      agrees = λ i out. image.agrees i (or_parts (set i) (is_within at (length bytes) i) out).0 ∙ sym (elsewhere.agrees i (or_parts (set i) (is_within at (length bytes) i) out).1);
     }
 
 -- a slice that no unsynced place is in

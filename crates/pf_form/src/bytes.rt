@@ -22,7 +22,7 @@ pub use fitting::{Fitting, all_fit, push_fitting, push_list};
 pub use laws::{bytes_have_one_value, refusals_have_one_reason, what_is_written_is_read};
 pub use layout::{Layout, Ordered};
 pub use lists::{are_in_order, read_list, read_ordered_list, read_times, write_each, write_list};
-pub use names::{push_padded, read_filled, read_padded};
+pub use names::{push_padded, read_filled};
 pub use reading::{
     Rest, expect, read_array, read_bytes, read_counted_bytes, read_u8, read_u16, read_u32,
     read_u64, read_u128, takes,

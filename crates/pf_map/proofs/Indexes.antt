@@ -8,7 +8,7 @@ use Rattle.std.specs.FinMap.Entries.{below_all, find_tied}
 use Rattle.std.specs.List.{AllByRecursion}
 use Rattle.std.specs.Option.{option_map_or}
 use Rattle.std.specs.Ordering.{ordering_reverse, eq_by_cmp, is_eq}
-use Rattle.std.proofs.lemmas.Cmp.{tied_itself}
+use Rattle.std.proofs.lemmas.{Bool.not-false, Cmp.tied_itself}
 use Rattle.pf_map.specs.Maps.{with_value, without}
 use Rattle.pf_map.proofs.{Maps.{once, replaces_the_key, stays_sorted}, Tests.{less_of, parts_of, equal_of, same_entry}}
 use Rattle.pf_map.specs.Indexes.{of_flow, is_clash, unflowed, IsIndex}
@@ -152,12 +152,9 @@ module _ {N F V : Type 0} {R : N → N → Ordering} {S : F → F → Ordering} 
     freed_by v None is free = none_left (flow v) (find R n es) is
     freed_by v (Some e) is free =
         let was = index.known (flow v) e is in
-        let name : e.0 ≡ n = tied_reads e.0 (not_not (eq_by_cmp R e.0 n) free) in
+        let name : e.0 ≡ n = tied_reads e.0 (not-false (eq_by_cmp R e.0 n) free) in
         let there : find R n es ≡ Some e.1 = ap (λ (q : N). find R q es) (sym name) ∙ was.0 in
-        ap (λ (old : Option V). find S (flow v) (unflowed S flow old fs)) there ∙ own_left (flow v) e.1 was.1 where
-          not_not : (b : Bool) → not b ≡ false → b ≡ true
-          not_not true h = refl
-          not_not false h = absurd (cc (h))
+        ap (λ (old : Option V). find S (flow v) (unflowed S flow old fs)) there ∙ own_left (flow v) e.1 was.1
 
     pub freed : (v : V) → is_clash R S flow es (n, v) ≡ false → find S (flow v) (unflowed S flow (find R n es) fs) ≡ None
     freed v free = freed_by v (find S (flow v) fs) refl (ap (λ (r : Option (N × V)). option_map_or (λ e. not (eq_by_cmp R e.0 n)) r false) (sym (flow_is_found es fs (flow v) index)) ∙ free)

@@ -1,17 +1,9 @@
 -- Maps that are made of lists in order, one entry after the other.
-use Rattle.std.proofs.{Common.{◌≡◌, T, Bool, true, false, List, [], ◌∷◌, ◌++◌, Some, refl, sym, ap, ◌∙◌, subst, true≢false}}
+use Rattle.std.proofs.{Common.{◌≡◌, T, Bool, true, List, [], ◌∷◌, ◌++◌, Some, refl, sym, ap, ◌∙◌, subst}}
 use Rattle.std.specs.{declared.{cmp.Ordering.Ordering, cmp.Ordering.TheVariants.Less, cmp.Ordering.TheVariants.Greater}, Cmp.IsTotalOrder, FinMap.{put, is_sorted}, FinMap.Entries.{below_all}, Ordering.{is_lt, ordering_reverse}}
 use Rattle.pf_map.specs.InOrder.{in_order}
 use Rattle.pf_map.specs.Maps.{without, with_value}
-use Rattle.pf_map.proofs.Tests.{first_of, second_of, less_of, both_of}
-
-holds : (b : Bool) → T b → b ≡ true
-holds true p = refl
-holds false p = absurd p
-
-tells : (b : Bool) → b ≡ true → T b
-tells true e = tt
-tells false e = absurd (true≢false (sym e))
+use Rattle.pf_map.proofs.Tests.{true_of, holds_of, first_of, second_of, less_of, both_of}
 
 module _ {K X : Type 0} {R : K → K → Ordering} (o : IsTotalOrder R) where
   below_last : (e : K × X) (es : List (K × X)) (k : K) (v : X) → T (below_all R e.0 (es ++ (k, v) ∷ [])) → R k e.0 ≡ Greater
@@ -52,11 +44,11 @@ module _ {K X : Type 0} {R : K → K → Ordering} (o : IsTotalOrder R) where
   sorted_of [] h = tt
   sorted_of (e ∷ []) h = tt
   sorted_of (e ∷ f ∷ es) h =
-      let rest : T (is_sorted R (f ∷ es)) = sorted_of (f ∷ es) (holds _ (second_of (before e f) (in_order before (f ∷ es)) (tells _ h))) in
-      let less : T (is_lt (R e.0 f.0)) = first_of (before e f) (in_order before (f ∷ es)) (tells _ h) in
+      let rest : T (is_sorted R (f ∷ es)) = sorted_of (f ∷ es) (true_of _ (second_of (before e f) (in_order before (f ∷ es)) (holds_of _ h))) in
+      let less : T (is_lt (R e.0 f.0)) = first_of (before e f) (in_order before (f ∷ es)) (holds_of _ h) in
       both_of _ _ (both_of _ _ less (below_more e.0 f.0 es (less_of _ less) (first_of _ _ rest))) rest
 
   pub in_order_of : (es : List (K × X)) → T (is_sorted R es) → in_order before es ≡ true
   in_order_of [] is = refl
   in_order_of (e ∷ []) is = refl
-  in_order_of (e ∷ f ∷ es) is = holds _ (both_of (before e f) (in_order before (f ∷ es)) (first_of _ _ (first_of _ _ is)) (tells _ (in_order_of (f ∷ es) (second_of _ _ is))))
+  in_order_of (e ∷ f ∷ es) is = true_of _ (both_of (before e f) (in_order before (f ∷ es)) (first_of _ _ (first_of _ _ is)) (holds_of _ (in_order_of (f ∷ es) (second_of _ _ is))))

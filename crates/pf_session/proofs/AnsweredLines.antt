@@ -2,7 +2,7 @@
 use Rattle.std.proofs.{Common.{◌≡◌, ℕ, suc, ◌+◌, ◌<◌, ◌≤◌, List, [], ◌∷◌, ◌++◌, length, take, drop, get_or, Option, Result, Ok, Err, refl, sym, ap, ◌∙◌, subst, append_assoc, append-nil, arith, length-append}, KnownBytes.{Appends-nil, Appends-trans}, lemmas.Bool.ne_eqb, lemmas.List.{length-take, take_all, take_more, take-append-le, take-append-drop}}
 use Rattle.std.specs.{Prelude.{◌≢◌, ◌==◌, cond}, Io.KnownBytes.{Appends, Keeps}}
 use Rattle.pf_addr.specs.Writing.{WritesFront, Appends-kept}
-use Rattle.pf_session.specs.{LineEngine.Chains.Chain, LineEngine.Lines.{newline, last_line, seen}, LineEngine.Sessions.{Answered, CutOff}, LineEngine.Pieces.{Answers, SoFar, Failed}}
+use Rattle.pf_session.specs.{LineEngine.Chains.Chain, LineEngine.Lines.{newline, last_line, seen}, LineEngine.Sessions.{Answered, CutOff}, LineEngine.Pieces.{Answers, SessionSoFar, Failed}}
 use Rattle.pf_session.proofs.{Chains.{chain-none, chain-one, chain-then}, Cutting.{cut-nothing, cut-newline, cut-byte, cut-more}}
 
 -- what isn't looked at of a line makes no difference
@@ -80,20 +80,20 @@ module _ {S : Type 0} (Takes : List ℕ → S → S → List ℕ → Type 0) whe
 
   -- ---- a session so far
 
-  pub nothing-yet : (state : S) (held : Option (List ℕ)) → SoFar (Chain Takes) [] [] state state held held
+  pub nothing-yet : (state : S) (held : Option (List ℕ)) → SessionSoFar (Chain Takes) [] [] state state held held
   nothing-yet state held = record { lines = []; rest = []; cut = cut-nothing; kept_is = refl; answered = record { text = []; served = chain-none Takes state; written = Appends-nil held } }
 
-  pub still-so_far : {text kept : List ℕ} {a b : S} {h i : Option (List ℕ)} (j : Option (List ℕ)) → Keeps i j → SoFar (Chain Takes) text kept a b h i → SoFar (Chain Takes) text kept a b h j
+  pub still-so_far : {text kept : List ℕ} {a b : S} {h i : Option (List ℕ)} (j : Option (List ℕ)) → Keeps i j → SessionSoFar (Chain Takes) text kept a b h i → SessionSoFar (Chain Takes) text kept a b h j
   still-so_far j keeps s = let ok : Result ℕ ℕ = Ok 0 in record { lines = s.lines; rest = s.rest; cut = s.cut; kept_is = s.kept_is; answered = flushed ok j s.answered keeps }
 
-  pub byte-so_far : {text kept kept' : List ℕ} {a b : S} {h i : Option (List ℕ)} (byte : ℕ) → byte ≢ newline → ((rest : List ℕ) → kept ≡ seen rest → kept' ≡ seen (rest ++ byte ∷ [])) → SoFar (Chain Takes) text kept a b h i → SoFar (Chain Takes) (text ++ byte ∷ []) kept' a b h i
+  pub byte-so_far : {text kept kept' : List ℕ} {a b : S} {h i : Option (List ℕ)} (byte : ℕ) → byte ≢ newline → ((rest : List ℕ) → kept ≡ seen rest → kept' ≡ seen (rest ++ byte ∷ [])) → SessionSoFar (Chain Takes) text kept a b h i → SessionSoFar (Chain Takes) (text ++ byte ∷ []) kept' a b h i
   byte-so_far byte other more s = record { lines = s.lines; rest = s.rest ++ byte ∷ []; cut = cut-byte byte other s.cut; kept_is = more s.rest s.kept_is; answered = s.answered }
 
-  pub line-so_far : TakesSeen Takes → {text kept : List ℕ} (reply : List ℕ) {a b : S} (c : S) {h i : Option (List ℕ)} (j : Option (List ℕ)) → Takes kept b c reply → Appends i j reply → SoFar (Chain Takes) text kept a b h i →
-      SoFar (Chain Takes) (text ++ newline ∷ []) [] a c h j
+  pub line-so_far : TakesSeen Takes → {text kept : List ℕ} (reply : List ℕ) {a b : S} (c : S) {h i : Option (List ℕ)} (j : Option (List ℕ)) → Takes kept b c reply → Appends i j reply → SessionSoFar (Chain Takes) text kept a b h i →
+      SessionSoFar (Chain Takes) (text ++ newline ∷ []) [] a c h j
   line-so_far law reply c j takes written s = record { lines = s.lines ++ s.rest ∷ []; rest = []; cut = cut-newline s.cut; kept_is = refl; answered = line-answered law s.rest reply c j s.kept_is s.answered takes written }
 
-  pub line-failed : TakesSeen Takes → {text kept : List ℕ} (reply more : List ℕ) {a b : S} (c : S) {h i : Option (List ℕ)} (j : Option (List ℕ)) → Takes kept b c reply → WritesFront i j reply → SoFar (Chain Takes) text kept a b h i →
+  pub line-failed : TakesSeen Takes → {text kept : List ℕ} (reply more : List ℕ) {a b : S} (c : S) {h i : Option (List ℕ)} (j : Option (List ℕ)) → Takes kept b c reply → WritesFront i j reply → SessionSoFar (Chain Takes) text kept a b h i →
       Failed (Chain Takes) ((text ++ newline ∷ []) ++ more) a c h j
   line-failed law reply more c j takes front s =
       let (others, rest, cut) = cut-more more (cut-newline s.cut) in

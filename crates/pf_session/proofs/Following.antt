@@ -83,8 +83,8 @@ module _ {S L : Type 0} (receipt : S → Option PlainReceipt) (Serves : S → S 
 module _ {S : Type 0} (receipt : S → Option PlainReceipt) (Serves : S → S → List (List ℕ) → List ℕ → Type 0) (Within : Option PlainReceipt → S → S → List (List ℕ) → List ℕ → Type 0)
     (both : (last : Option PlainReceipt) (a b : S) (xs : List (List ℕ)) (text : List ℕ) → IsWithin (receipt b) last → Serves a b xs text → IsWithin (receipt a) (receipt b) × Within last a b xs text) where
   session-within : (result : Result (Unit {0}) EngineFault) (input : List ℕ) (lines : List (List ℕ)) (rest : List ℕ) (unread : Option (List ℕ)) (a b : S) (h i : Option (List ℕ))
-      → sessions.Ends Serves result input lines rest unread a b h i
-      → IsWithin (receipt a) (receipt b) × sessions.Ends (Within (receipt b)) result input lines rest unread a b h i
+      → sessions.SessionEnds Serves result input lines rest unread a b h i
+      → IsWithin (receipt a) (receipt b) × sessions.SessionEnds (Within (receipt b)) result input lines rest unread a b h i
   session-within (Ok u) input lines rest unread a b h i (all, end) = let (rise, within) = all-within receipt Serves Within both all in (rise, (within, end))
   session-within (Err fault.Read) input lines rest unread a b h i all = all-within receipt Serves Within both all
   session-within (Err fault.Write) input lines rest unread a b h i (inl cut) = let (rise, within) = cut_off-within receipt Serves Within both cut in (rise, inl within)
@@ -102,8 +102,8 @@ module _ {S : Type 0} (receipt : S → Option PlainReceipt) (Serves : S → S �
       let (rise, cut) = cut_off-within receipt Serves Within both p.cut in (rise, record { parts = p.parts; joined = p.joined; cut = cut })
 
   stream-within : (result : Result (Unit {0}) EngineFault) (input : List ℕ) (unread : Option (List ℕ)) (a b : S) (h i : Option (List ℕ))
-      → streams.Ends Serves result input unread a b h i
-      → IsWithin (receipt a) (receipt b) × streams.Ends (Within (receipt b)) result input unread a b h i
+      → streams.StreamEnds Serves result input unread a b h i
+      → IsWithin (receipt a) (receipt b) × streams.StreamEnds (Within (receipt b)) result input unread a b h i
   stream-within (Ok u) input unread a b h i (ms, e, reads, all, end) = let (rise, within) = taken-within all in (rise, (ms, e, reads, within, end))
   stream-within (Err fault.Read) input unread a b h i (ms, rest, reads, all) = let (rise, within) = taken-within all in (rise, (ms, rest, reads, within))
   stream-within (Err fault.Write) input unread a b h i (ms, e, reads, inl cut) = let (rise, within) = cut_short-within cut in (rise, (ms, e, reads, inl within))

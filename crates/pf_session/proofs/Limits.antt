@@ -3,7 +3,7 @@ use Rattle.std.proofs.Common.{◌≡◌, ℕ, List, Option, Result, Ok, Err, inl
 use Rattle.pf_book.specs.Books.{PlainBook, world_book}
 use Rattle.pf_session.specs.declared.line_engine.fault.EngineFault.{EngineFault}
 use Rattle.pf_session.specs.declared.line_engine.fault.EngineFault.TheVariants as fault
-use Rattle.pf_session.specs.{LineEngine.Sessions.{Answered, CutOff, Ends}, Serving.{CallsBook, Serves}, Telling.IsToldBy}
+use Rattle.pf_session.specs.{LineEngine.Sessions.{Answered, CutOff, SessionEnds}, Serving.{CallsBook, Serves}, Telling.IsToldBy}
 use Rattle.pf_session.proofs.{Chains.chain-moves, LineReplies.told-moves}
 
 module _ {D : Type 0} (faults : D → ℕ) where
@@ -25,7 +25,7 @@ module _ {D : Type 0} (faults : D → ℕ) where
   cut-keeps : {lines : List (List ℕ)} {a b : PlainBook D} {held held' : Option (List ℕ)} → CutOff (Serves faults) lines a b held held' → keeps a b
   cut-keeps {lines} {a} {b} cut = lines-keep cut.before b cut.last cut.text cut.served ∙ answered-keeps cut.answered
 
-  pub ends-setting : (result : Result (Unit {0}) EngineFault) (input : List ℕ) (lines : List (List ℕ)) (rest : List ℕ) (unread : Option (List ℕ)) (old new : PlainBook D) (held held' : Option (List ℕ)) → Ends (Serves faults) result input lines rest unread old new held held' → (world_book new).setting ≡ (world_book old).setting
+  pub ends-setting : (result : Result (Unit {0}) EngineFault) (input : List ℕ) (lines : List (List ℕ)) (rest : List ℕ) (unread : Option (List ℕ)) (old new : PlainBook D) (held held' : Option (List ℕ)) → SessionEnds (Serves faults) result input lines rest unread old new held held' → (world_book new).setting ≡ (world_book old).setting
   ends-setting (Ok u) input lines rest unread old new held held' (answered, end) = answered-keeps answered
   ends-setting (Err fault.Read) input lines rest unread old new held held' answered = answered-keeps answered
   ends-setting (Err fault.Write) input lines rest unread old new held held' (inl cut) = cut-keeps cut

@@ -2,7 +2,7 @@
 use Rattle.std.proofs.Common.{ℕ, List, Option, Result, Ok, Err, inl, inr, ap, sym, subst}
 use Rattle.pf_session.specs.declared.line_engine.fault.EngineFault.{EngineFault}
 use Rattle.pf_session.specs.declared.line_engine.fault.EngineFault.TheVariants as fault
-use Rattle.pf_session.specs.LineEngine.Sessions.{Answered, CutOff, Ends, IsSession}
+use Rattle.pf_session.specs.LineEngine.Sessions.{Answered, CutOff, SessionEnds, IsSession}
 
 module _ {A B L : Type 0} (f : A → B) (Stays : A → Type 0) (P : A → A → List L → List ℕ → Type 0) (Q : B → B → List L → List ℕ → Type 0)
     (step : (a b : A) (ls : List L) (text : List ℕ) → Stays a → P a b ls text → Q (f a) (f b) ls text × Stays b) where
@@ -34,7 +34,7 @@ module _ {A B L : Type 0} (f : A → B) (Stays : A → Type 0) (P : A → A → 
 module _ {A B : Type 0} (f : A → B) (Stays : A → Type 0) (P : A → A → List (List ℕ) → List ℕ → Type 0) (Q : B → B → List (List ℕ) → List ℕ → Type 0)
     (step : (a b : A) (ls : List (List ℕ)) (text : List ℕ) → Stays a → P a b ls text → Q (f a) (f b) ls text × Stays b) where
   ends-as : (result : Result (Unit {0}) EngineFault) (input : List ℕ) (lines : List (List ℕ)) (rest : List ℕ) (unread : Option (List ℕ)) (a b : A) (h i : Option (List ℕ)) → Stays a
-      → Ends P result input lines rest unread a b h i → Ends Q result input lines rest unread (f a) (f b) h i × Stays b
+      → SessionEnds P result input lines rest unread a b h i → SessionEnds Q result input lines rest unread (f a) (f b) h i × Stays b
   ends-as (Ok u) input lines rest unread a b h i stays (answered, end) = let (seen, now) = answered-as f Stays P Q step stays answered in ((seen, end), now)
   ends-as (Err fault.Read) input lines rest unread a b h i stays answered = answered-as f Stays P Q step stays answered
   ends-as (Err fault.Write) input lines rest unread a b h i stays (inl cut) = let (seen, now) = cut_off-as f Stays P Q step stays cut in (inl seen, now)

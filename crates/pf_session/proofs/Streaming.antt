@@ -8,7 +8,7 @@ use Rattle.pf_core.specs.{Durable.Changes.PlainDurable, Worlds.Setting}
 use Rattle.pf_book.specs.Receipts.{PlainReceipt}
 use Rattle.pf_session.specs.declared.{line_engine.fault.EngineFault.EngineFault, server.stream.Progress.Progress, server.stream.Progress.TheVariants.{On, Over}}
 use Rattle.pf_session.specs.declared.line_engine.fault.EngineFault.TheVariants as fault
-use Rattle.pf_session.specs.{LineEngine.Sessions.Answered, Server.Streams.{CutShort, Ends, Item, Part, RunsFed, SoFar, Taken, Takes, TakesPart, TakesPiece, TellsEnd, TellsFault, end_text, items, items_in, told, told_text, wrong}}
+use Rattle.pf_session.specs.{LineEngine.Sessions.Answered, Server.Streams.{CutShort, StreamEnds, Item, Part, RunsFed, StreamSoFar, Taken, Takes, TakesPart, TakesPiece, TellsEnd, TellsFault, end_text, items, items_in, told, told_text, wrong}}
 use Rattle.pf_session.proofs.Chains.{chain-one, chain-then}
 
 -- ---- what was read
@@ -176,17 +176,17 @@ module _ (base : PlainDurable) (setting : Setting) where
 
   -- ---- a session so far
 
-  pub nothing-yet : (last : Option PlainReceipt) (held : Option (List ℕ)) (kept : Option (List ℕ)) → kept ≡ Some [] → SoFar (Takes base setting) [] kept last last held held
+  pub nothing-yet : (last : Option PlainReceipt) (held : Option (List ℕ)) (kept : Option (List ℕ)) → kept ≡ Some [] → StreamSoFar (Takes base setting) [] kept last last held held
   nothing-yet last held kept is = record { messages = []; rest = []; reads = (refl, tt); kept_is = is; taken = none-taken last held }
 
-  pub still-so_far : {input : List ℕ} {kept : Option (List ℕ)} {a b : Option PlainReceipt} {h i : Option (List ℕ)} (j : Option (List ℕ)) → Keeps i j → SoFar (Takes base setting) input kept a b h i → SoFar (Takes base setting) input kept a b h j
+  pub still-so_far : {input : List ℕ} {kept : Option (List ℕ)} {a b : Option PlainReceipt} {h i : Option (List ℕ)} (j : Option (List ℕ)) → Keeps i j → StreamSoFar (Takes base setting) input kept a b h i → StreamSoFar (Takes base setting) input kept a b h j
   still-so_far j keeps s = record { messages = s.messages; rest = s.rest; reads = s.reads; kept_is = s.kept_is; taken = taken-kept j keeps s.taken }
 
-  pub flush-ends : {input : List ℕ} {kept : Option (List ℕ)} (unread : Option (List ℕ)) {a b : Option PlainReceipt} {h i : Option (List ℕ)} (j : Option (List ℕ)) → Keeps i j → SoFar (Takes base setting) input kept a b h i → Ends (Takes base setting) (Err fault.Write) input unread a b h j
+  pub flush-ends : {input : List ℕ} {kept : Option (List ℕ)} (unread : Option (List ℕ)) {a b : Option PlainReceipt} {h i : Option (List ℕ)} (j : Option (List ℕ)) → Keeps i j → StreamSoFar (Takes base setting) input kept a b h i → StreamEnds (Takes base setting) (Err fault.Write) input unread a b h j
   flush-ends unread {i = i} j keeps s = (s.messages, Unfinished s.rest, s.reads, inl (flush-cut j (kept-front i j keeps) s.taken))
 
   -- a piece with which it goes on
-  pub on-so_far : {input : List ℕ} {kept : Option (List ℕ)} (piece : List ℕ) (kept' : Option (List ℕ)) {a b c : Option PlainReceipt} {h i j : Option (List ℕ)} → SoFar (Takes base setting) input kept a b h i → TakesPiece (Takes base setting) (Ok On) piece kept kept' b c i j → SoFar (Takes base setting) (input ++ piece) kept' a c h j
+  pub on-so_far : {input : List ℕ} {kept : Option (List ℕ)} (piece : List ℕ) (kept' : Option (List ℕ)) {a b c : Option PlainReceipt} {h i j : Option (List ℕ)} → StreamSoFar (Takes base setting) input kept a b h i → TakesPiece (Takes base setting) (Ok On) piece kept kept' b c i j → StreamSoFar (Takes base setting) (input ++ piece) kept' a c h j
   on-so_far {input} {kept} piece kept' {a} {b} {c} {h} {i} {j} s (inl (ms, f, taken, ran)) =
       let goes = ran.0 in
       let all : Taken (Takes base setting) (items ms ++ []) b c i j = subst (λ (x : Option PeerFault). Taken (Takes base setting) (items ms ++ told x) b c i j) goes ran.1 in
@@ -201,7 +201,7 @@ module _ (base : PlainDurable) (setting : Setting) where
   on-so_far piece kept' s (inr (bad, waits)) = absurd (cc (bad))
 
   -- a piece with a fault
-  pub over-ends : {input : List ℕ} {kept : Option (List ℕ)} (piece : List ℕ) (kept' unread : Option (List ℕ)) {a b c : Option PlainReceipt} {h i j : Option (List ℕ)} → SoFar (Takes base setting) input kept a b h i → TakesPiece (Takes base setting) (Ok Over) piece kept kept' b c i j → Ends (Takes base setting) (Ok tt) (input ++ piece) unread a c h j
+  pub over-ends : {input : List ℕ} {kept : Option (List ℕ)} (piece : List ℕ) (kept' unread : Option (List ℕ)) {a b c : Option PlainReceipt} {h i j : Option (List ℕ)} → StreamSoFar (Takes base setting) input kept a b h i → TakesPiece (Takes base setting) (Ok Over) piece kept kept' b c i j → StreamEnds (Takes base setting) (Ok tt) (input ++ piece) unread a c h j
   over-ends {input} {kept} piece kept' unread {a} {b} {c} {h} {i} {j} s (inl (ms, f, taken, ran)) =
       let (why, goes) = ran.0 in
       let all : Taken (Takes base setting) (items ms ++ Err why ∷ []) b c i j = subst (λ (x : Option PeerFault). Taken (Takes base setting) (items ms ++ told x) b c i j) goes ran.1 in
@@ -215,7 +215,7 @@ module _ (base : PlainDurable) (setting : Setting) where
   over-ends piece kept' unread s (inr (bad, waits)) = absurd (cc (bad))
 
   -- a piece at which it fails
-  pub err-ends : (why : EngineFault) {input : List ℕ} {kept : Option (List ℕ)} (piece : List ℕ) (kept' unread : Option (List ℕ)) {a b c : Option PlainReceipt} {h i j : Option (List ℕ)} → length piece ≤ 131072 → SoFar (Takes base setting) input kept a b h i → TakesPiece (Takes base setting) (Err why) piece kept kept' b c i j → Ends (Takes base setting) (Err why) (input ++ piece) unread a c h j
+  pub err-ends : (why : EngineFault) {input : List ℕ} {kept : Option (List ℕ)} (piece : List ℕ) (kept' unread : Option (List ℕ)) {a b c : Option PlainReceipt} {h i j : Option (List ℕ)} → length piece ≤ 131072 → StreamSoFar (Takes base setting) input kept a b h i → TakesPiece (Takes base setting) (Err why) piece kept kept' b c i j → StreamEnds (Takes base setting) (Err why) (input ++ piece) unread a c h j
   err-ends fault.Read piece kept' unread few s (inl (ms, f, taken, ran)) = absurd ran
   err-ends fault.Read piece kept' unread few s (inr (bad, waits)) = absurd (cc (bad))
   err-ends fault.Write {input} {kept} piece kept' unread few s (inl (ms, None, taken, cut)) =
@@ -256,7 +256,7 @@ module _ (base : PlainDurable) (setting : Setting) where
   end-cut [] ms j all front = fault-cut None j all front
   end-cut (x ∷ rest) ms j all front = fault-cut (Some Ended) j all front
 
-  pub end-ends : (r : Result (Unit {0}) EngineFault) {input : List ℕ} {kept : Option (List ℕ)} (unread : Option (List ℕ)) {a b : Option PlainReceipt} {h i : Option (List ℕ)} (j : Option (List ℕ)) → SoFar (Takes base setting) input kept a b h i → IsAtEnd unread → TellsEnd r (finished kept) i j → Ends (Takes base setting) r input unread a b h j
+  pub end-ends : (r : Result (Unit {0}) EngineFault) {input : List ℕ} {kept : Option (List ℕ)} (unread : Option (List ℕ)) {a b : Option PlainReceipt} {h i : Option (List ℕ)} (j : Option (List ℕ)) → StreamSoFar (Takes base setting) input kept a b h i → IsAtEnd unread → TellsEnd r (finished kept) i j → StreamEnds (Takes base setting) r input unread a b h j
   end-ends (Ok u) {kept = kept} unread {i = i} j s end tells =
       (s.messages, Unfinished s.rest, s.reads, end-told s.rest s.messages j s.taken (subst (λ (k : Option (List ℕ)). Appends i j (end_text (finished k))) s.kept_is tells), end)
   end-ends (Err fault.Read) unread j s end tells = absurd tells

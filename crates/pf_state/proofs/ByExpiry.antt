@@ -1,10 +1,10 @@
 -- The order of expiries has exactly the states that have one, also after a change; and its first says whether any is due.
-use Rattle.std.proofs.{Common.{◌≡◌, ℕ, ◌+◌, ◌<◌, ◌≤◌, Bool, true, false, not, ◌&&◌, ◌||◌, cond, T, List, [], ◌∷◌, ◌++◌, Option, Some, None, option_map, length, take, drop, get_or, refl, sym, ap, ◌∙◌, subst, arith}, lemmas.{Cmp.{nat_cmp_total, tied_itself}, Bool.{eqb-true, eq-eqb, Decides.nat_tests}, List.{take_more, take-append-drop}}}
+use Rattle.std.proofs.{Common.{◌≡◌, ℕ, ◌+◌, ◌<◌, ◌≤◌, Bool, true, false, not, ◌&&◌, ◌||◌, cond, T, List, [], ◌∷◌, ◌++◌, Option, Some, None, option_map, length, take, drop, get_or, refl, sym, ap, ◌∙◌, subst, arith}, lemmas.{Cmp.{nat_cmp_total, tied_itself}, Bool.{and_parts, or_parts, eqb-true, eq-eqb, Decides.nat_tests}, List.{take_more, take-append-drop}}}
 use Rattle.std.specs.{Prelude.{◌==◌, nat_lt}, declared.{cmp.Ordering.TheVariants.Less, cmp.Ordering.TheVariants.Greater}, FinMap.{find, is_sorted, nat_cmp-IsAntisymmetric}, FinMap.Entries.below_all, Option.option_map_or, Ordering.{ordering_reverse, nat_cmp, eq_by_cmp, is_eq, is_lt}}
 use Rattle.pf_map.specs.Maps.{with_value, without, entry_at}
 use Rattle.pf_map.proofs.{Maps.{replaces_the_key, stays_sorted}, Ordered.{put_last, sorted_front}}
 use Rattle.pf_state.specs.{declared.{dues.Due.Due, state.Held.Held, state.StateName.StateName}, Dues.{due_order, due_of, PlainDues, with_place, without_place, is_listed, AreDues, IsDueAt}, Orders.{name_total, due_total, dues_rise}, Peer.Written.Each, States.{PlainState, name_order, held_at, stands, all_stand, none_expires}, Steps.without_state}
-use Rattle.pf_state.proofs.{Flows.{left_true, right_true}, Leaves.{reads_put, reads_delete}, Names.one_name, Tables.{no, nothing_is, front_within, rest_within}, TakenOver.{all_held}, Ticks.held_passes}
+use Rattle.pf_state.proofs.{Leaves.{reads_put, reads_delete}, Names.one_name, Tables.{no, nothing_is}, TakenOver.{all_held}, Ticks.held_passes}
 use Rattle.pf_map.proofs.Tests.{first_of, second_of, less_of, equal_of}
 use Rattle.std.specs.Cmp.{tied_then}
 
@@ -221,8 +221,8 @@ listed_first es d ds is = by (held_at d.name es) refl (sym (is.lists d) ∙ ap (
   by None there found = nothing_is tt (sym (none_by (not (d.expiry == 0))) ∙ found)
   by (Some h) there found =
       let both = listed (listed_by (Some h) d) found in
-      let some : (d.expiry == 0) ≡ false = denied (d.expiry == 0) (left_true (not (d.expiry == 0)) (h.expiry == d.expiry) both) in
-      let same : h.expiry ≡ d.expiry = eqb-true h.expiry d.expiry (right_true (not (d.expiry == 0)) (h.expiry == d.expiry) both) in
+      let some : (d.expiry == 0) ≡ false = denied (d.expiry == 0) (and_parts (not (d.expiry == 0)) (h.expiry == d.expiry) both).0 in
+      let same : h.expiry ≡ d.expiry = eqb-true h.expiry d.expiry (and_parts (not (d.expiry == 0)) (h.expiry == d.expiry) both).1 in
       record { held = h; there = there; same = same; some = ap (λ (n : ℕ). n == 0) same ∙ some }
 
 pub first_is_due : (tick : ℕ) (es : List PlainState) (d : Due) (ds : PlainDues) → AreDues es ((d, tt) ∷ ds) → nat_lt tick d.expiry ≡ false → IsDueAt tick d.name es
@@ -260,8 +260,8 @@ all_by tick (e ∷ es) all each none = rw (one (stands tick e.1) refl) (all_by t
   one : (b : Bool) → stands tick e.1 ≡ b → b ≡ true
   one true is = refl
   one false due =
-      let some : (e.1.expiry == 0) ≡ false = front_within (e.1.expiry == 0) (nat_lt tick e.1.expiry) due in
-      let reached : nat_lt tick e.1.expiry ≡ false = rest_within (e.1.expiry == 0) (nat_lt tick e.1.expiry) due in
+      let some : (e.1.expiry == 0) ≡ false = (or_parts (e.1.expiry == 0) (nat_lt tick e.1.expiry) due).0 in
+      let reached : nat_lt tick e.1.expiry ≡ false = (or_parts (e.1.expiry == 0) (nat_lt tick e.1.expiry) due).1 in
       let past : e.1.expiry ≤ tick = grind (arith, nat_tests, reached) in
       let same : (e.1.expiry == e.1.expiry) ≡ true = eq-eqb e.1.expiry e.1.expiry refl in
       let listed : is_listed all (due_of e) ≡ true = rw (each.0, some, same) refl in

@@ -1,17 +1,8 @@
 -- Which flows are one.
-use Rattle.std.proofs.{Common.{◌≡◌, ◌⊎◌, inl, inr, Bool, true, false, not, ◌&&◌, ◌||◌, T, refl, sym, ap, ◌∙◌, subst}, lemmas.Bool.{eqb-true, eq-eqb}}
+use Rattle.std.proofs.{Common.{◌≡◌, ◌⊎◌, inl, inr, Bool, true, false, not, ◌&&◌, ◌||◌, T, refl, sym, ap, ◌∙◌, subst}, lemmas.Bool.{and_parts, eqb-true, eq-eqb, or_right}}
 use Rattle.pf_addr.specs.declared.{addr.Addr.Addr, addr.Addr.TheVariants.V4, addr.Addr.TheVariants.V6}
 use Rattle.pf_rule.specs.{declared.{value.direction.Direction.Direction, value.direction.Direction.TheVariants.In, value.direction.Direction.TheVariants.Out}, Value.Tests.same_direction}
 use Rattle.pf_state.specs.{Flows.{PlainFlow, other_way, turned, same_addr, is_equal, same_flow}, Laws.States.OneFlowOrAnother}
-use Rattle.std.proofs.lemmas.Bool.{or_right}
-
-pub left_true : (a b : Bool) → (a && b) ≡ true → a ≡ true
-left_true true b e = refl
-left_true false b e = e
-
-pub right_true : (a b : Bool) → (a && b) ≡ true → b ≡ true
-right_true true b e = e
-right_true false b e = absurd (subst (λ c. T (not c)) e tt)
 
 pub either_true : (a b : Bool) → (a || b) ≡ true → (a ≡ true) ⊎ (b ≡ true)
 either_true true b e = inl refl
@@ -40,16 +31,16 @@ addr_itself (V6 a) = eq-eqb a a refl
 -- all fields are equal exactly if the flows are
 pub equal_of : (f g : PlainFlow) → is_equal f g ≡ true → f ≡ g
 equal_of f g e =
-    let e5 = left_true _ _ e in
-    let e4 = left_true _ _ e5 in
-    let e3 = left_true _ _ e4 in
-    let e2 = left_true _ _ e3 in
-    let direction = direction_of f.direction g.direction (left_true _ _ e2) in
-    let protocol = eqb-true f.protocol g.protocol (right_true _ _ e2) in
-    let source = addr_of f.source g.source (right_true _ _ e3) in
-    let source_port = eqb-true f.source_port g.source_port (right_true _ _ e4) in
-    let destination = addr_of f.destination g.destination (right_true _ _ e5) in
-    let destination_port = eqb-true f.destination_port g.destination_port (right_true _ _ e) in
+    let e5 = (and_parts _ _ e).0 in
+    let e4 = (and_parts _ _ e5).0 in
+    let e3 = (and_parts _ _ e4).0 in
+    let e2 = (and_parts _ _ e3).0 in
+    let direction = direction_of f.direction g.direction (and_parts _ _ e2).0 in
+    let protocol = eqb-true f.protocol g.protocol (and_parts _ _ e2).1 in
+    let source = addr_of f.source g.source (and_parts _ _ e3).1 in
+    let source_port = eqb-true f.source_port g.source_port (and_parts _ _ e4).1 in
+    let destination = addr_of f.destination g.destination (and_parts _ _ e5).1 in
+    let destination_port = eqb-true f.destination_port g.destination_port (and_parts _ _ e).1 in
     λ i. record { direction = direction i; protocol = protocol i; source = source i; source_port = source_port i; destination = destination i; destination_port = destination_port i }
 
 pub equal_itself : (f : PlainFlow) → is_equal f f ≡ true

@@ -1,10 +1,10 @@
 -- What an index of states returns is what the list of them has.
-use Rattle.std.proofs.{Common.{◌≡◌, ℕ, ◌⊎◌, inl, inr, Bool, true, false, not, ◌&&◌, cond, T, List, [], ◌∷◌, Option, Some, None, refl, sym, ap, ◌∙◌, subst}, lemmas.Cmp.eq_by_cmp_equiv}
+use Rattle.std.proofs.{Common.{◌≡◌, ℕ, ◌⊎◌, inl, inr, Bool, true, false, not, ◌&&◌, cond, T, List, [], ◌∷◌, Option, Some, None, refl, sym, ap, ◌∙◌, subst}, lemmas.Bool.and_parts, lemmas.Cmp.eq_by_cmp_equiv}
 use Rattle.std.specs.{Prelude.◌==◌, FinMap.{is_sorted}, FinMap.Entries.{is_sorted-where_key, same_entries}, List.find as first_where, Option.option_map_or, Ordering.eq_by_cmp}
 use Rattle.pf_map.specs.Indexes.{of_flow, is_clash as clashes_in}
 use Rattle.pf_map.proofs.Maps.{stays_sorted}
 use Rattle.pf_state.specs.{declared.{state.Held.Held, state.StateName.StateName}, FlowKeys.{key_of, key_order}, Flows.{PlainFlow, same_flow}, Orders.{name_total, name_alike, key_total}, States.{PlainState, name_order, held_at, state_of, NamesFlows}, Steps.{insertion, has_effect, is_clash, without_creator, without_state}}
-use Rattle.pf_state.proofs.{FlowKeys.same_flow_is, Flows.{left_true, right_true, either_true}, Leaves.{reads_delete, reads_clear}, Names.{one_name, same_itself}, Tables.{no, nothing_is, no_clash, others_differ, none_behind, one_state_a_flow}}
+use Rattle.pf_state.proofs.{FlowKeys.same_flow_is, Flows.either_true, Leaves.{reads_delete, reads_clear}, Names.{one_name, same_itself}, Tables.{no, nothing_is, no_clash, others_differ, none_behind, one_state_a_flow}}
 use Rattle.pf_map.proofs.Tests.{first_of, second_of}
 
 -- ---- what is held, and the state of a flow
@@ -40,8 +40,8 @@ clashing (e ∷ es) s is found = by (either_true (not (eq_by_cmp name_order e.0 
   by (inl here) next = record {
     with = e;
     held = ap (λ b. cond b (Some e.1) (held_at e.0 es)) (same_itself e.0);
-    other = not_true _ (left_true _ _ here);
-    flow = right_true _ _ here;
+    other = not_true _ (and_parts _ _ here).0;
+    flow = (and_parts _ _ here).1;
   }
   by (inr behind) next =
       let rest = next behind in

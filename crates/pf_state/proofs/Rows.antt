@@ -1,21 +1,13 @@
 -- Rows of states make a table, one after the other.
-use Rattle.std.proofs.{Common.{◌≡◌, ◌&&◌, not, ◌≤◌, Bool, true, false, T, List, [], ◌∷◌, ◌++◌, length, map, Some, ◌⊎◌, inl, inr, None, refl, sym, ap, ◌∙◌, append_assoc, subst, true≢false, arith}, lemmas.List.{append-nil, length-map}, lemmas.Bool.and_parts, lemmas.Bool.Decides.nat_tests}
+use Rattle.std.proofs.{Common.{◌≡◌, ◌&&◌, not, ◌≤◌, Bool, true, false, T, List, [], ◌∷◌, ◌++◌, length, map, Some, ◌⊎◌, inl, inr, None, refl, sym, ap, ◌∙◌, append_assoc, subst, true≢false, arith}, lemmas.List.{append-nil, length-map}, lemmas.Bool.{and_parts, and_right, or_parts, or_right, Decides.nat_tests}}
 use Rattle.std.specs.{Prelude.nat_le, declared.{cmp.Ordering.Ordering, cmp.Ordering.TheVariants.Less}, FinMap.{is_sorted, put}, FinMap.Entries.below_all, List.list_any, Ordering.{eq_by_cmp, is_eq, is_lt}}
 use Rattle.pf_form.specs.Bytes.Lists.{in_order}
 use Rattle.pf_map.specs.Maps.{with_value}
 use Rattle.pf_map.specs.Indexes.{no_flow_twice as none_twice_in}
 use Rattle.pf_state.specs.{declared.{limits.TheConstants.STATE_LIMIT, layouts.state.StoredState.StoredState}, FlowKeys.{key_of, key_order}, Flows.same_flow, Orders.name_total, States.{PlainState, name_order, NamesFlows, IsStates}, Steps.is_clash, Peer.Written.Each, Layouts.{Rows.{plain_row, IsTableOf}, States.{plain_state, state_in, plain_states, state_before, no_flow_twice}}}
-use Rattle.pf_state.proofs.{FlowKeys.same_flow_is, LayoutsBack.state_back, TakenOver.{Before, Apart, all_kept, put_last, all_held, apart_of}, Tables.{front_within, rest_within, names_put}}
-use Rattle.pf_map.proofs.Tests.{first_of, second_of, less_of}
+use Rattle.pf_state.proofs.{FlowKeys.same_flow_is, LayoutsBack.state_back, TakenOver.{Before, Apart, all_kept, put_last, all_held, apart_of}, Tables.{names_put}}
+use Rattle.pf_map.proofs.Tests.{true_of, holds_of, first_of, second_of, less_of}
 use Rattle.pf_state.proofs.Flows.{either_true}
-use Rattle.std.proofs.lemmas.Bool.{and_right, or_right}
-
-holds : (a : Bool) → T a → a ≡ true
-holds true h = refl
-holds false h = absurd h
-
-is : (a : Bool) → a ≡ true → T a
-is a e = subst T (sym e) tt
 
 -- ---- in order
 
@@ -31,17 +23,17 @@ sorted_of [] turn = tt
 sorted_of (s ∷ []) turn = tt
 sorted_of (s ∷ t ∷ es) turn =
     let parts = and_parts (state_before (plain_state s) (plain_state t)) _ turn in
-    let less : T (is_lt (name_order s.0 t.0)) = is (is_lt (name_order s.0 t.0)) parts.0 in
+    let less : T (is_lt (name_order s.0 t.0)) = holds_of (is_lt (name_order s.0 t.0)) parts.0 in
     let later : T (is_sorted name_order (t ∷ es)) = sorted_of (t ∷ es) parts.1 in
     let low : T (below_all name_order s.0 es) = below_later s t es less (first_of (below_all name_order t.0 es) _ later) in
-    rw (holds _ less, holds _ low) later
+    rw (true_of _ less, true_of _ low) later
 
 -- and those that are sorted come so
 pub in_turn : (es : List PlainState) → T (is_sorted name_order es) → in_order state_before (plain_states es) ≡ true
 in_turn [] sorted = refl
 in_turn (s ∷ []) sorted = refl
 in_turn (s ∷ t ∷ es) sorted =
-    let less : is_lt (name_order s.0 t.0) ≡ true = holds _ (first_of _ _ (first_of (below_all name_order s.0 (t ∷ es)) _ sorted)) in
+    let less : is_lt (name_order s.0 t.0) ≡ true = true_of _ (first_of _ _ (first_of (below_all name_order s.0 (t ∷ es)) _ sorted)) in
     rw less (in_turn (t ∷ es) (second_of (below_all name_order s.0 (t ∷ es)) _ sorted))
 
 -- ---- their flows
@@ -79,8 +71,8 @@ before_it : (ps : List PlainState) (s : PlainState) (fs : List PlainState) → T
 before_it [] s fs sorted none = tt
 before_it (p ∷ ps) s fs sorted none =
     let less : name_order p.0 s.0 ≡ Less = less_of _ (low_at p s ps fs (first_of _ _ sorted)) in (
-      record { less = less; other = subst (λ (r : Ordering). (not (is_eq r) && same_flow p.1.flow s.1.flow) ≡ false) less (front_within _ _ none) },
-      before_it ps s fs (second_of (below_all name_order p.0 (ps ++ s ∷ fs)) _ sorted) (rest_within (not (is_eq (name_order p.0 s.0)) && same_flow p.1.flow s.1.flow) _ none),
+      record { less = less; other = subst (λ (r : Ordering). (not (is_eq r) && same_flow p.1.flow s.1.flow) ≡ false) less (or_parts _ _ none).0 },
+      before_it ps s fs (second_of (below_all name_order p.0 (ps ++ s ∷ fs)) _ sorted) (or_parts (not (is_eq (name_order p.0 s.0)) && same_flow p.1.flow s.1.flow) _ none).1,
     )
 
 -- ---- rows

@@ -1,11 +1,11 @@
 -- What steps leave is in order, with no name and no flow twice; and the state that is found is the only one of its flow.
-use Rattle.std.proofs.{Common.{◌≡◌, ℕ, zero, suc, ◌≤◌, Bool, true, false, not, ◌&&◌, ◌||◌, cond, T, List, [], ◌∷◌, length, take, Option, Some, None, is_some, refl, sym, ap, ◌∙◌, subst, true≢false, arith}, lemmas.Bool.Decides.nat_tests}
+use Rattle.std.proofs.{Common.{◌≡◌, ℕ, zero, suc, ◌≤◌, Bool, true, false, not, ◌&&◌, ◌||◌, cond, T, List, [], ◌∷◌, length, take, Option, Some, None, is_some, refl, sym, ap, ◌∙◌, subst, true≢false, arith}, lemmas.Bool.{or_parts, Decides.nat_tests}}
 use Rattle.std.specs.{Prelude.◌==◌, declared.{cmp.Ordering.Ordering, cmp.Ordering.TheVariants.Less, cmp.Ordering.TheVariants.Equal, cmp.Ordering.TheVariants.Greater}, FinMap.is_sorted, FinMap.Entries.{is_sorted-where_key, below_all}, Option.unwrap_or, Ordering.{eq_by_cmp, is_eq, is_lt}}
 use Rattle.pf_map.specs.Maps.{with_value}
 use Rattle.pf_map.proofs.Maps.{stays_sorted}
 use Rattle.pf_state.specs.{Orders.name_total, declared.{limits.TheConstants.STATE_LIMIT, state.Held.Held, state.StateName.StateName, step.Insertion.TheVariants.Stale, step.Insertion.TheVariants.Clash, step.Insertion.TheVariants.Replaced, step.Insertion.TheVariants.New, step.StateStep.StateStep, step.StateStep.TheVariants.Insert, step.StateStep.TheVariants.Delete, step.StateStep.TheVariants.Clear}, Flows.{PlainFlow, same_flow}, States.{PlainState, name_order, held_at, state_of, NamesFlows}, Steps.{is_stale, is_clash, insertion, has_effect, without_creator, without_state, stepped, after, is_over, passes_limit}, Laws.States.{IsStateOf, OneStateAFlow, StaysStates, RefusedByAnyStep}}
 use Rattle.pf_state.proofs.{Names.{one_name, same_itself}, Flows.{same_back, same_third}, Leaves.{reads_put, reads_delete, reads_clear}}
-use Rattle.pf_map.proofs.Tests.{first_of, second_of}
+use Rattle.pf_map.proofs.Tests.{first_of, second_of, untied_of}
 
 pub no : {X : Type 0} → true ≡ false → X
 no e = absurd (true≢false e)
@@ -13,14 +13,6 @@ no e = absurd (true≢false e)
 -- None isn't Some
 pub nothing_is : {X Y : Type 0} (x : X) → None ≡ Some x → Y
 nothing_is x e = no (sym (ap is_some e))
-
-pub front_within : (a b : Bool) → (a || b) ≡ false → a ≡ false
-front_within true b e = e
-front_within false b e = refl
-
-pub rest_within : (a b : Bool) → (a || b) ≡ false → b ≡ false
-rest_within true b e = no e
-rest_within false b e = e
 
 -- ---- an insert that has effect doesn't clash
 
@@ -44,7 +36,7 @@ others_differ (e ∷ es) s b y none there other same = by (eq_by_cmp name_order 
       let shares : same_flow e.1.flow s.1.flow ≡ true = subst (λ (h : Held). same_flow h.flow s.1.flow ≡ true) (sym held) same in
       let clashes : is_clash (e ∷ es) s ≡ true = rw (differs, shares) refl in
       no (sym clashes ∙ clear)
-  by false here found clear rest = rest (rest_within (not (eq_by_cmp name_order e.0 s.0) && same_flow e.1.flow s.1.flow) (is_clash es s) clear) found
+  by false here found clear rest = rest (or_parts (not (eq_by_cmp name_order e.0 s.0) && same_flow e.1.flow s.1.flow) (is_clash es s) clear).1 found
 
 -- ---- what steps leave
 
@@ -105,7 +97,7 @@ fronts_within : (es : List PlainState) (steps : List StateStep) → length es �
 unfolding passes_limit
 fronts_within es steps few e zero = few
 fronts_within es [] few e (suc k) = few
-fronts_within es (x ∷ xs) few e (suc k) = fronts_within (stepped es x) xs (not_over (stepped es x) (front_within _ _ e)) (rest_within (is_over (stepped es x)) _ e) k
+fronts_within es (x ∷ xs) few e (suc k) = fronts_within (stepped es x) xs (not_over (stepped es x) (or_parts _ _ e).0) (or_parts (is_over (stepped es x)) _ e).1 k
 
 within_fronts : (es : List PlainState) (steps : List StateStep) → ((k : ℕ) → length (after es (take k steps)) ≤ STATE_LIMIT) → passes_limit es steps ≡ false
 unfolding passes_limit
@@ -118,7 +110,7 @@ refused_by_any_step es steps is = (fronts_within es steps is.few, within_fronts 
 few_after : (es : List PlainState) (steps : List StateStep) → length es ≤ STATE_LIMIT → passes_limit es steps ≡ false → length (after es steps) ≤ STATE_LIMIT
 unfolding passes_limit
 few_after es [] few e = few
-few_after es (x ∷ xs) few e = few_after (stepped es x) xs (not_over (stepped es x) (front_within _ _ e)) (rest_within (is_over (stepped es x)) _ e)
+few_after es (x ∷ xs) few e = few_after (stepped es x) xs (not_over (stepped es x) (or_parts _ _ e).0) (or_parts (is_over (stepped es x)) _ e).1
 
 pub stays_states : StaysStates
 stays_states es steps = record {
@@ -128,14 +120,9 @@ stays_states es steps = record {
 
 -- ---- the state of a flow
 
-less_not_tied : (r : Ordering) → T (is_lt r) → is_eq r ≡ false
-less_not_tied Less p = refl
-less_not_tied Equal p = absurd p
-less_not_tied Greater p = absurd p
-
 pub none_behind : (n : StateName) (es : List PlainState) → T (below_all name_order n es) → held_at n es ≡ None
 none_behind n [] h = refl
-none_behind n (e ∷ es) h = ap (λ b. cond b (Some e.1) (held_at n es)) (less_not_tied (name_order n e.0) (first_of _ _ h)) ∙ none_behind n es (second_of _ _ h)
+none_behind n (e ∷ es) h = ap (λ b. cond b (Some e.1) (held_at n es)) (untied_of (name_order n e.0) (first_of _ _ h)) ∙ none_behind n es (second_of _ _ h)
 
 -- what is found is held, and has the flow
 found_is : (es : List PlainState) (f : PlainFlow) (s : PlainState) → T (is_sorted name_order es) → state_of f es ≡ Some s → IsStateOf es f s

@@ -1,11 +1,11 @@
 -- What a tick takes out, and that nothing due is left or comes in.
-use Rattle.std.proofs.{Common.{◌≡◌, ℕ, suc, ◌+◌, ◌-◌, ◌<◌, Bool, true, false, not, cond, T, List, [], ◌∷◌, length, Option, Some, None, is_some, refl, sym, ap, ◌∙◌, subst, arith}, lemmas.{Bool.and_parts, List.Sums.sum_by-cons}}
+use Rattle.std.proofs.{Common.{◌≡◌, ℕ, suc, ◌+◌, ◌-◌, ◌<◌, Bool, true, false, not, cond, T, List, [], ◌∷◌, length, Option, Some, None, is_some, refl, sym, ap, ◌∙◌, subst, arith}, lemmas.{Bool.{and_parts, not-false, or_parts}, List.Sums.sum_by-cons}}
 use Rattle.std.specs.{Prelude.{filter, ◌==◌}, declared.{cmp.Ordering.Ordering, cmp.Ordering.TheVariants.Less, cmp.Ordering.TheVariants.Equal, cmp.Ordering.TheVariants.Greater}, FinMap.{is_sorted, put}, FinMap.Entries.{below_all, by_order, length_without}, List.{list_all}, Option.unwrap_or, Ordering.{eq_by_cmp, is_eq, is_lt}}
 use Rattle.pf_map.specs.Maps.{with_value}
 use Rattle.pf_map.proofs.Maps.{stays_sorted}
 use Rattle.pf_state.specs.{Orders.name_total, declared.{state.Held.Held, state.StateName.StateName, step.StateStep.StateStep, step.StateStep.TheVariants.Insert, step.StateStep.TheVariants.Delete, step.StateStep.TheVariants.Clear}, Dues.IsDueAt, States.{PlainState, name_order, held_at, NamesFlows, IsStates, stands, all_stand, are_whole, is_whole}, Steps.{insertion, has_effect, without_state, without_due, due_count, inserts_due, any_inserts_due, stepped, after}, Laws.States.{still_held, TicksTakeOutTheDue, StepsLeaveNoneDue}}
-use Rattle.pf_state.proofs.{Names.{one_name}, Tables.{no, nothing_is, none_behind, front_within, rest_within}}
-use Rattle.pf_map.proofs.Tests.{first_of, second_of, both_of}
+use Rattle.pf_state.proofs.{Names.{one_name}, Tables.{no, nothing_is, none_behind}}
+use Rattle.pf_map.proofs.Tests.{first_of, second_of, both_of, untied_of}
 
 -- ---- what is left
 
@@ -142,12 +142,8 @@ stand_without es tick n all = left (λ e. not (eq_by_cmp name_order n e.0)) es t
 stand_step : (es : List PlainState) (tick : ℕ) (x : StateStep) → all_stand tick es ≡ true → inserts_due tick x ≡ false → all_stand tick (stepped es x) ≡ true
 unfolding stepped
 stand_step es tick (Insert s) all none = by (has_effect (insertion es s)) where
-  new : (b : Bool) → not b ≡ false → b ≡ true
-  new true e = refl
-  new false e = no e
-
   by : (b : Bool) → all_stand tick (cond b (with_value name_order es s.0 (Some s.1)) es) ≡ true
-  by true = put_in s.0 s.1 (with_value name_order es s.0 None) tick (new (stands tick s.1) none) (stand_without es tick s.0 all)
+  by true = put_in s.0 s.1 (with_value name_order es s.0 None) tick (not-false (stands tick s.1) none) (stand_without es tick s.0 all)
   by false = all
 stand_step es tick (Delete n) all none = stand_without es tick n all
 stand_step es tick (Clear creator) all none = left (λ e. not (e.0.creator == creator)) es tick all
@@ -155,7 +151,7 @@ stand_step es tick (Clear creator) all none = left (λ e. not (e.0.creator == cr
 pub stand_after : (es : List PlainState) (tick : ℕ) (steps : List StateStep) → all_stand tick es ≡ true → any_inserts_due tick steps ≡ false → all_stand tick (after es steps) ≡ true
 stand_after es tick [] all none = all
 stand_after es tick (x ∷ xs) all none =
-    stand_after (stepped es x) tick xs (stand_step es tick x all (front_within (inserts_due tick x) (any_inserts_due tick xs) none)) (rest_within (inserts_due tick x) (any_inserts_due tick xs) none)
+    stand_after (stepped es x) tick xs (stand_step es tick x all (or_parts (inserts_due tick x) (any_inserts_due tick xs) none).0) (or_parts (inserts_due tick x) (any_inserts_due tick xs) none).1
 
 pub steps_leave_none_due : StepsLeaveNoneDue
 steps_leave_none_due es tick all = record { steps = λ steps none. stand_after es tick steps all none; without = λ n. stand_without es tick n all }
@@ -165,11 +161,7 @@ steps_leave_none_due es tick all = record { steps = λ steps none. stand_after e
 -- a name that is below all others isn't there
 not_there : (n : StateName) (es : List PlainState) → T (below_all name_order n es) → without_state es n ≡ es
 not_there n [] low = refl
-not_there n (e ∷ es) low = rw (less_than (name_order n e.0) (first_of _ _ low)) (ap (λ (l : List PlainState). e ∷ l) (not_there n es (second_of _ _ low))) where
-  less_than : (r : Ordering) → T (is_lt r) → is_eq r ≡ false
-  less_than Less p = refl
-  less_than Equal p = absurd p
-  less_than Greater p = absurd p
+not_there n (e ∷ es) low = rw (untied_of (name_order n e.0) (first_of _ _ low)) (ap (λ (l : List PlainState). e ∷ l) (not_there n es (second_of _ _ low)))
 
 -- where a state that is due is taken out, the same is left
 due_out : (es : List PlainState) (tick : ℕ) (n : StateName) (h : Held) → T (is_sorted name_order es) → held_at n es ≡ Some h → stands tick h ≡ false

@@ -1,17 +1,13 @@
 -- How entries are gathered, added and deleted in turn, and what is answered for each.
-use Rattle.std.proofs.{Common.{◌≡◌, ℕ, zero, suc, ◌+◌, ◌<◌, ◌≤◌, Bool, true, false, not, cond, ◌&&◌, ◌||◌, List, [], ◌∷◌, ◌++◌, length, get_or, take, drop, append-nil, append_assoc, drop-cons, Option, Some, None, is_some, is_none, refl, sym, ap, ◌∙◌, subst, true≢false, arith}, Math.Seq.take-suc, lemmas.List.take-append-drop, lemmas.List.Folds.list_any-append, lemmas.List.Sums.fold-append, lemmas.List.Elements.{All-nil, All-push}}
+use Rattle.std.proofs.{Common.{◌≡◌, ℕ, zero, suc, ◌+◌, ◌<◌, ◌≤◌, Bool, true, false, not, cond, ◌&&◌, ◌||◌, List, [], ◌∷◌, ◌++◌, length, get_or, take, drop, append-nil, append_assoc, drop-cons, Option, Some, None, is_some, is_none, refl, sym, ap, ◌∙◌, subst, true≢false, arith}, Math.Seq.take-suc, lemmas.Bool.or_parts, lemmas.List.take-append-drop, lemmas.List.Folds.list_any-append, lemmas.List.Sums.fold-append, lemmas.List.Elements.{All-nil, All-push}}
 use Rattle.std.specs.{Bool.beq, FinMap.put, FinMap.Entries.find_tied, Ordering.is_eq, List.{list_any, All, fold}, Option.option_or}
 use Rattle.pf_addr.specs.Address.{IsNetwork, PlainNet}
-use Rattle.pf_table.specs.{declared.answer.{Addition.{Addition, TheVariants.{Added, Same, Conflict}}, Deletion.Deletion}, Entries.PlainEntry, Laws.Edits.{Agree, any_is_sign, agree_push, sign_added, sign_left, sign_deleted}, Tables.sign_of, Edits.{with_entry, added, addition, additions, is_sign, has_entry, without_entry, deleted, deletion, deletions, same_entry, is_opposite, conflict_behind, conflict_in}, Noted.{first_sign, noted_with}}
+use Rattle.pf_table.specs.{declared.answer.{Addition.{Addition, TheVariants.{Added, Same, Conflict}}, Deletion.Deletion}, Entries.PlainEntry, Laws.Edits.{Agree, any_is_sign, agree_push, or_none, sign_added, sign_left, sign_deleted}, Tables.sign_of, Edits.{with_entry, added, addition, additions, is_sign, has_entry, without_entry, deleted, deletion, deletions, same_entry, is_opposite, conflict_behind, conflict_in}, Noted.{first_sign, noted_with}}
 use Rattle.pf_addr.specs.{NetOrder.net_order, Laws.NetOrder.net_total}
 use Rattle.pf_map.specs.Maps.{with_value, without}
 use Rattle.pf_map.proofs.Tests.{equal_of}
 
 -- ---- lists
-
-or_left : (a b : Bool) → (a || b) ≡ false → a ≡ false
-or_left true b e = absurd (true≢false e)
-or_left false b e = refl
 
 pub next_cut : (xs : List PlainEntry) (i : ℕ) (x : PlainEntry) → i < length xs → x ≡ get_or xs i x →
     (drop i xs ≡ x ∷ drop (i + 1) xs) × (take (i + 1) xs ≡ take i xs ++ x ∷ [])
@@ -46,7 +42,7 @@ agreeing xs none = agree_behind [] xs tt none
 
 agree_front : (xs ys : List PlainEntry) → Agree (xs ++ ys) → Agree xs
 agree_front [] ys agree = tt
-agree_front (x ∷ xs) ys agree = (or_left _ _ (sym (list_any-append (is_opposite x) xs ys) ∙ agree.0), agree_front xs ys agree.1)
+agree_front (x ∷ xs) ys agree = ((or_parts _ _ (sym (list_any-append (is_opposite x) xs ys) ∙ agree.0)).0, agree_front xs ys agree.1)
 
 pub none_before : (before xs : List PlainEntry) (i : ℕ) (x : PlainEntry) → i < length xs → x ≡ get_or xs i x → conflict_behind before xs ≡ None →
     list_any (is_opposite x) (before ++ take i xs) ≡ false
@@ -168,10 +164,6 @@ not_same es x q none some = by (is_eq (net_order q x.0)) refl where
   by : (t : Bool) → is_eq (net_order q x.0) ≡ t → sign_of q (x ∷ []) ≡ None
   by true tied = absurd (true≢false (sym some ∙ ap is_some (sym (find_tied net_order net_total q x.0 (equal_of _ tied) es) ∙ none)))
   by false other = rw other refl
-
-or_none : (o : Option Bool) → o ≡ option_or o None
-or_none None = refl
-or_none (Some s) = refl
 
 -- a sign that is there stays
 named_stays : (before : List PlainEntry) (x : PlainEntry) (q : PlainNet) (s : Bool) → sign_of x.0 before ≡ Some s →

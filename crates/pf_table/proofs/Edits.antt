@@ -30,15 +30,15 @@ pub replace_leaves_table : (xs after : List PlainEntry) → All (λ x. IsNetwork
     IsTable after
 replace_leaves_table xs after = add_leaves_table [] xs after no_entries
 
+pub still_few : (a b c : ℕ) → a ≤ b → b ≤ c → a ≤ c
+still_few a b c p q = omega arith
+
 pub delete_leaves_table : (es xs after : List PlainEntry) → IsTable es → after ≡ deleted es xs → IsTable after
 delete_leaves_table es xs after table is = record {
   sorted = rw is (sorted_deleted es xs table.sorted);
   networks = rw is (All-from_recursion _ _ (deleted_all IsNetwork es xs (recursion_from_All _ es table.networks)));
-  few = let fewer = deleted_fewer es xs in let most = table.few in rw is (no_more _ _ _ fewer most);
+  few = let fewer = deleted_fewer es xs in let most = table.few in rw is (still_few _ _ _ fewer most);
 }
-  where
-    no_more : (a b c : ℕ) → a ≤ b → b ≤ c → a ≤ c
-    no_more a b c p q = omega arith
 
 -- ---- how short networks are
 

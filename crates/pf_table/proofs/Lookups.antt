@@ -4,7 +4,7 @@ use Rattle.std.specs.{List.{Contains, All}, Ordering.{is_eq, is_lt, nat_cmp, ord
 use Rattle.pf_addr.specs.{declared.{addr.Addr.Addr, addr.Family.Family, addr.Family.TheVariants.V4, addr.Family.TheVariants.V6}, Address.{PlainNet, IsNetwork, contains, same_family, family_of, width, number_in, first_bits, network_from}, Spelling.{addr_in, first_addr}, NetForms.first_number}
 use Rattle.pf_addr.specs.declared.addr.Addr.TheVariants as addr
 use Rattle.pf_table.specs.{Entries.PlainEntry, Shared.Share, Tables.{sign_of, Decides, longer, deciding}}
-use Rattle.pf_addr.specs.{NetOrder.{rank, net_order}, Laws.NetOrder.net_total}
+use Rattle.pf_addr.specs.{NetOrder.{rank, net_order}, Laws.{Bits.one_family, NetOrder.{net_total, one_rank}, Spelling.family_first}}
 use Rattle.pf_map.specs.{Maps.{at_or_before, last_where}, MapParts.{starts_behind, first_of as first_of_page, IsUpTo}}
 use Rattle.pf_map.proofs.MapParts.{page_up_to}
 use Rattle.pf_lanes.specs.Longest.{FindsLongest}
@@ -95,19 +95,13 @@ none_longer (g ∷ es) a e is f there holds = by (contains g.0 a) refl (none_lon
 
 -- ---- it is the only one
 
-one_family : (f g : Family) → same_family f g ≡ true → f ≡ g
-one_family V4 V4 e = refl
-one_family V4 V6 e = absurd (true≢false (sym e))
-one_family V6 V4 e = absurd (true≢false (sym e))
-one_family V6 V6 e = refl
-
 -- two networks of one length that contain an address are equal
 pub one_network : (m n : PlainNet) (a : Addr) → contains m a ≡ true → contains n a ≡ true → m.len ≡ n.len → m ≡ n
 unfolding contains
 one_network m n a of_m of_n same =
     let (m_family, m_front) = and_parts _ _ of_m in
     let (n_family, n_front) = and_parts _ _ of_n in
-    let family = one_family m.family (family_of a) m_family ∙ sym (one_family n.family (family_of a) n_family) in
+    let family = (one_family m.family (family_of a)).0 m_family ∙ sym ((one_family n.family (family_of a)).0 n_family) in
     let front = sym ((Decides-eqb (first_bits m.len a) m.front).0 m_front) ∙ ap (λ (k : ℕ). first_bits k a) same
     ∙ (Decides-eqb (first_bits n.len a) n.front).0 n_front in
     λ i. record { family = family i; len = same i; front = front i }
@@ -164,7 +158,7 @@ decided es a e is d = by (deciding es a) refl where
 -- a network contains only addresses of its own family
 pub contains_family : (net : PlainNet) (a : Addr) → contains net a ≡ true → net.family ≡ family_of a
 unfolding contains
-contains_family net a is = one_family net.family (family_of a) (and_parts _ _ is).0
+contains_family net a is = (one_family net.family (family_of a)).0 (and_parts _ _ is).0
 
 -- ---- the last entry that isn't past a network
 
@@ -247,7 +241,7 @@ holds_of : (n : PlainNet) (a : Addr) → contains n a ≡ true → Holds n a
 unfolding contains
 holds_of n a is =
     let (same, front) = and_parts _ _ is in
-    let family = one_family n.family (family_of a) same in
+    let family = (one_family n.family (family_of a)).0 same in
     let own = (Decides-eqb (first_bits n.len a) n.front).0 front in
     record { family = family; front = own; first = λ i. sym own i * 2 ^ (width (family i) - n.len) }
 
@@ -272,12 +266,6 @@ contains_up_to n a len is le =
     (subst (λ (m : ℕ). m ≤ first_number (network_from a len)) (sym own.first)
     (cut_less (width (family_of a) - len) (width (family_of a) - n.len) (number_in a) (omega (arith, le))))
     le
-
-same_rank : (f g : Family) → rank f ≡ rank g → f ≡ g
-same_rank V4 V4 e = refl
-same_rank V4 V6 e = absurd (omega (arith, e))
-same_rank V6 V4 e = absurd (omega (arith, e))
-same_rank V6 V6 e = refl
 
 pub none_longer_at_first : (es : List PlainEntry) (a : Addr) (len : ℕ) → All (λ e. IsNetwork e.0) es → len ≡ width (family_of a) →
     NoneLonger es a len
@@ -381,11 +369,7 @@ other_family es a len e most passes other = by (deciding es a) refl where
       let low : rank f.0.family ≤ rank e.0.family = (by_parts e.0 f.0 (passes.last f there holds)).family in
       let high : rank e.0.family ≤ rank (family_of a) = (by_parts (network_from a len) e.0 passes.up_to).family in
       let same : rank f.0.family ≡ rank (family_of a) = ap rank own.family in
-      absurd (other (same_rank e.0.family (family_of a) (omega (arith, low, high, same))))
-
-first_family : (f : Family) (n : ℕ) → family_of (addr_in f n) ≡ f
-first_family V4 n = refl
-first_family V6 n = refl
+      absurd (other (one_rank e.0.family (family_of a) (omega (arith, low, high, same))))
 
 first_number_in : (f : Family) (n : ℕ) → number_in (addr_in f n) ≡ n
 first_number_in V4 n = refl
@@ -395,7 +379,7 @@ pub shorter : (es : List PlainEntry) (a : Addr) (len : ℕ) (e : PlainEntry) (n 
     Share a (first_addr e.0) n → NoneLonger es a n × (n < len)
 shorter es a len e n networks le passes share = (none_more, fewer (nat_lt n len) refl) where
   family : e.0.family ≡ family_of a
-  family = sym (share.family ∙ first_family e.0.family (first_number e.0))
+  family = sym (share.family ∙ family_first e.0.family (first_number e.0))
 
   parts : IsNotBehind (network_from a len) e.0
   parts = by_parts (network_from a len) e.0 passes.up_to

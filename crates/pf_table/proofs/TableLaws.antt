@@ -2,10 +2,10 @@
 use Rattle.std.proofs.{Common.{◌≡◌, ◌≢◌, ℕ, zero, suc, ◌+◌, ◌<◌, ◌≤◌, T, Bool, true, false, not, cond, List, [], ◌∷◌, ◌++◌, ◌&&◌, length, get_or, slice_get, take, append-nil, append_assoc, length-append, filter, Option, Some, None, is_some, is_none, option_map, refl, sym, ap, ◌∙◌, subst, true≢false, arith, Contains}, lemmas.List.Elements.{All-from_recursion, recursion_from_All}, lemmas.Option.{slice_get_within, get_or_from_slice_get}}
 use Rattle.std.specs.{Bool.beq, Cmp.tied_itself, FinMap.{put, is_sorted}, FinMap.Entries.{where_key, find-put, length-put, length_without, is_sorted-put, is_sorted-where_key}, List.list_any, Option.{option_or, option_map_or}, Ordering.{eq_by_cmp, is_eq}}
 use Rattle.pf_addr.specs.Address.{PlainNet, contains, IsNetwork}
-use Rattle.pf_table.specs.{declared.answer.{Addition.{Addition, TheVariants.{Same, Conflict}}, Deletion.{Deletion, TheVariants.Absent}}, Entries.PlainEntry, Tables.{sign_of, Decides, deciding, table_holds}, Edits.{added, addition, additions, with_entry, is_sign, has_entry, without_entry, deleted, deletion, deletions, same_entry, is_opposite, conflict_behind, conflict_in}, Laws.Edits.{sign_added, sign_deleted, sign_left, sorted_added, sorted_deleted, added_all, deleted_all, deleted_fewer, one_table}}
+use Rattle.pf_table.specs.{declared.answer.{Addition.{Addition, TheVariants.{Same, Conflict}}, Deletion.{Deletion, TheVariants.Absent}}, Entries.PlainEntry, Tables.{sign_of, Decides, deciding, table_holds}, Edits.{added, addition, additions, with_entry, is_sign, has_entry, without_entry, deleted, deletion, deletions, same_entry, is_opposite, conflict_behind, conflict_in}, Laws.Edits.{exchanged, or_none, sign_added, sign_deleted, sign_left, sorted_added, sorted_deleted, added_all, deleted_all, deleted_fewer, one_table}}
 use Rattle.pf_addr.specs.{NetOrder.net_order, Laws.NetOrder.net_total}
 use Rattle.pf_table.specs.Laws.Tables as Laws
-use Rattle.pf_table.proofs.{Batches.{told, none_before, no_other_sign, adds_told, dels_by_old}, Lookups.{none_contains, decides, decided, contains_family}}
+use Rattle.pf_table.proofs.{Batches.{told, none_before, no_other_sign, adds_told, dels_by_old}, Edits.still_few, Lookups.{none_contains, decides, decided, contains_family}}
 
 pub table_decides : Laws.TableDecides
 table_decides es a is = record {
@@ -49,11 +49,7 @@ named_with (x ∷ xs) q s none = by (eq_by_cmp net_order q x.0) refl (named_with
   by false other rest = let later : sign_of q xs ≡ None = rw other at none in rw other (rest later)
 
 pub all_else_stays : Laws.AllElseStays
-all_else_stays es xs q none = (sign_added es xs q ∙ ap (option_or (sign_of q es)) none ∙ own (sign_of q es), sign_deleted es xs q ∙ left (sign_of q es)) where
-  own : (o : Option Bool) → option_or o None ≡ o
-  own None = refl
-  own (Some s) = refl
-
+all_else_stays es xs q none = (sign_added es xs q ∙ ap (option_or (sign_of q es)) none ∙ sym (or_none (sign_of q es)), sign_deleted es xs q ∙ left (sign_of q es)) where
   left : (o : Option Bool) → sign_left xs q o ≡ o
   left None = refl
   left (Some s) = ap (λ b. cond b None (Some s)) (named_with xs q s none)
@@ -68,12 +64,9 @@ stays_table es xs is = record {
   deleted = record {
     sorted = sorted_deleted es xs is.sorted;
     networks = All-from_recursion _ _ (deleted_all IsNetwork es xs (recursion_from_All _ es is.networks));
-    few = no_more _ _ _ (deleted_fewer es xs) is.few;
+    few = still_few _ _ _ (deleted_fewer es xs) is.few;
   };
 }
-  where
-    no_more : (a b c : ℕ) → a ≤ b → b ≤ c → a ≤ c
-    no_more a b c p q = omega arith
 
 adds_each : (es xs : List PlainEntry) → length (additions es xs) ≡ length xs
 unfolding additions
@@ -187,15 +180,9 @@ repeats_change_nothing es x = record {
       left : (o : Option Bool) → is_sign x.1 (sign_left (x ∷ []) x.0 o) ≡ false
       left None = refl
       left (Some t) = by (beq t x.1) refl where
-        flip : (a b : Bool) → beq a b ≡ beq b a
-        flip true true = refl
-        flip true false = refl
-        flip false true = refl
-        flip false false = refl
-
         by : (b : Bool) → beq t x.1 ≡ b → is_sign x.1 (sign_left (x ∷ []) x.0 (Some t)) ≡ false
         by true same = rw (itself, same) refl
-        by false other = rw (itself, other) (flip x.1 t ∙ other)
+        by false other = rw (itself, other) (exchanged x.1 t ∙ other)
 
 -- ---- each entry's answer
 

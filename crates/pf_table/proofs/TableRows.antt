@@ -6,16 +6,12 @@ use Rattle.pf_addr.specs.Address.{PlainNet, IsNetwork}
 use Rattle.pf_form.specs.Bytes.{Forms.Fits, Lists.{ordered, in_order}}
 use Rattle.pf_table.specs.{Entries.PlainEntry, Tables.IsTable, EntryForms.{entry, plain_entry, entry_before}, Laws.EntryForms.{entry_fits, entry_again}}
 use Rattle.pf_addr.specs.{NetOrder.net_order, Laws.NetOrder.net_total}
-use Rattle.pf_map.proofs.Tests.{first_of, second_of, less_of}
+use Rattle.pf_map.proofs.Tests.{true_of, first_of, second_of, less_of}
 use Rattle.std.proofs.lemmas.Bool.{and_parts, and_from}
 
 each_fits : (es : List PlainEntry) → All (λ e. IsNetwork e.0) es → AllByRecursion (Fits entry) (map plain_entry es)
 each_fits [] all = tt
 each_fits (e ∷ es) all = (entry_fits e (all 0 e (omega arith)), each_fits es (λ k d lt. all (suc k) d (omega (arith, lt))))
-
-is_of : (b : Bool) → T b → b ≡ true
-is_of true h = refl
-is_of false h = absurd h
 
 before_is : (e f : PlainEntry) → entry_before (plain_entry e) (plain_entry f) ≡ is_lt (net_order e.0 f.0)
 before_is e f = λ i. is_lt (net_order (entry_again e i).0 (entry_again f i).0)
@@ -24,7 +20,7 @@ in_turn : (es : List PlainEntry) → T (is_sorted net_order es) → in_order ent
 in_turn [] s = refl
 in_turn (e ∷ []) s = refl
 in_turn (e ∷ f ∷ es) s =
-    let less : is_lt (net_order e.0 f.0) ≡ true = is_of _ (first_of _ _ (first_of _ _ s)) in
+    let less : is_lt (net_order e.0 f.0) ≡ true = true_of _ (first_of _ _ (first_of _ _ s)) in
     and_from (entry_before (plain_entry e) (plain_entry f)) (in_order entry_before (map plain_entry (f ∷ es))) (before_is e f ∙ less) (in_turn (f ∷ es) (second_of _ _ s))
 
 pub table_fits : (es : List PlainEntry) → IsTable es → Fits (ordered entry_before 4 entry) (map plain_entry es)

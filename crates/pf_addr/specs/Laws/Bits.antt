@@ -4,7 +4,7 @@ use Rattle.pf_addr.specs.declared.{addr.Addr.Addr, addr.Family.Family, addr.Fami
 use Rattle.pf_addr.specs.declared.addr.Addr.TheVariants as addr
 use Rattle.pf_addr.specs.Address.{PlainNet, IsNetwork, width, family_of, number_in, first_bits, network_from, same_family, contains, IsAddr, bit, BeginsAs, Agree}
 
-one_family : (f g : Family) → Decides (same_family f g) (f ≡ g)
+pub one_family : (f g : Family) → Decides (same_family f g) (f ≡ g)
 one_family V4 V4 = (λ _. refl, λ _. refl)
 one_family V4 V6 = (λ e. absurd (true≢false (sym e)), λ e. sym (ap (same_family V4) e))
 one_family V6 V4 = (λ e. absurd (true≢false (sym e)), λ e. sym (ap (same_family V6) e))

@@ -20,11 +20,11 @@ then_tied Less b e = absurd (true≢false (sym (ap is_eq e)))
 then_tied Equal b e = e
 then_tied Greater b e = absurd (true≢false (sym (ap is_eq e)))
 
-one_family : (f g : Family) → rank f ≡ rank g → f ≡ g
-one_family V4 V4 e = refl
-one_family V4 V6 e = absurd (omega arith)
-one_family V6 V4 e = absurd (omega arith)
-one_family V6 V6 e = refl
+pub one_rank : (f g : Family) → rank f ≡ rank g → f ≡ g
+one_rank V4 V4 e = refl
+one_rank V4 V6 e = absurd (omega arith)
+one_rank V6 V4 e = absurd (omega arith)
+one_rank V6 V6 e = refl
 
 one_front : (a b k : ℕ) → a * 2 ^ k ≡ b * 2 ^ k → a ≡ b
 one_front a b k e = sym (mul-div_cancel a (pow_pos k)) ∙ ap (λ (m : ℕ). m / 2 ^ k) e ∙ mul-div_cancel b (pow_pos k)
@@ -32,7 +32,7 @@ one_front a b k e = sym (mul-div_cancel a (pow_pos k)) ∙ ap (λ (m : ℕ). m /
 pub net_same : IsAntisymmetric net_order
 unfolding net_order
 net_same x y e =
-    let family = one_family x.family y.family (nat_cmp-IsAntisymmetric (rank x.family) (rank y.family) (first_tied _ _ e)) in
+    let family = one_rank x.family y.family (nat_cmp-IsAntisymmetric (rank x.family) (rank y.family) (first_tied _ _ e)) in
     let behind = then_tied _ _ e in
     let first = nat_cmp-IsAntisymmetric (first_number x) (first_number y) (first_tied _ _ behind) in
     let len = nat_cmp-IsAntisymmetric x.len y.len (then_tied _ _ behind) in

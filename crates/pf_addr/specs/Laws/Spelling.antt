@@ -179,7 +179,7 @@ first_below V6 len front le lt = let sum : len + (128 - len) ≡ 128 = omega ari
 first_is : (net : PlainNet) → IsNetwork net → IsAddr (first_addr net)
 first_is net is = first_below net.family net.len net.front is.len is.front
 
-family_first : (f : Family) (n : ℕ) → family_of (addr_in f n) ≡ f
+pub family_first : (f : Family) (n : ℕ) → family_of (addr_in f n) ≡ f
 family_first V4 n = refl
 family_first V6 n = refl
 

@@ -140,26 +140,39 @@ impl Durable {
         requires { all_stand tick states ≡ true }
         ensures { IfOk result (λ d. d ≡ record { epoch = opening; tick = tick; config = config; states = states }) }
     {
-        Ok(Durable {
+        let sum = ruleset_sum(config.rules_at(&Path::main())?.as_slice());
+        let config = shared(alloc, config)?;
+        Ok(Durable::whole(opening, tick, config, shared(alloc, states)?, sum))
+    }
+
+    // All that is kept, and the checksum of its main rules. It is made here alone.
+    fn whole(
+        opening: u32,
+        tick: u64,
+        config: Arc<Config>,
+        states: Arc<StateTable>,
+        sum: [u8; 16],
+    ) -> Durable
+        requires sum { sum ≡ sum_of (arc_value config) }
+        requires standing { all_stand tick (arc_value states) ≡ true }
+        ensures { result ≡ record { epoch = opening; tick = tick; config = arc_value config; states = arc_value states } }
+    {
+        Durable {
             epoch: opening,
             tick,
-            sum: ruleset_sum(config.rules_at(&Path::main())?.as_slice()),
-            config: shared(alloc, config)?,
-            states: shared(alloc, states)?,
-        })
+            config,
+            states,
+            sum,
+        }
     }
 
     // This once more, all of it shared. `AllocError`: nothing is made.
     fn shared_all(&self) -> Result<Durable, AllocError>
         ensures { IfOk result (λ d. d ≡ self.now) }
     {
-        Ok(Durable {
-            epoch: self.epoch,
-            tick: self.tick,
-            config: Arc::try_clone(&self.config)?,
-            states: Arc::try_clone(&self.states)?,
-            sum: self.sum,
-        })
+        let config = Arc::try_clone(&self.config)?;
+        let states = Arc::try_clone(&self.states)?;
+        Ok(Durable::whole(self.epoch, self.tick, config, states, self.sum))
     }
 
     /// The epoch of the opening.

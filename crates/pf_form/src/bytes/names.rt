@@ -5,7 +5,7 @@ ghost use Rattle.pf_form.specs.{Bytes.Forms.{Form, onto}, Bytes.Names.{filled, a
 use crate::bytes::fault::{Fault, Undecoded};
 use crate::bytes::reading::Rest;
 use crate::bytes::writing::push_bytes;
-use std::alloc::{AllocError, Global};
+use std::alloc::AllocError;
 
 /// The name in a field of so many bytes: those before its first zero, or all. It takes no memory.
 ///
@@ -25,18 +25,6 @@ pub fn read_filled<'a>(width: usize, from: &mut Rest<'a>) -> Result<&'a [u8], Un
     }
     *from = rest;
     Ok(name)
-}
-
-/// Like [`read_filled`], as a list of its own. Fails too when out of memory.
-pub fn read_padded<'a>(
-    alloc: Global,
-    width: usize,
-    from: &mut Rest<'a>,
-) -> Result<Vec<u8>, Undecoded>
-    ensures { Reads (λ v. filled width v.items) (padded width) result from.old.now from.new.now }
-{
-    let name = read_filled(width, from)?;
-    Ok(Vec::from_slice(alloc, name)?)
 }
 
 /// How many bytes come before the first zero.

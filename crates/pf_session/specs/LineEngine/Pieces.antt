@@ -9,7 +9,7 @@ Answers Serves (Ok x) lines old new held held' = Answered Serves lines old new h
 Answers Serves (Err e) lines old new held held' = CutOff Serves lines old new held held'
 
 -- the whole lines of the input were answered, and as much as is looked at is kept of the rest
-pub record SoFar {S : Type 0} (Serves : S → S → List (List ℕ) → List ℕ → Type 0)
+pub record SessionSoFar {S : Type 0} (Serves : S → S → List (List ℕ) → List ℕ → Type 0)
     (input kept : List ℕ) (old new : S) (held held' : Option (List ℕ)) : Type 0 where
   pub lines : List (List ℕ)
   pub rest : List ℕ

@@ -32,14 +32,14 @@ pub record CutOff {S L : Type 0} (Serves : S → S → List L → List ℕ → T
 -- What was done for an input that is cut into these whole lines and this rest. At its end all its lines are answered, and where no more
 -- could be read all its whole lines. Where a write failed, some lines from the front on are, and the rest is one only at the input's end.
 -- Where there was no memory for the line buffer, nothing is.
-abbrev pub Ends : {S : Type 0} → (S → S → List (List ℕ) → List ℕ → Type 0)
+abbrev pub SessionEnds : {S : Type 0} → (S → S → List (List ℕ) → List ℕ → Type 0)
     → Result (Unit {0}) EngineFault → List ℕ → List (List ℕ) → List ℕ → Option (List ℕ) → S → S → Option (List ℕ) → Option (List ℕ) → Type 0
-Ends Serves (Ok u) input lines rest unread old new held held' =
+SessionEnds Serves (Ok u) input lines rest unread old new held held' =
     Answered Serves (lines ++ last_line rest) old new held held' × IsAtEnd unread
-Ends Serves (Err fault.Read) input lines rest unread old new held held' = Answered Serves lines old new held held'
-Ends Serves (Err fault.Write) input lines rest unread old new held held' =
+SessionEnds Serves (Err fault.Read) input lines rest unread old new held held' = Answered Serves lines old new held held'
+SessionEnds Serves (Err fault.Write) input lines rest unread old new held held' =
     CutOff Serves lines old new held held' ⊎ (CutOff Serves (lines ++ last_line rest) old new held held' × IsAtEnd unread)
-Ends Serves (Err fault.Memory) input lines rest unread old new held held' = (input ≡ []) × (new ≡ old) × Keeps held held'
+SessionEnds Serves (Err fault.Memory) input lines rest unread old new held held' = (input ≡ []) × (new ≡ old) × Keeps held held'
 
 -- What was read, and what was done for it.
 pub record IsSession {S : Type 0} (Serves : S → S → List (List ℕ) → List ℕ → Type 0)
@@ -49,4 +49,4 @@ pub record IsSession {S : Type 0} (Serves : S → S → List (List ℕ) → List
   pub rest : List ℕ
   pub read : Consumes unread still_unread input
   pub cut : IsCut input lines rest
-  pub ends : Ends Serves result input lines rest still_unread old new held held'
+  pub ends : SessionEnds Serves result input lines rest still_unread old new held held'

@@ -91,16 +91,16 @@ HasEnded (Faulty f) unread = ⊤
 -- What was done for this input. At its end, and at a fault, all its messages are run, and what is wrong is written; where no more could
 -- be read all its messages are run. Where a write failed, some are, from the front on; some front of what is wrong may be out only where
 -- all of it would be written. When out of memory, all are that were whole before the last piece of it, which is what one read may give.
-abbrev pub Ends : {S : Type 0} → (S → S → List Part → List ℕ → Type 0)
+abbrev pub StreamEnds : {S : Type 0} → (S → S → List Part → List ℕ → Type 0)
     → Result (Unit {0}) EngineFault → List ℕ → Option (List ℕ) → S → S → Option (List ℕ) → Option (List ℕ) → Type 0
-Ends Serves (Ok u) input unread old new held held' =
+StreamEnds Serves (Ok u) input unread old new held held' =
     (ms : List Message) × (e : Ending) × Reads input ms e × Taken Serves (items ms ++ wrong e) old new held held' × HasEnded e unread
-Ends Serves (Err fault.Read) input unread old new held held' =
+StreamEnds Serves (Err fault.Read) input unread old new held held' =
     (ms : List Message) × (rest : List ℕ) × Reads input ms (Unfinished rest) × Taken Serves (items ms) old new held held'
-Ends Serves (Err fault.Write) input unread old new held held' =
+StreamEnds Serves (Err fault.Write) input unread old new held held' =
     (ms : List Message) × (e : Ending) × Reads input ms e
     × (CutShort Serves (items ms) old new held held' ⊎ (CutShort Serves (items ms ++ wrong e) old new held held' × HasEnded e unread))
-Ends Serves (Err fault.Memory) input unread old new held held' =
+StreamEnds Serves (Err fault.Memory) input unread old new held held' =
     (before piece : List ℕ) × (ms : List Message) × (rest : List ℕ) × (input ≡ before ++ piece) × (length piece ≤ 131072)
     × Reads before ms (Unfinished rest) × Taken Serves (items ms) old new held held'
 
@@ -109,7 +109,7 @@ pub record IsStream {S : Type 0} (Serves : S → S → List Part → List ℕ �
     (result : Result (Unit {0}) EngineFault) (unread still_unread : Option (List ℕ)) (old new : S) (held held' : Option (List ℕ)) : Type 0 where
   pub input : List ℕ
   pub read : Consumes unread still_unread input
-  pub ends : Ends Serves result input still_unread old new held held'
+  pub ends : StreamEnds Serves result input still_unread old new held held'
 
 -- ---- a piece
 
@@ -175,7 +175,7 @@ TakesPiece Serves result piece kept kept' old new held held' =
 -- ---- so far
 
 -- the messages of the input were run, and the reader keeps the rest
-pub record SoFar {S : Type 0} (Serves : S → S → List Part → List ℕ → Type 0)
+pub record StreamSoFar {S : Type 0} (Serves : S → S → List Part → List ℕ → Type 0)
     (input : List ℕ) (kept : Option (List ℕ)) (old new : S) (held held' : Option (List ℕ)) : Type 0 where
   pub messages : List Message
   pub rest : List ℕ

@@ -1,6 +1,6 @@
 //! An input that comes in pieces, cut into lines, and each line answered.
 ghost use Rattle.std.specs.Prelude.{◌≡◌, ℕ, ◌≤◌, ◌++◌, List, length, take, Option, IfOk, MatchResult};
-ghost use Rattle.pf_session.specs.{LineEngine.Chains.Chain, LineEngine.Lines.{last_line, seen}, LineEngine.Sessions.Answered, LineEngine.Pieces.{Answers, SoFar, Failed}};
+ghost use Rattle.pf_session.specs.{LineEngine.Chains.Chain, LineEngine.Lines.{last_line, seen}, LineEngine.Sessions.Answered, LineEngine.Pieces.{Answers, SessionSoFar, Failed}};
 
 use crate::line_engine::answer_line::{AnswerLine, LOOKED_AT};
 use std::alloc::Global;
@@ -20,9 +20,9 @@ pub fn answer_piece<A: AnswerLine, W: Write>(
     requires few { kept ≤ LOOKED_AT }
     ensures few { IfOk result (λ kept. kept ≤ LOOKED_AT) }
     ensures session { (input : List ℕ) (start : A) (held : Option (List ℕ)) →
-        SoFar (Chain A.Takes) input (take kept line.old) start answerer.old held (W.contents writer.old) →
+        SessionSoFar (Chain A.Takes) input (take kept line.old) start answerer.old held (W.contents writer.old) →
         MatchResult result
-        (λ kept. SoFar (Chain A.Takes) (input ++ piece.now) (take kept line.new) start answerer.new held (W.contents writer.new))
+        (λ kept. SessionSoFar (Chain A.Takes) (input ++ piece.now) (take kept line.new) start answerer.new held (W.contents writer.new))
         (λ e. Failed (Chain A.Takes) (input ++ piece.now) start answerer.new held (W.contents writer.new)) }
 {
     let mut len = kept;

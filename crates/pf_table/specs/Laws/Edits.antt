@@ -1,5 +1,5 @@
 -- What edits leave: the sign that each network then has, and that the table stays in order.
-use Rattle.std.proofs.{Common.{◌≡◌, ◌≤◌, T, Bool, true, false, not, cond, ◌&&◌, ◌||◌, List, [], ◌∷◌, ◌++◌, length, Option, Some, None, is_some, refl, sym, ap, ◌∙◌, true≢false, arith}, lemmas.List.Folds.list_any-append}
+use Rattle.std.proofs.{Common.{◌≡◌, ◌≤◌, T, Bool, true, false, not, cond, ◌&&◌, ◌||◌, List, [], ◌∷◌, ◌++◌, length, Option, Some, None, is_some, refl, sym, ap, ◌∙◌, true≢false, arith}, lemmas.Bool.or_parts, lemmas.List.Folds.list_any-append}
 use Rattle.std.specs.{Bool.beq, Cmp.{alike_right, eq_by_cmp_equiv}, FinMap.{put, is_sorted}, FinMap.Entries.{by_order, where_key, find-put, find-where_key, find_tied, is_sorted-put, is_sorted-where_key, same_entries}, List.{list_any, AllByRecursion}, Option.option_or, Ordering.{eq_by_cmp, is_eq}, declared.{cmp.Ordering.Ordering, cmp.Ordering.TheVariants.Less, cmp.Ordering.TheVariants.Equal, cmp.Ordering.TheVariants.Greater}}
 use Rattle.pf_addr.specs.Address.{PlainNet}
 use Rattle.pf_table.specs.{Entries.PlainEntry, Tables.sign_of, Edits.{with_entry, added, is_sign, has_entry, without_entry, deleted, same_entry, is_opposite}}
@@ -10,23 +10,25 @@ tied_of Less e = absurd (true≢false (sym e))
 tied_of Equal e = refl
 tied_of Greater e = absurd (true≢false (sym e))
 
+pub or_none : (o : Option Bool) → o ≡ option_or o None
+or_none None = refl
+or_none (Some s) = refl
+
+pub exchanged : (a b : Bool) → beq a b ≡ beq b a
+exchanged true true = refl
+exchanged true false = refl
+exchanged false true = refl
+exchanged false false = refl
+
 -- ---- adding
 
 sign_with : (es : List PlainEntry) (x : PlainEntry) (q : PlainNet) → sign_of q (with_entry es x) ≡ option_or (sign_of q es) (cond (eq_by_cmp net_order q x.0) (Some x.1) None)
 sign_with es x q = by (sign_of x.0 es) refl (eq_by_cmp net_order q x.0) refl where
   by : (o : Option Bool) → sign_of x.0 es ≡ o → (t : Bool) → eq_by_cmp net_order q x.0 ≡ t → sign_of q (with_entry es x) ≡ option_or (sign_of q es) (cond t (Some x.1) None)
   by (Some s) is true tied = let here : sign_of q es ≡ Some s = sym (find_tied net_order net_total q x.0 (tied_of _ tied) es) ∙ is in rw (is, here) refl
-  by (Some s) is false other = rw is (own (sign_of q es))
-    where
-      own : (o : Option Bool) → o ≡ option_or o None
-      own None = refl
-      own (Some t) = refl
+  by (Some s) is false other = rw is (or_none (sign_of q es))
   by None is true tied = let here : sign_of q es ≡ None = sym (find_tied net_order net_total q x.0 (tied_of _ tied) es) ∙ is in rw (is, here) (find-put net_order net_total q x.0 x.1 es ∙ ap (λ b. cond b (Some x.1) (sign_of q es)) tied)
-  by None is false other = rw is (find-put net_order net_total q x.0 x.1 es ∙ ap (λ b. cond b (Some x.1) (sign_of q es)) other ∙ own (sign_of q es))
-    where
-      own : (o : Option Bool) → o ≡ option_or o None
-      own None = refl
-      own (Some t) = refl
+  by None is false other = rw is (find-put net_order net_total q x.0 x.1 es ∙ ap (λ b. cond b (Some x.1) (sign_of q es)) other ∙ or_none (sign_of q es))
 
 or_or : (a : Option Bool) (t : Bool) (s : Bool) (c : Option Bool) → option_or (option_or a (cond t (Some s) None)) c ≡ option_or a (cond t (Some s) c)
 or_or (Some x) t s c = refl
@@ -36,10 +38,7 @@ or_or None false s c = refl
 -- a network keeps its sign, or else gets that of the first entry that names it
 pub sign_added : (es xs : List PlainEntry) (q : PlainNet) → sign_of q (added es xs) ≡ option_or (sign_of q es) (sign_of q xs)
 unfolding added
-sign_added es [] q = own (sign_of q es) where
-  own : (o : Option Bool) → o ≡ option_or o None
-  own None = refl
-  own (Some t) = refl
+sign_added es [] q = or_none (sign_of q es)
 sign_added es (x ∷ xs) q = sign_added (with_entry es x) xs q ∙ ap (λ o. option_or o (sign_of q xs)) (sign_with es x q) ∙ or_or (sign_of q es) (eq_by_cmp net_order q x.0) x.1 (sign_of q xs)
 
 pub sorted_added : (es xs : List PlainEntry) → T (is_sorted net_order es) → T (is_sorted net_order (added es xs))
@@ -111,17 +110,9 @@ opposite_back x e = λ i. (eq_by_cmp_equiv net_total).symm x.0 e.0 i && turned x
 
 pub agree_push : (es : List PlainEntry) (x : PlainEntry) → Agree es → list_any (is_opposite x) es ≡ false → Agree (es ++ x ∷ [])
 agree_push [] x agree none = (refl, tt)
-agree_push (e ∷ es) x agree none = (any, agree_push es x agree.1 (or_right _ _ none)) where
-  or_right : (a b : Bool) → (a || b) ≡ false → b ≡ false
-  or_right true b e = absurd (true≢false e)
-  or_right false b e = e
-
-  or_left : (a b : Bool) → (a || b) ≡ false → a ≡ false
-  or_left true b e = e
-  or_left false b e = refl
-
+agree_push (e ∷ es) x agree none = (any, agree_push es x agree.1 (or_parts _ _ none).1) where
   any : list_any (is_opposite e) (es ++ x ∷ []) ≡ false
-  any = list_any-append (is_opposite e) es (x ∷ []) ∙ ap (λ b. b || (is_opposite e x || false)) agree.0 ∙ ap (λ b. b || false) (opposite_back e x ∙ or_left _ _ none)
+  any = list_any-append (is_opposite e) es (x ∷ []) ∙ ap (λ b. b || (is_opposite e x || false)) agree.0 ∙ ap (λ b. b || false) (opposite_back e x ∙ (or_parts _ _ none).0)
 
 -- ---- deleting
 
@@ -149,15 +140,9 @@ sign_without es x q = by (eq_by_cmp net_order x.0 q) refl where
   both : (o : Option Bool) → sign_of q es ≡ o → sign_of x.0 es ≡ o → eq_by_cmp net_order x.0 q ≡ true → sign_of q (without_entry es x) ≡ sign_left (x ∷ []) q o
   both None at_q at_x tied = rw at_x at_q
   both (Some s) at_q at_x tied = sign (beq x.1 s) refl where
-    flip : (a b : Bool) → beq a b ≡ beq b a
-    flip true true = refl
-    flip true false = refl
-    flip false true = refl
-    flip false false = refl
-
     sign : (b : Bool) → beq x.1 s ≡ b → sign_of q (without_entry es x) ≡ sign_left (x ∷ []) q (Some s)
-    sign true same = rw (at_x, same) (gone ∙ ap (λ b. cond (not b) (sign_of q es) None) tied ∙ sym (rw (back, tied, flip s x.1, same) refl))
-    sign false other = rw (at_x, other) (at_q ∙ sym (rw (back, tied, flip s x.1, other) refl))
+    sign true same = rw (at_x, same) (gone ∙ ap (λ b. cond (not b) (sign_of q es) None) tied ∙ sym (rw (back, tied, exchanged s x.1, same) refl))
+    sign false other = rw (at_x, other) (at_q ∙ sym (rw (back, tied, exchanged s x.1, other) refl))
 
   by : (t : Bool) → eq_by_cmp net_order x.0 q ≡ t → sign_of q (without_entry es x) ≡ sign_left (x ∷ []) q (sign_of q es)
   by true tied = both (sign_of q es) refl (find_tied net_order net_total q x.0 (tied_of _ (back ∙ tied)) es) tied

@@ -1,5 +1,5 @@
 use Rattle.std.proofs.{Common.{◌≡◌, ℕ, ◌+◌, ◌++◌, List, take, drop, subst, arith}, lemmas.Result.err_from_is_err_and, lemmas.List.{length-take, take_all, take_more_set}}
-use Rattle.pf_session.specs.{LineEngine.Chains.Chain, LineEngine.Pieces.SoFar}
+use Rattle.pf_session.specs.{LineEngine.Chains.Chain, LineEngine.Pieces.SessionSoFar}
 use Rattle.pf_session.proofs.{AnsweredLines.{piece-on, piece-all, kept-more, kept-full, byte-so_far, line-so_far, line-failed}, line_engine.pieces.answer_piece.Goals.{then-byte-eq10+in_ok-answer_line, else-byte-eq10+then-len-lt-LOOKED_AT, else-byte-eq10+else-len-lt-LOOKED_AT}}
 use Rattle.pf_session.proofs.line_engine.pieces.answer_piece.Goals as goal
 
@@ -14,7 +14,7 @@ returns-in_err-answer_line-clause-session g c = λ input start held s.
 pub returns-clause-session : goal.returns-clause-session
 returns-clause-session g c = λ input start held s.
     let whole : take c.loop-byte.byte-index c.args.piece.now ≡ c.args.piece.now = take_all c.loop-byte.byte-index c.args.piece.now (omega (arith, c.loop-byte-test.false)) in
-    subst (λ (l : List ℕ). SoFar (Chain g.A.AnswerLine.Takes) (input ++ l) (take c.loop-byte.len c.loop-byte.line) start c.loop-byte.answerer held (g.W.Write.contents c.loop-byte.writer)) whole
+    subst (λ (l : List ℕ). SessionSoFar (Chain g.A.AnswerLine.Takes) (input ++ l) (take c.loop-byte.len c.loop-byte.line) start c.loop-byte.answerer held (g.W.Write.contents c.loop-byte.writer)) whole
     (c.loop-byte.invariant.session input start held s)
 
 pub loop-byte-preserved : goal.loop-byte-preserved
