@@ -249,10 +249,6 @@ def number_of(player, word, seed, number):
 
 def play(options):
     """Ten million streams and as many images in the whole, and in quick as many as take some 20 seconds on four processors."""
-    if not os.access(options.store_tests, os.X_OK):
-        result = Result()
-        result.wrong.append(f"{options.store_tests} isn't built: `rt run pf_store_tests` proves and builds it, and --store-tests names another place")
-        return result
     with new_folder() as folder:
         library = compiled("hostile_parts/checksum.c", folder)
         result = compare_checksums(library)

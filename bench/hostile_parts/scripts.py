@@ -1,8 +1,8 @@
 """The scripts that stand in `bench` for themselves: each allocation refused in turn, kills by process id under load, and the dearest requests.
 
 They are called as a user calls them, with the program that was named, and their status says how it went. `bench/saves --refuse`,
-`bench/seers --refuse` and `bench/no-memory` play programs of their own, which are proved and built by `--keep` of these scripts: where none is named,
-that is told, and nothing is counted.
+`bench/seers --refuse` and `bench/no-memory` play programs of their own, which are proved and built by `--keep` of these scripts: the whole makes
+them first. Where one isn't there, as in a quick run that names none, that is told, and nothing is counted.
 """
 import os
 import subprocess
@@ -36,7 +36,7 @@ def refusals(options):
         if name in options.built:
             named.append((name, *words, "--program", options.built[name]))
         else:
-            result.tell(" ".join([f"bench/{name}", *words]) + f": NOT RUN, as no built program was named by --{name}")
+            result.tell(" ".join([f"bench/{name}", *words]) + f": NOT RUN, as its program isn't built, and --{name} names none")
     return named, result
 
 

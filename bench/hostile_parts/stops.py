@@ -291,10 +291,6 @@ def count(result, number, made):
 
 def play(options):
     """600 scripts in the whole, and in quick as many as take some 20 seconds on four processors."""
-    if not os.access(options.store_tests, os.X_OK):
-        result = Result()
-        result.wrong.append(f"{options.store_tests} isn't built: `rt run pf_store_tests` proves and builds it, and --store-tests names another place")
-        return result
     numbers = range(options.few(60, 600))
     jobs = [(options, numbers[start : start + TOGETHER]) for start in range(0, len(numbers), TOGETHER)]
     result = spread(play_scripts, jobs, options.processes)
