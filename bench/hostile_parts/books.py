@@ -3,7 +3,7 @@
     Book(device)            opens what the device holds, or raises Refusal; Fault where a call of the opening fails
     book.line(line)         the reply to a line, with bars between its lines; a line `group A + B` is both in one group
 
-Which calls an opening and a save make is written from docs/DISK.md, and what a group is refused for from docs/CRASH.md. What bytes mean and which
+Which calls an opening and a save make is written from docs/DISK.md, and what a group is refused for from docs/PEERS.md. What bytes mean and which
 are written is in `reading` and `writing`, what a line is answered in `model`.
 """
 import copy
