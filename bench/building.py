@@ -153,7 +153,7 @@ def built(where, name, sources=MAIN, rows=""):
     shutil.copyfile(os.path.join(ROOT, "HANDLES"), os.path.join(where, "HANDLES"))
     with open(os.path.join(where, "crates.txt"), "w", encoding="utf-8") as it:
         it.write("\n".join([*lines, f"{name}: {needs}", ""]))
-    ran = subprocess.run(["rt", "run"], cwd=folder, input=rows, stdout=subprocess.PIPE, stderr=subprocess.STDOUT, text=True)
+    ran = subprocess.run([os.path.join(ROOT, "tools", "rt-once"), "run"], cwd=folder, input=rows, stdout=subprocess.PIPE, stderr=subprocess.STDOUT, text=True)
     program = os.path.join(folder, "out", name)
     if not os.path.isfile(program):
         sys.exit(ran.stdout)
