@@ -5,7 +5,7 @@ ghost use Rattle.pf_anchor.specs.Forms.{ruled_length};
 
 use crate::rule_list::RuleList;
 use pf_addr::path::Path;
-use pf_map::{Entries, KeyValue, PagedMap, Weigher};
+use pf_map::{Each, KeyValue, PagedMap, Weigher};
 use pf_rule::sum::RULE_FORM;
 use std::alloc::{AllocError, Global};
 
@@ -41,7 +41,7 @@ impl Weigher<Path, RuleList> for RulesetBytes {
 pub(crate) type Rulesets = PagedMap<Path, RuleList, RulesetBytes>;
 
 /// An iterator over rulesets in the order of their paths. Contracts see those that are still to come.
-pub type EachRuleset<'a> = Entries<'a, Path, RuleList, Placed>;
+pub type EachRuleset<'a> = Each<'a, Path, RuleList>;
 
 // The same ruleset, with its rules in columns.
 fn columned(alloc: Global, placed: &Placed) -> Result<Placed, AllocError>

@@ -1,11 +1,12 @@
 //! The active tables.
-ghost use Rattle.std.specs.Prelude.{◌≡◌};
+ghost use Rattle.std.specs.Prelude.{◌≡◌, length};
 ghost use Rattle.pf_form.specs.Bytes.Forms.{length_of};
+ghost use Rattle.pf_table.specs.Tables.{IsTable};
 ghost use Rattle.pf_anchor.specs.Forms.{named_form, plain_named};
 
 use pf_addr::path::{Path, TableName};
 use pf_key::{Key, Sought};
-use pf_map::{Entries, KeyValue, PagedMap, Weigher};
+use pf_map::{Each, KeyValue, PagedMap, Weigher};
 use pf_table::Table;
 use std::cmp::Ordering;
 
@@ -15,6 +16,15 @@ pub type PlacedTable = KeyValue<(Path, TableName), Table>;
 // How many bytes an entry takes.
 const ENTRY_BYTES: usize = 20;
 
+// How many entries a table has, which its invariant bounds.
+fn entry_count(table: &Table) -> usize
+    ensures value { result ≡ length table.now }
+    ensures table { IsTable table.now }
+{
+    let _entries = table.entries();
+    table.len()
+}
+
 /// How many bytes a table takes after its path where it is kept, in each version: a name after its length, and entries after their number.
 /// It looks at no entry.
 #[tactic(auto, using(crate::proofs::Lengths::named_long))]
@@ -22,9 +32,7 @@ pub fn named_table_length(name: &TableName, table: &Table) -> u32
     ensures { result ≡ length_of named_form (plain_named (name.now, table.now)) }
 {
     let name = name.as_bytes();
-    // the invariant of tables bounds the number of their entries
-    let _entries = table.entries();
-    (5 + name.len() + ENTRY_BYTES * table.len()) as u32
+    (5 + name.len() + ENTRY_BYTES * entry_count(table)) as u32
 }
 
 /// The weight of a table: the bytes that it takes where it is kept.
@@ -40,10 +48,7 @@ impl Weigher<(Path, TableName), Table> for TableBytes {
         let (path, name) = placed.key();
         let path = path.as_bytes();
         let name = name.as_bytes();
-        let table = placed.value();
-        // the invariant of tables bounds the number of their entries
-        let _entries = table.entries();
-        (6 + path.len() + name.len() + ENTRY_BYTES * table.len()) as u32
+        (6 + path.len() + name.len() + ENTRY_BYTES * entry_count(placed.value())) as u32
     }
 }
 
@@ -52,7 +57,7 @@ impl Weigher<(Path, TableName), Table> for TableBytes {
 pub(crate) type Tables = PagedMap<(Path, TableName), Table, TableBytes>;
 
 /// An iterator over tables in the order of their paths, and at one path in that of their names. Contracts see those that are still to come.
-pub type EachTable<'a> = Entries<'a, (Path, TableName), Table, PlacedTable>;
+pub type EachTable<'a> = Each<'a, (Path, TableName), Table>;
 
 /// Where a table is looked for. It borrows the path, which is long to copy.
 #[derive(Clone, Copy)]

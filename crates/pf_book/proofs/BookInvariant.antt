@@ -1,13 +1,13 @@
 -- A Book's invariant, after each thing that changes the Book.
 use Rattle.std.proofs.{Common.{◌≡◌, inl, inr, ℕ, ◌+◌, ◌<◌, ◌≤◌, ◌^◌, Bool, true, false, List, [], ◌∷◌, ◌++◌, length, take, drop, refl, ap, sym, ◌∙◌, subst, append-nil, arith, Result}, lemmas.{Bool.Decides.nat_tests, List.{length-append, take_all, take-append-le}, List.Sums.{fold-append}}}
-use Rattle.std.specs.Prelude.{sum}
+use Rattle.std.specs.Prelude.{sum, MatchBool}
 use mathlib.Core.List.{IsPrefix}
 use Rattle.pf_disk.specs.Disk.{IsImage}
 use Rattle.pf_ticket.specs.Laws.Tickets.{IsWithin as AreTicketsWithin}
 use Rattle.pf_core.specs.declared.{command.Command.Command, group.TheConstants.GROUP_LIMIT, reply.Refusal.Refusal, step.Step.Step}
 use Rattle.pf_core.specs.{Commands.step_by, Durable.Changes.{PlainDurable, PlainChange, applied, after}, WorldBooks.{WorldBook, IsFolded}, Refusals.OrMemory, Cores.{PlainCore, stepped}, Worlds.{flat, grouped}}
 use Rattle.pf_store.specs.{Openings.{IsNoLaterThan, LeavesRoom}, Rooms.on_device, Stores.{Holds, HoldsEither, IsRoomy}, StoreKept.{Stands, PlainStore}}
-use Rattle.pf_past.specs.Pasts.{PlainFront, no_changes, all_acked}
+use Rattle.pf_past.specs.Pasts.{PlainFront, PlainTip, no_changes, all_acked, front_of}
 use Rattle.pf_view.specs.Seers.{PlainShower}
 use Rattle.pf_book.specs.{Books.{BookParts, parts_of, cut, world_book_of, HasRoom, HoldsFront, IsOpened, IsBook, shows_all}}
 use Rattle.pf_book.proofs.Openable.{later}
@@ -19,6 +19,12 @@ use Rattle.pf_book.proofs.HistoryGroups.{acked-is, flat-acked, cut-still, flat-m
 -- a world book that shows all that was acknowledged
 pub shows-acked : {D : Type 0} (p : BookParts D) (shower : PlainShower) → sum p.sizes ≡ p.acked → shower.shown ≡ take p.acked p.log → world_book_of (record p { shower = shower }) ≡ shows_all (world_book_of p)
 shows-acked p shower cuts is = ap (λ (l : List PlainChange). record (world_book_of p) { shown = length l; published = after p.base l }) (is ∙ sym (flat-acked p.log p.sizes p.acked cuts))
+
+-- and one that shows all of it or no more than before
+pub shows-either : {D : Type 0} (p : BookParts D) (shower : PlainShower) (b : Bool) → sum p.sizes ≡ p.acked → MatchBool b (shower.shown ≡ take p.acked p.log) (shower.shown ≡ p.shower.shown)
+    → MatchBool b (world_book_of (record p { shower = shower }) ≡ shows_all (world_book_of p)) (world_book_of (record p { shower = shower }) ≡ world_book_of p)
+shows-either p shower true cuts is = shows-acked p shower cuts is
+shows-either p shower false cuts is = ap (λ (l : List PlainChange). record (world_book_of p) { shown = length l; published = after p.base l }) is
 
 -- a world book with a pending group at its end
 pub with-pending : {D : Type 0} (p : BookParts D) (store : PlainStore D) (log group : List PlainChange) (sizes : List ℕ) → sum p.sizes ≡ p.acked → p.acked ≡ length p.log → log ≡ p.log ++ group → sizes ≡ p.sizes → store.size ≡ p.store.size →
@@ -49,13 +55,13 @@ module _ {D : Type 0} {seen : D → List ℕ} {unsynced : D → ℕ → Bool} {p
   Each store P = (c : List ℕ) → IsImage (seen store.disk) (unsynced store.disk) c → P c
 
   -- a group was kept
-  pub more-book : (store : PlainStore D) (whole : PlainCore) (durable : PlainDurable) (log : List PlainChange) (sizes : List ℕ) (acked : ℕ) (tip front : PlainFront) (group : List PlainChange)
-      → IsGrown p log sizes acked group → HasRoom (world_book_of p) group → tip.front ≡ p.tip.front ++ group → tip.acked ≡ p.tip.acked + length group → front ≡ tip
+  pub more-book : (store : PlainStore D) (whole : PlainCore) (durable : PlainDurable) (log : List PlainChange) (sizes : List ℕ) (acked : ℕ) (tip : PlainTip) (front : PlainFront) (group : List PlainChange)
+      → IsGrown p log sizes acked group → HasRoom (world_book_of p) group → tip.front ≡ p.tip.front ++ group → tip.acked ≡ p.tip.acked + length group → tip.shown ≡ p.tip.shown → front ≡ front_of tip
       → whole.durable ≡ after p.whole.durable group → AreTicketsWithin whole.tickets → durable ≡ whole.durable
       → p.store.halted ≡ false → store.halted ≡ false → Stands seen unsynced store whole.durable → store.generation ≤ p.store.generation + 1
       → Each store (λ c. Holds c whole.durable) → Each store (IsNoLaterThan (store.generation + 1)) → (IsRoomy store.size p.base → Each store LeavesRoom)
       → IsBook seen unsynced (record p { store = store; whole = whole; durable = durable; log = log; sizes = sizes; acked = acked; tip = tip; front = front })
-  more-book store whole durable log sizes acked tip front group g room noted counts same left tickets latest was on stands raised images generations roomy =
+  more-book store whole durable log sizes acked tip front group g room noted counts still same left tickets latest was on stands raised images generations roomy =
       let groups : List (List PlainChange) = cut p.sizes p.log in
       let long : length log ≡ length p.log + length group = grown-length g in
       let all : acked ≡ length log = grown-all g in
@@ -67,7 +73,7 @@ module _ {D : Type 0} {seen : D → List ℕ} {unsynced : D → ℕ → Bool} {p
       let total : take acked log ≡ log = take_all acked log (omega (arith, all)) in
       let whole_front : tip.front ≡ take acked log = log_is ∙ sym total in
       let whole_count : tip.acked ≡ length (take acked log) = acked_is ∙ all ∙ ap length (sym total) in
-      let tip_is : tip ≡ all_acked (take acked log) = λ j. record { front = whole_front j; acked = whole_count j } in
+      let tip_is : front_of tip ≡ all_acked (take acked log) = λ j. record { front = whole_front j; acked = whole_count j } in
       record {
         folded = record {
           durable = kept;
@@ -92,6 +98,7 @@ module _ {D : Type 0} {seen : D → List ℕ} {unsynced : D → ℕ → Bool} {p
         offered_low = omega (arith, i.offered_low, g.counted);
         offered_is = i.offered_is ∙ sym (ap (take p.offered) g.logged ∙ taken-still p.log group p.offered (omega (arith, i.offered_low, i.low)));
         shown_is = i.shown_is;
+        noted = still ∙ i.noted;
         latest = latest;
       }
 
@@ -110,12 +117,12 @@ module _ {D : Type 0} {seen : D → List ℕ} {unsynced : D → ℕ → Bool} {p
       (1, subst (λ (k : PlainDurable). Holds c k) is next)
 
   -- the device failed while a group was being kept
-  pub fault-book : (store : PlainStore D) (log : List PlainChange) (sizes : List ℕ) (tip : PlainFront) (group : List PlainChange)
+  pub fault-book : (store : PlainStore D) (log : List PlainChange) (sizes : List ℕ) (tip : PlainTip) (group : List PlainChange)
       → p.acked ≡ length p.log → 0 < length group → length group ≤ GROUP_LIMIT → HasRoom (world_book_of p) group → log ≡ p.log ++ group → sizes ≡ p.sizes
-      → tip.front ≡ p.tip.front ++ group → tip.acked ≡ p.tip.acked → store.halted ≡ true
+      → tip.front ≡ p.tip.front ++ group → tip.acked ≡ p.tip.acked → tip.shown ≡ p.tip.shown → store.halted ≡ true
       → Each store (HoldsEither p.whole.durable (after p.whole.durable group)) → Each store (IsNoLaterThan (store.generation + 1)) → (IsRoomy store.size p.base → Each store LeavesRoom)
       → IsBook seen unsynced (record p { store = store; log = log; sizes = sizes; tip = tip })
-  fault-book store log sizes tip group all some few room logged sized noted counts off images generations roomy =
+  fault-book store log sizes tip group all some few room logged sized noted counts still off images generations roomy =
       let long : length (p.log ++ group) ≡ length p.log + length group = length-append p.log group in
       let same : flat (cut p.sizes (p.log ++ group)) ≡ flat (cut p.sizes p.log) = ap flat (cut-still p.sizes p.log group (omega (arith, i.cuts, i.low))) in
       let out : store.halted ≡ false → ⊥ = λ h. cc (h, off) in
@@ -143,13 +150,14 @@ module _ {D : Type 0} {seen : D → List ℕ} {unsynced : D → ℕ → Bool} {p
         offered_low = i.offered_low;
         offered_is = i.offered_is ∙ sym (taken-still p.log group p.offered (omega (arith, i.offered_low, i.low)));
         shown_is = i.shown_is;
+        noted = still ∙ i.noted;
         latest = i.latest;
       })
 
   -- the core keeps the same, and more is offered, and perhaps shown
-  again-book : (whole : PlainCore) (offered : ℕ) (shower : PlainShower) → whole.durable ≡ p.whole.durable → AreTicketsWithin whole.tickets → offered ≤ p.acked → shower.offered ≡ take offered p.log → IsPrefix shower.shown shower.offered
-      → IsBook seen unsynced (record p { whole = whole; offered = offered; shower = shower })
-  again-book whole offered shower kept tickets low is begins =
+  again-book : (whole : PlainCore) (offered : ℕ) (shower : PlainShower) (tip : PlainTip) → whole.durable ≡ p.whole.durable → AreTicketsWithin whole.tickets → offered ≤ p.acked → shower.offered ≡ take offered p.log → IsPrefix shower.shown shower.offered → front_of tip ≡ front_of p.tip → tip.shown ≡ length shower.shown
+      → IsBook seen unsynced (record p { whole = whole; offered = offered; shower = shower; tip = tip })
+  again-book whole offered shower tip kept tickets low is begins same noted =
       let acked : flat (cut p.sizes p.log) ≡ take p.acked p.log = flat-acked p.log p.sizes p.acked i.cuts in
       let front : IsPrefix shower.shown (take p.acked p.log) = prefix_take p.log shower.shown offered p.acked low (subst (λ (l : List PlainChange). IsPrefix shower.shown l) is begins) in
       record {
@@ -159,8 +167,8 @@ module _ {D : Type 0} {seen : D → List ℕ} {unsynced : D → ℕ → Bool} {p
           published = ap (after p.base) (prefix_is shower.shown (take p.acked p.log) front ∙ ap (take (length shower.shown)) (sym acked));
         };
         tickets = tickets;
-        log_is = i.log_is;
-        acked_is = i.acked_is;
+        log_is = ap (λ (f : PlainFront). f.front) same ∙ i.log_is;
+        acked_is = ap (λ (f : PlainFront). f.acked) same ∙ i.acked_is;
         front_is = i.front_is;
         cuts = i.cuts;
         low = i.low;
@@ -176,27 +184,29 @@ module _ {D : Type 0} {seen : D → List ℕ} {unsynced : D → ℕ → Bool} {p
         offered_low = low;
         offered_is = is;
         shown_is = begins;
+        noted = noted;
         latest = i.latest ∙ sym kept;
       }
 
-  pub shown-book : (shower : PlainShower) → shower.offered ≡ take p.acked p.log → IsPrefix shower.shown shower.offered → IsBook seen unsynced (record p { offered = p.acked; shower = shower })
-  shown-book shower is begins = again-book p.whole p.acked shower refl i.tickets (omega arith) is begins
+  pub shown-book : (shower : PlainShower) (tip : PlainTip) → shower.offered ≡ take p.acked p.log → IsPrefix shower.shown shower.offered → front_of tip ≡ front_of p.tip → tip.shown ≡ length shower.shown
+      → IsBook seen unsynced (record p { offered = p.acked; shower = shower; tip = tip })
+  shown-book shower tip is begins same noted = again-book p.whole p.acked shower tip refl i.tickets (omega arith) is begins same noted
 
   -- a step of the core
   pub stepped-book : (whole : PlainCore) (c : Command) (takes : Bool) (r : Result Step Refusal) → OrMemory takes r (step_by p.whole.tickets p.whole.durable c) → whole ≡ stepped p.whole c r → IsBook seen unsynced (record p { whole = whole })
   stepped-book whole c takes r steps left =
-      rw left (again-book (stepped p.whole c r) p.offered p.shower refl (stepped-within p.whole.tickets p.whole.durable c takes r steps i.tickets) i.offered_low i.offered_is i.shown_is)
+      rw left (again-book (stepped p.whole c r) p.offered p.shower p.tip refl (stepped-within p.whole.tickets p.whole.durable c takes r steps i.tickets) i.offered_low i.offered_is i.shown_is refl i.noted)
 
 -- a new Book
-pub new-book : {D : Type 0} {seen : D → List ℕ} {unsynced : D → ℕ → Bool} (store : PlainStore D) (base : PlainDurable) (whole : PlainCore) (d : PlainDurable) (log : List PlainChange) (sizes : List ℕ) (limit : ℕ) (shower : PlainShower) (tip front : PlainFront)
-    → IsOpened seen unsynced store d → log ≡ [] → sizes ≡ [] → tip ≡ no_changes → front ≡ tip → d ≡ base → whole.durable ≡ d → AreTicketsWithin whole.tickets → limit ≤ 2 ^ 20 → shower.shown ≡ [] → shower.offered ≡ []
+pub new-book : {D : Type 0} {seen : D → List ℕ} {unsynced : D → ℕ → Bool} (store : PlainStore D) (base : PlainDurable) (whole : PlainCore) (d : PlainDurable) (log : List PlainChange) (sizes : List ℕ) (limit : ℕ) (shower : PlainShower) (tip : PlainTip) (front : PlainFront)
+    → IsOpened seen unsynced store d → log ≡ [] → sizes ≡ [] → tip ≡ no_changes → front ≡ all_acked [] → d ≡ base → whole.durable ≡ d → AreTicketsWithin whole.tickets → limit ≤ 2 ^ 20 → shower.shown ≡ [] → shower.offered ≡ []
     → IsBook seen unsynced (parts_of store base whole d log sizes 0 0 limit shower tip front)
 new-book {seen} {unsynced} store base whole d log sizes limit shower tip front o none uncut empty start same kept tickets low shown offered = rw (none, uncut) (record {
   folded = new-folded (kept ∙ same) refl (ap length shown) (ap (after base) shown);
   tickets = tickets;
-  log_is = ap (λ (f : PlainFront). f.front) empty;
-  acked_is = ap (λ (f : PlainFront). f.acked) empty;
-  front_is = start ∙ empty;
+  log_is = ap (λ (t : PlainTip). t.front) empty;
+  acked_is = ap (λ (t : PlainTip). t.acked) empty;
+  front_is = start;
   cuts = refl;
   low = omega arith;
   high = omega arith;
@@ -211,5 +221,6 @@ new-book {seen} {unsynced} store base whole d log sizes limit shower tip front o
   offered_low = omega arith;
   offered_is = offered;
   shown_is = subst (λ (l : List PlainChange). IsPrefix l shower.offered) (sym shown) (shower.offered, refl);
+  noted = ap (λ (t : PlainTip). t.shown) empty ∙ ap length (sym shown);
   latest = sym kept;
 })

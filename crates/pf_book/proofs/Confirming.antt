@@ -14,8 +14,8 @@ pub begins-first : (seq : ℕ) (front log : List PlainChange) → IsPrefix front
 begins-first seq front log begins = prefix_trans (take seq front) front log (take_begins front seq) begins
 
 -- what was acknowledged at a reply is acknowledged, so the receipt's change is
-pub acked-too : (past : PlainFront) (seq : ℕ) (change : Option PlainChange) (acked : ℕ) → past.acked ≤ acked → IsReceipt past seq change → ForSome change (λ e. length (take seq past.front) ≤ acked)
-acked-too past seq change acked within receipt = λ e some.
+pub acked-too : (past : PlainFront) (seq : ℕ) (change : Option PlainChange) (showing shown acked : ℕ) → past.acked ≤ acked → IsReceipt past seq change showing shown → ForSome change (λ e. length (take seq past.front) ≤ acked)
+acked-too past seq change showing shown acked within receipt = λ e some.
     let here : seq ≤ past.acked = receipt.acked e some in
     omega (arith, here, length-take-le seq past.front receipt.within, within)
 

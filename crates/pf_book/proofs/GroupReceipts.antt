@@ -1,6 +1,6 @@
 -- The receipts of a group's replies.
-use Rattle.std.proofs.{Common.{◌≡◌, inl, inr, ℕ, zero, suc, drop, ◌+◌, ◌≤◌, Bool, true, false, List, [], ◌∷◌, ◌++◌, length, take, Some, Result, Ok, Err, refl, sym, ap, ◌∙◌, subst, arith, append_assoc, append-nil, length-append}, lemmas.List.{map-id, take_all, take-append-le}}
-use Rattle.std.specs.{Prelude.{fold, map, slice_get}, List.AllByRecursion}
+use Rattle.std.proofs.{Common.{◌≡◌, inl, inr, ℕ, zero, suc, drop, ◌+◌, ◌≤◌, Bool, true, false, List, [], ◌∷◌, ◌++◌, length, take, Some, Result, Ok, Err, refl, sym, ap, ◌∙◌, subst, arith, append_assoc, append-nil, length-append}, lemmas.List.{map-id, take_all, take-append-le, Elements.{All-nil, All-cons}}}
+use Rattle.std.specs.{Prelude.{fold, map, slice_get, All}, List.AllByRecursion}
 use Rattle.pf_core.specs.declared.{command.Command.Command, reply.Refusal.Refusal, reply.Outcome.Outcome, reply.Reply.Reply, reply.Reply.TheVariants.{Answer, Applied, Stored, Refused}, step.Step.Step, step.Step.TheVariants.{Done, Wants, OfHistory}}
 use Rattle.pf_core.specs.{Durable.Changes.PlainChange, WorldBooks.{WorldBook, LeadsGroup}, Worlds.{Upshot, shown_by, CurrentOpening, flat, log_of, grouped, step_in, reply_to, changes_of, amid, changes_with, changes_due, replies_due}}
 use Rattle.pf_core.proofs.{Courses.{flat-with, IsOfGroup, told, wanted, refused, step-amid, MayBeGrouped, told_as, IsAccepted, accepted}, GroupLeads.{IsShownSo, shown-due}}
@@ -23,7 +23,7 @@ due-more h changes (c ∷ cs) =
     (wants ++ rest.0, rest.1 ∙ append_assoc changes wants rest.0)
 
 -- the log in the course of a group, if nothing is pending
-log-so-far : (h : CurrentOpening) (changes : List PlainChange) → h.pending ≡ [] → log_of (amid h changes) ≡ flat h.acked ++ changes
+pub log-so-far : (h : CurrentOpening) (changes : List PlainChange) → h.pending ≡ [] → log_of (amid h changes) ≡ flat h.acked ++ changes
 log-so-far h changes none =
     ap (λ (gs : List (List PlainChange)). flat ((h.acked ++ grouped changes) ++ gs)) none ∙ ap flat (append-nil (h.acked ++ grouped changes)) ∙ flat-with h.acked changes
 
@@ -40,75 +40,82 @@ behind-is : (h : CurrentOpening) (log changes : List PlainChange) (c : Command) 
 behind-is h log changes c cs [] none = absurd none
 behind-is h log changes c cs (a ∷ others) both = (record { front = both.0.0; acked = both.0.1.0; change = both.0.1.1.0; token = both.0.1.1.1 }, both.1)
 
-first-of : (h : CurrentOpening) (log changes : List PlainChange) (s : Result Step Refusal) (n : ℕ) (r : Reply) → h.pending ≡ [] → take n log ≡ flat h.acked ++ (changes ++ changes_of s) → n ≡ length (flat h.acked) + length (changes ++ changes_of s)
-    → First h log changes s r (slip_at log n (slice_get (changes_of s) 0) r)
-first-of h log changes s n r none front is =
-    let long : n ≡ length (take n log) = is ∙ sym (ap length front ∙ length-append (flat h.acked) (changes ++ changes_of s)) in
-    let whole : take n log ≡ log_of (amid h changes) ++ changes_of s =
-    front ∙ sym (append_assoc (flat h.acked) changes (changes_of s)) ∙ ap (λ (l : List PlainChange). l ++ changes_of s) (sym (log-so-far h changes none)) in
-    (whole, (long, (refl, refl)))
+-- so many changes are shown after the group
+module _ (many : ℕ) where
+  first-of : (h : CurrentOpening) (log changes : List PlainChange) (s : Result Step Refusal) (n : ℕ) (r : Reply) → h.pending ≡ [] → take n log ≡ flat h.acked ++ (changes ++ changes_of s) → n ≡ length (flat h.acked) + length (changes ++ changes_of s)
+      → First h log changes s r (slip_at many log n (slice_get (changes_of s) 0) r)
+  first-of h log changes s n r none front is =
+      let long : n ≡ length (take n log) = is ∙ sym (ap length front ∙ length-append (flat h.acked) (changes ++ changes_of s)) in
+      let whole : take n log ≡ log_of (amid h changes) ++ changes_of s =
+      front ∙ sym (append_assoc (flat h.acked) changes (changes_of s)) ∙ ap (λ (l : List PlainChange). l ++ changes_of s) (sym (log-so-far h changes none)) in
+      (whole, (long, (refl, refl)))
 
--- the same of the commands after the first
-abbrev On : CurrentOpening → List PlainChange → List Command → Bool → Type 0
-On h log cs stored = (changes rest : List PlainChange) → changes_due h changes cs ≡ changes ++ rest → log ≡ flat h.acked ++ (changes ++ rest) → (n : ℕ) → n ≡ length (flat h.acked) + length changes
-    → AreAnswered h log changes cs (paired log n (map (told_as stored) (replies_due h changes cs)) rest)
+  -- the same of the commands after the first
+  abbrev On : CurrentOpening → List PlainChange → List Command → Bool → Type 0
+  On h log cs stored = (changes rest : List PlainChange) → changes_due h changes cs ≡ changes ++ rest → log ≡ flat h.acked ++ (changes ++ rest) → (n : ℕ) → n ≡ length (flat h.acked) + length changes
+      → AreAnswered h log changes cs (paired many log n (map (told_as stored) (replies_due h changes cs)) rest)
 
--- if it wants no change
-still : (h : CurrentOpening) (log changes rest : List PlainChange) (cs : List Command) (stored : Bool) → h.pending ≡ [] → log ≡ flat h.acked ++ (changes ++ rest) → (n : ℕ) → n ≡ length (flat h.acked) + length changes → On h log cs stored
-    → (s : Result Step Refusal) (x : Reply) → changes_of s ≡ [] → changes_due h (changes ++ changes_of s) cs ≡ changes ++ rest
-    → First h log changes s x (slip_at log (n + 0) (slice_get (changes_of s) 0) x) × AreAnswered h log (changes ++ changes_of s) cs (paired log (n + 0) (map (told_as stored) (replies_due h (changes ++ changes_of s) cs)) rest)
-still h log changes rest cs stored none all n is on s x nothing due =
-    let same : changes ++ changes_of s ≡ changes = ap (λ (l : List PlainChange). changes ++ l) nothing ∙ append-nil changes in
-    let zero_more : n + 0 ≡ n = omega arith in
-    let count : n + 0 ≡ length (flat h.acked) + length (changes ++ changes_of s) = zero_more ∙ is ∙ ap (λ (l : List PlainChange). length (flat h.acked) + length l) (sym same) in
-    let front : take (n + 0) log ≡ flat h.acked ++ (changes ++ changes_of s) = ap (λ (m : ℕ). take m log) zero_more ∙ ap (take n) all ∙ taken-front (flat h.acked) changes rest n is ∙ ap (λ (l : List PlainChange). flat h.acked ++ l) (sym same) in (
-      first-of h log changes s (n + 0) x none front count,
-      on (changes ++ changes_of s) rest (due ∙ ap (λ (l : List PlainChange). l ++ rest) (sym same)) (all ∙ ap (λ (l : List PlainChange). flat h.acked ++ (l ++ rest)) (sym same)) (n + 0) count,
-    )
+  -- if it wants no change
+  still : (h : CurrentOpening) (log changes rest : List PlainChange) (cs : List Command) (stored : Bool) → h.pending ≡ [] → log ≡ flat h.acked ++ (changes ++ rest) → (n : ℕ) → n ≡ length (flat h.acked) + length changes → On h log cs stored
+      → (s : Result Step Refusal) (x : Reply) → changes_of s ≡ [] → changes_due h (changes ++ changes_of s) cs ≡ changes ++ rest
+      → First h log changes s x (slip_at many log (n + 0) (slice_get (changes_of s) 0) x) × AreAnswered h log (changes ++ changes_of s) cs (paired many log (n + 0) (map (told_as stored) (replies_due h (changes ++ changes_of s) cs)) rest)
+  still h log changes rest cs stored none all n is on s x nothing due =
+      let same : changes ++ changes_of s ≡ changes = ap (λ (l : List PlainChange). changes ++ l) nothing ∙ append-nil changes in
+      let zero_more : n + 0 ≡ n = omega arith in
+      let count : n + 0 ≡ length (flat h.acked) + length (changes ++ changes_of s) = zero_more ∙ is ∙ ap (λ (l : List PlainChange). length (flat h.acked) + length l) (sym same) in
+      let front : take (n + 0) log ≡ flat h.acked ++ (changes ++ changes_of s) = ap (λ (m : ℕ). take m log) zero_more ∙ ap (take n) all ∙ taken-front (flat h.acked) changes rest n is ∙ ap (λ (l : List PlainChange). flat h.acked ++ l) (sym same) in (
+        first-of h log changes s (n + 0) x none front count,
+        on (changes ++ changes_of s) rest (due ∙ ap (λ (l : List PlainChange). l ++ rest) (sym same)) (all ∙ ap (λ (l : List PlainChange). flat h.acked ++ (l ++ rest)) (sym same)) (n + 0) count,
+      )
 
--- and if it wants one
-wants : (h : CurrentOpening) (log changes rest : List PlainChange) (cs : List Command) (stored : Bool) → h.pending ≡ [] → log ≡ flat h.acked ++ (changes ++ rest) → (n : ℕ) → n ≡ length (flat h.acked) + length changes → On h log cs stored
-    → (e : PlainChange) (o : Outcome) (x : Reply) (left : List PlainChange) → rest ≡ e ∷ left → changes_due h (changes ++ e ∷ []) cs ≡ (changes ++ e ∷ []) ++ left
-    → First h log changes (Ok (Wants e o)) x (slip_at log (n + 1) (Some e) x) × AreAnswered h log (changes ++ e ∷ []) cs (paired log (n + 1) (map (told_as stored) (replies_due h (changes ++ e ∷ []) cs)) left)
-wants h log changes rest cs stored none all n is on e o x left here due =
-    let more : List PlainChange = changes ++ e ∷ [] in
-    let whole : log ≡ flat h.acked ++ (more ++ left) = all ∙ ap (λ (l : List PlainChange). flat h.acked ++ (changes ++ l)) here ∙ ap (λ (l : List PlainChange). flat h.acked ++ l) (sym (append_assoc changes (e ∷ []) left)) in
-    let long : length more ≡ length changes + 1 = length-append changes (e ∷ []) in
-    let count : n + 1 ≡ length (flat h.acked) + length more = omega (arith, is, long) in
-    let front : take (n + 1) log ≡ flat h.acked ++ more = ap (take (n + 1)) whole ∙ taken-front (flat h.acked) more left (n + 1) count in (
-      first-of h log changes (Ok (Wants e o)) (n + 1) x none front count,
-      on more left due whole (n + 1) count,
-    )
+  -- and if it wants one
+  wants : (h : CurrentOpening) (log changes rest : List PlainChange) (cs : List Command) (stored : Bool) → h.pending ≡ [] → log ≡ flat h.acked ++ (changes ++ rest) → (n : ℕ) → n ≡ length (flat h.acked) + length changes → On h log cs stored
+      → (e : PlainChange) (o : Outcome) (x : Reply) (left : List PlainChange) → rest ≡ e ∷ left → changes_due h (changes ++ e ∷ []) cs ≡ (changes ++ e ∷ []) ++ left
+      → First h log changes (Ok (Wants e o)) x (slip_at many log (n + 1) (Some e) x) × AreAnswered h log (changes ++ e ∷ []) cs (paired many log (n + 1) (map (told_as stored) (replies_due h (changes ++ e ∷ []) cs)) left)
+  wants h log changes rest cs stored none all n is on e o x left here due =
+      let more : List PlainChange = changes ++ e ∷ [] in
+      let whole : log ≡ flat h.acked ++ (more ++ left) = all ∙ ap (λ (l : List PlainChange). flat h.acked ++ (changes ++ l)) here ∙ ap (λ (l : List PlainChange). flat h.acked ++ l) (sym (append_assoc changes (e ∷ []) left)) in
+      let long : length more ≡ length changes + 1 = length-append changes (e ∷ []) in
+      let count : n + 1 ≡ length (flat h.acked) + length more = omega (arith, is, long) in
+      let front : take (n + 1) log ≡ flat h.acked ++ more = ap (take (n + 1)) whole ∙ taken-front (flat h.acked) more left (n + 1) count in (
+        first-of h log changes (Ok (Wants e o)) (n + 1) x none front count,
+        on more left due whole (n + 1) count,
+      )
 
-by-step : (h : CurrentOpening) (log changes rest : List PlainChange) (cs : List Command) (stored : Bool) → h.pending ≡ [] → log ≡ flat h.acked ++ (changes ++ rest) → (n : ℕ) → n ≡ length (flat h.acked) + length changes → On h log cs stored
-    → (stored' : Bool) (k : Command) (s : Result Step Refusal) → IsOfGroup k s → changes_due h (changes ++ changes_of s) cs ≡ changes ++ rest
-    → Behind h log changes cs s (paired log n (told_as stored' (reply_to (amid h changes) s) ∷ map (told_as stored) (replies_due h (changes ++ changes_of s) cs)) rest)
-by-step h log changes rest cs stored none all n is on true _ _ (told k x unmentioned silent) due = still h log changes rest cs stored none all n is on (Ok (Done x)) (Answer x) refl due
-by-step h log changes rest cs stored none all n is on false _ _ (told k x unmentioned silent) due = still h log changes rest cs stored none all n is on (Ok (Done x)) (Answer x) refl due
-by-step h log changes rest cs stored none all n is on true _ _ (refused k e) due = still h log changes rest cs stored none all n is on (Err e) (Refused e) refl due
-by-step h log changes rest cs stored none all n is on false _ _ (refused k e) due = still h log changes rest cs stored none all n is on (Err e) (Refused e) refl due
-by-step h log changes rest cs stored none all n is on true _ _ (wanted k e o mentions) due =
-    let next = due-more h (changes ++ e ∷ []) cs in
-    let here : rest ≡ e ∷ next.0 = same-end changes rest (e ∷ next.0) (sym due ∙ next.1 ∙ append_assoc changes (e ∷ []) next.0) in
-    rw here (wants h log changes rest cs stored none all n is on e o (Stored (length (log_of (amid h changes)) + 1) o) next.0 here next.1)
-by-step h log changes rest cs stored none all n is on false _ _ (wanted k e o mentions) due =
-    let next = due-more h (changes ++ e ∷ []) cs in
-    let here : rest ≡ e ∷ next.0 = same-end changes rest (e ∷ next.0) (sym due ∙ next.1 ∙ append_assoc changes (e ∷ []) next.0) in
-    rw here (wants h log changes rest cs stored none all n is on e o (Applied (length (log_of (amid h changes)) + 1) o) next.0 here next.1)
+  by-step : (h : CurrentOpening) (log changes rest : List PlainChange) (cs : List Command) (stored : Bool) → h.pending ≡ [] → log ≡ flat h.acked ++ (changes ++ rest) → (n : ℕ) → n ≡ length (flat h.acked) + length changes → On h log cs stored
+      → (stored' : Bool) (k : Command) (s : Result Step Refusal) → IsOfGroup k s → changes_due h (changes ++ changes_of s) cs ≡ changes ++ rest
+      → Behind h log changes cs s (paired many log n (told_as stored' (reply_to (amid h changes) s) ∷ map (told_as stored) (replies_due h (changes ++ changes_of s) cs)) rest)
+  by-step h log changes rest cs stored none all n is on true _ _ (told k x unmentioned silent) due = still h log changes rest cs stored none all n is on (Ok (Done x)) (Answer x) refl due
+  by-step h log changes rest cs stored none all n is on false _ _ (told k x unmentioned silent) due = still h log changes rest cs stored none all n is on (Ok (Done x)) (Answer x) refl due
+  by-step h log changes rest cs stored none all n is on true _ _ (refused k e) due = still h log changes rest cs stored none all n is on (Err e) (Refused e) refl due
+  by-step h log changes rest cs stored none all n is on false _ _ (refused k e) due = still h log changes rest cs stored none all n is on (Err e) (Refused e) refl due
+  by-step h log changes rest cs stored none all n is on true _ _ (wanted k e o mentions) due =
+      let next = due-more h (changes ++ e ∷ []) cs in
+      let here : rest ≡ e ∷ next.0 = same-end changes rest (e ∷ next.0) (sym due ∙ next.1 ∙ append_assoc changes (e ∷ []) next.0) in
+      rw here (wants h log changes rest cs stored none all n is on e o (Stored (length (log_of (amid h changes)) + 1) o) next.0 here next.1)
+  by-step h log changes rest cs stored none all n is on false _ _ (wanted k e o mentions) due =
+      let next = due-more h (changes ++ e ∷ []) cs in
+      let here : rest ≡ e ∷ next.0 = same-end changes rest (e ∷ next.0) (sym due ∙ next.1 ∙ append_assoc changes (e ∷ []) next.0) in
+      rw here (wants h log changes rest cs stored none all n is on e o (Applied (length (log_of (amid h changes)) + 1) o) next.0 here next.1)
 
-pub slips : (h : CurrentOpening) (log changes rest : List PlainChange) (commands : List Command) (stored : Bool) → h.pending ≡ [] → MayBeGrouped commands → changes_due h changes commands ≡ changes ++ rest → log ≡ flat h.acked ++ (changes ++ rest)
-    → (n : ℕ) → n ≡ length (flat h.acked) + length changes → AreAnswered h log changes commands (paired log n (map (told_as stored) (replies_due h changes commands)) rest)
-slips h log changes rest [] stored none may due all n is = refl
-slips h log changes rest (c ∷ cs) stored none may due all n is =
-    behind-is h log changes c cs (paired log n (told_as stored (reply_to (amid h changes) (step_in (amid h changes) c)) ∷ map (told_as stored) (replies_due h (changes_with h changes c) cs)) rest)
-    (by-step h log changes rest cs stored none all n is (λ more left due' all' m is'. slips h log more left cs stored none may.1 due' all' m is') stored c (step_in (amid h changes) c) (step-amid (amid h changes) c may.0) due)
+  pub slips : (h : CurrentOpening) (log changes rest : List PlainChange) (commands : List Command) (stored : Bool) → h.pending ≡ [] → MayBeGrouped commands → changes_due h changes commands ≡ changes ++ rest → log ≡ flat h.acked ++ (changes ++ rest)
+      → (n : ℕ) → n ≡ length (flat h.acked) + length changes → AreAnswered h log changes commands (paired many log n (map (told_as stored) (replies_due h changes commands)) rest)
+  slips h log changes rest [] stored none may due all n is = refl
+  slips h log changes rest (c ∷ cs) stored none may due all n is =
+      behind-is h log changes c cs (paired many log n (told_as stored (reply_to (amid h changes) (step_in (amid h changes) c)) ∷ map (told_as stored) (replies_due h (changes_with h changes c) cs)) rest)
+      (by-step h log changes rest cs stored none all n is (λ more left due' all' m is'. slips h log more left cs stored none may.1 due' all' m is') stored c (step_in (amid h changes) c) (step-amid (amid h changes) c may.0) due)
 
--- ---- the replies
+  -- ---- the replies
 
--- pairing with receipts leaves the replies as they are
-pub paired-replies : (log : List PlainChange) (n : ℕ) (replies : List Reply) (given : List PlainChange) → map (λ (a : Answered). a.0) (paired log n replies given) ≡ replies
-paired-replies log n [] given = refl
-paired-replies log n (r ∷ replies) given = ap (λ (rs : List Reply). r ∷ rs) (paired-replies log (behind r n) replies (left_behind r given))
+  -- pairing with receipts leaves the replies as they are
+  pub paired-replies : (log : List PlainChange) (n : ℕ) (replies : List Reply) (given : List PlainChange) → map (λ (a : Answered). a.0) (paired many log n replies given) ≡ replies
+  paired-replies log n [] given = refl
+  paired-replies log n (r ∷ replies) given = ap (λ (rs : List Reply). r ∷ rs) (paired-replies log (behind r n) replies (left_behind r given))
+
+  -- and each receipt says how many are shown
+  pub paired-shown : (log : List PlainChange) (n : ℕ) (replies : List Reply) (given : List PlainChange) → All (λ (a : Answered). a.1.shown ≡ many) (paired many log n replies given)
+  paired-shown log n [] given = All-nil (λ (a : Answered). a.1.shown ≡ many)
+  paired-shown log n (r ∷ replies) given = All-cons (λ (a : Answered). a.1.shown ≡ many) _ _ refl (paired-shown log (behind r n) replies (left_behind r given))
 
 kept-step : (stored : Bool) (a : CurrentOpening) (s : Result Step Refusal) (rest : List Reply) → kept_count (told_as stored (reply_to a s) ∷ rest) ≡ length (changes_of s) + kept_count rest
 kept-step true a (Ok (Done x)) rest = refl

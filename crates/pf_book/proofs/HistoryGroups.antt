@@ -1,6 +1,6 @@
 -- Parts of a history, and its groups.
-use Rattle.std.specs.Prelude.{nat_lt, sum}
-use Rattle.std.proofs.{lemmas.Bool.Decides.nat_tests, Common.{◌≡◌, ℕ, zero, suc, ◌+◌, ◌-◌, ◌<◌, ◌≤◌, Bool, false, List, [], ◌∷◌, ◌++◌, length, map, take, drop, refl, ap, sym, ◌∙◌, subst, arith, append-nil, Result, Ok, Err, OnOk, OnErr}, Math.Seq.take-add, lemmas.List.{take_all, take-append-le, drop_all, drop-append-le, length-append, length-take-le, length-drop, take-append-drop}, lemmas.List.Sums.{sum_by-cons, sum_by_push}}
+use Rattle.std.specs.Prelude.{nat_lt, sum, MatchBool}
+use Rattle.std.proofs.{lemmas.Bool.Decides.nat_tests, Common.{◌≡◌, ℕ, zero, suc, ◌+◌, ◌-◌, ◌<◌, ◌≤◌, Bool, true, false, List, [], ◌∷◌, ◌++◌, length, map, take, drop, refl, ap, sym, ◌∙◌, subst, arith, append-nil}, Math.Seq.take-add, lemmas.List.{take_all, take-append-le, drop_all, drop-append-le, length-append, length-take-le, length-drop, take-append-drop}, lemmas.List.Sums.{sum_by-cons, sum_by_push}}
 use mathlib.Core.List.{IsPrefix}
 use Rattle.pf_core.specs.{Durable.Changes.PlainChange, Worlds.{flat, grouped, is_halted}}
 use Rattle.pf_core.proofs.Prefixes.{flat-append}
@@ -47,9 +47,9 @@ pub prefix_short : (xs ys : List PlainChange) → IsPrefix xs ys → length xs �
 prefix_short xs ys p = omega (arith, length-append xs p.0, ap length p.1)
 
 -- what workers see is a front of what is offered, also if nothing more was shown
-pub shown_either : {E : Type 0} (r : Result (Unit {0}) E) (s s' o : List PlainChange) → OnOk r (s' ≡ o) → OnErr r (s' ≡ s) → IsPrefix s o → IsPrefix s' o
-shown_either (Ok u) s s' o ok err p = subst (λ (z : List PlainChange). IsPrefix z o) (sym ok) (prefix_self o)
-shown_either (Err e) s s' o ok err p = subst (λ (z : List PlainChange). IsPrefix z o) (sym err) p
+pub shown_either : (b : Bool) (s s' o : List PlainChange) → MatchBool b (s' ≡ o) (s' ≡ s) → IsPrefix s o → IsPrefix s' o
+shown_either true s s' o is p = subst (λ (z : List PlainChange). IsPrefix z o) (sym is) (prefix_self o)
+shown_either false s s' o is p = subst (λ (z : List PlainChange). IsPrefix z o) (sym is) p
 
 -- ---- groups
 

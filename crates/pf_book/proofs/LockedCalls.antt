@@ -3,12 +3,13 @@ use Rattle.std.proofs.Common.{◌≡◌, ◌⊎◌, inl, inr, ℕ, ◌+◌, ◌<
 use Rattle.std.specs.{Prelude.◌&&◌, Option.ForSome}
 use mathlib.Core.List.{IsPrefix}
 use Rattle.pf_core.specs.declared.{command.Command.Command, command.HistoryCommand.HistoryCommand, command.HistoryCommand.TheVariants.{Log, Publish}, reply.Outcome.Outcome, reply.Refusal.Refusal, reply.Refusal.TheVariants.Halted, reply.Reply.Reply, reply.Reply.TheVariants.{Answer, Applied, Stored, Refused}, step.Step.Step, step.Step.TheVariants.{Done, Wants, OfHistory}}
-use Rattle.pf_core.specs.{Calls.call, Commands.{step_by, may_change}, Durable.Changes.{PlainDurable, PlainChange}, WorldBooks.{WorldBook, IsAt, IsFolded, Leads, LeadsGroup, StandsFor}, Worlds.{Setting, CurrentOpening, down, Upshot, called, called_group, heard_group, flat, log_of, durable_of, is_halted, acked_by, step_in, or_refused, due_at, due, group_in, heard, room_for, shown_by, State, StandsIn, LegalReply, LegalCall, IsLegal}}
-use Rattle.pf_core.proofs.{Prefixes.flat-append, Groups.{IsKept, IsNotKept, kept-or-not}, Stepping.unhalted, LongerWorlds.{flat-push, stands-on, stands-on-group, in-two}}
+use Rattle.pf_core.specs.{Calls.call, Commands.{step_by, may_change}, Durable.Changes.{PlainDurable, PlainChange}, WorldBooks.{WorldBook, IsAt, IsFolded, Leads, LeadsGroup, StandsFor}, Worlds.{Setting, CurrentOpening, down, up, Upshot, Event, called, called_group, heard_group, flat, log_of, durable_of, is_halted, acked_by, step_in, or_refused, due_at, due, group_in, heard, room_for, shown_by, shown_by_answer, told_of_history, State, state_after, StandsIn, LegalReply, LegalCall, IsLegal, IsWorld}}
+use Rattle.pf_core.specs.declared.reply.Answer.{Answer as ToldOf}
+use Rattle.pf_core.proofs.{Prefixes.flat-append, Groups.{IsKept, IsNotKept, kept-or-not}, Limits.{IsOfHistory, answered-step}, Showing.{shows-nothing, shows_all}, Stepping.unhalted, LongerWorlds.{flat-push, stands-on, stands-on-group, in-two}}
 use Rattle.pf_book.proofs.Calling.{wants-may}
 use Rattle.pf_past.proofs.Prefixes.{prefix_whole}
-use Rattle.pf_book.specs.Groups.{Answered as Told, HasReceipts, IsGroupAnswered, replies_of}
-use Rattle.pf_book.specs.{Books.{log_in, IsMore, IsNumbered, IsTold}, Receipts.{PlainReceipt, EndsIn, ShownFits, token_of, IsAdded, IsGiven, Follows, IsReached, IsLast, IsChangeOf, IsAnswered}}
+use Rattle.pf_book.specs.Groups.{Answered as Told, HasReceipts, HaveShown, IsGroupAnswered, replies_of}
+use Rattle.pf_book.specs.{Books.{log_in, IsMore, IsNumbered, IsTold}, Receipts.{PlainReceipt, EndsIn, ShownFits, token_of, IsAdded, IsGiven, Follows, ShowsNoLess, IsReached, IsLast, IsChangeOf, IsAnswered}}
 
 -- ---- lists
 
@@ -110,9 +111,9 @@ module _ (base : PlainDurable) (setting : Setting) (old new : WorldBook) (c : Co
     stands = stands-on reached.first old new reached.world (call c r) t reached.stands (leads reached.stands.held reached.stands.at) folded;
   }
 
-  pub answered : (slip : PlainReceipt) (last : Option PlainReceipt) → slip.front ≡ log_in new → slip.acked ≡ length (flat new.acked) → IsGiven r slip.change old new → slip.token ≡ token_of r (log_in new)
-      → Follows last (log_in old) (length (flat old.acked)) → IsAnswered base setting c r slip last
-  answered slip last front acked given token follows =
+  pub answered : (slip : PlainReceipt) (last : Option PlainReceipt) → slip.front ≡ log_in new → slip.acked ≡ length (flat new.acked) → slip.shown ≡ t.shown → IsGiven r slip.change old new → slip.token ≡ token_of r (log_in new)
+      → Follows last (log_in old) (length (flat old.acked)) → ShowsNoLess last old.shown → IsAnswered base setting c r slip last
+  answered slip last front acked shown given token follows shows =
       let h : CurrentOpening = reached.stands.held in
       let at : IsAt h old = reached.stands.at in
       let on : Leads h new (call c r) t = leads h at in
@@ -127,9 +128,11 @@ module _ (base : PlainDurable) (setting : Setting) (old new : WorldBook) (c : Co
         legal = (stands-on reached.first old new reached.world (call c r) t reached.stands on folded).legal;
         front = front ∙ log-at (heard h (call c r) t) new on.at;
         acked = acked ∙ ap (λ (gs : List (List PlainChange)). length (flat gs)) on.at.acked;
+        shown = shown;
         change = change-is h c r t slip old new at on.at front given;
         token = token ∙ ap (token_of r) (sym front);
         follows = subst (λ (gs : List (List PlainChange)). Follows last (log_of h) (length (flat gs))) at.acked (subst (λ (l : List PlainChange). Follows last l (length (flat old.acked))) (log-at h old at) follows);
+        shows = subst (ShowsNoLess last) at.shown shows;
       }
 
 -- ---- what receipts come to
@@ -233,6 +236,30 @@ legal-stored h c n o failed (inr stands) = stored-for h c failed (due h c) n o r
 last-number : (h : CurrentOpening) (c : Command) (slip : PlainReceipt) (n : ℕ) → IsLast h c slip → n ≡ length (log_of h) + 1 → n ≡ length slip.front
 last-number h c slip n last is = omega (arith, is, ap length last.last, length-append (log_of h) (last.made ∷ []))
 
+-- ---- what is shown
+
+told-more : (h : CurrentOpening) (x : HistoryCommand) → h.shown ≤ length (flat h.acked) → h.shown ≤ shown_by_answer (told_of_history h x) h.shown
+told-more h Log within = omega arith
+told-more h Publish within = within
+
+-- no call shows less
+shows-more : (h : CurrentOpening) (c : Command) (r : Reply) (failed : Bool) → LegalReply h c r failed → h.shown ≤ length (flat h.acked) → h.shown ≤ shown_by r h.shown
+shows-more h c (Answer a) failed (inl is) within = by (answered-step h (step_in h c) a is) where
+  steps : Result Step Refusal
+  steps = step_by h.tickets (durable_of h) c
+
+  by : (step_in h c ≡ Ok (Done a)) ⊎ IsOfHistory h (step_in h c) a → h.shown ≤ shown_by_answer a h.shown
+  by (inl done) = omega (arith, shows-nothing h.tickets (durable_of h) c a (unhalted (may_change c && is_halted h.pending) steps (Done a) done) h.shown)
+  by (inr k) = subst (λ (x : ToldOf). h.shown ≤ shown_by_answer x h.shown) (sym k.answer) (told-more h k.command within)
+shows-more h c (Answer a) failed (inr none) within = absurd none
+shows-more h c (Applied n o) failed legal within = omega (arith, legal-applied h c n o failed legal, within, more-acked h.acked h.pending)
+shows-more h c (Stored n o) failed legal within = omega arith
+shows-more h c (Refused e) failed legal within = omega arith
+
+-- before a legal event no more is shown than was acknowledged
+pub shown-within : (first : PlainDurable) (world : List Event) (h : CurrentOpening) (e : Event) → IsWorld first (world ++ e ∷ []) → state_after (down first) world ≡ up h → h.shown ≤ length (flat h.acked)
+shown-within first world h e legal comes = (shows_all first world h (in-two (down first) world e [] legal).before comes).within
+
 module _ (base : PlainDurable) (setting : Setting) (c : Command) (slip : PlainReceipt) (last : Option PlainReceipt) where
   call-legal : (r : Reply) → (a : IsAnswered base setting c r slip last) → LegalCall a.before (call c r) a.came
   call-legal r a = subst (λ (st : State). IsLegal st (called (call c r) a.came)) a.comes (in-two (down a.first) a.world (called (call c r) a.came) [] a.legal).here
@@ -255,6 +282,13 @@ module _ (base : PlainDurable) (setting : Setting) (c : Command) (slip : PlainRe
       let before : handed.acked ≤ length (flat a.before.acked) = (a.follows handed is).1 in
       omega (arith, before, a.acked, more-acked a.before.acked (acked_by r (group_in a.before c)))
 
+  -- and no fewer are shown
+  pub still-shown : (r : Reply) (handed : PlainReceipt) → last ≡ Some handed → IsAnswered base setting c r slip last → handed.shown ≤ slip.shown
+  still-shown r handed is a =
+      let legal : LegalCall a.before (call c r) a.came = call-legal r a in
+      let within = shown-within a.first a.world a.before (called (call c r) a.came) a.legal a.comes in
+      omega (arith, a.shows handed is, a.shown, legal.shown, shows-more a.before c r a.came.failed legal.reply within)
+
 -- ---- one group under the lock
 
 module _ (base : PlainDurable) (setting : Setting) (old new : WorldBook) (commands : List Command) (answers : Result (List Told) Refusal) (t : Upshot) (reached : IsReached base setting old)
@@ -272,8 +306,9 @@ module _ (base : PlainDurable) (setting : Setting) (old new : WorldBook) (comman
     stands = stands-then;
   }
 
-  pub group-answered : (last : Option PlainReceipt) → ((h : CurrentOpening) → IsAt h old → HasReceipts h (log_in new) commands answers) → Follows last (log_in old) (length (flat old.acked)) → IsGroupAnswered base setting commands answers last
-  group-answered last receipts follows =
+  pub group-answered : (last : Option PlainReceipt) → ((h : CurrentOpening) → IsAt h old → HasReceipts h (log_in new) commands answers) → HaveShown t.shown answers → Follows last (log_in old) (length (flat old.acked)) → ShowsNoLess last old.shown
+      → IsGroupAnswered base setting commands answers last
+  group-answered last receipts shown follows shows =
       let h : CurrentOpening = reached.stands.held in
       let at : IsAt h old = reached.stands.at in
       record {
@@ -286,5 +321,7 @@ module _ (base : PlainDurable) (setting : Setting) (old new : WorldBook) (comman
         setting_is = sym at.setting ∙ reached.setting_is;
         legal = stands-then.legal;
         receipts = subst (λ (l : List PlainChange). HasReceipts h l commands answers) (log-at (heard_group h commands (replies_of answers) t) new (leads h at).at) (receipts h at);
+        shown = shown;
         follows = subst (λ (gs : List (List PlainChange)). Follows last (log_of h) (length (flat gs))) at.acked (subst (λ (l : List PlainChange). Follows last l (length (flat old.acked))) (log-at h old at) follows);
+        shows = subst (ShowsNoLess last) at.shown shows;
       }

@@ -5,7 +5,7 @@ use Rattle.pf_disk.specs.Disk.{EachMoment, IsImage}
 use Rattle.pf_core.specs.declared.reply.Reply.{Reply}
 use Rattle.pf_core.specs.{Durable.Changes.{PlainChange, after}, Nexts.PlainNext, Cores.PlainCore, WorldBooks.{IsAt, IsFolded}, Worlds.{CurrentOpening, Doing, flat, idle}}
 use Rattle.pf_store.specs.{Stores.HoldsEither, StoreKept.PlainStore}
-use Rattle.pf_past.specs.Pasts.{PlainFront, Begins}
+use Rattle.pf_past.specs.Pasts.{PlainFront, Begins, front_of}
 use Rattle.pf_past.proofs.Prefixes.{prefix_trans}
 use Rattle.pf_book.specs.Receipts.{ShownFits, token_of}
 use Rattle.pf_book.specs.Books.{BookParts, PlainBook, cut, book_of, world_book, world_book_of, HasRoom, HoldsFront, HoldsLeft, IsBook, StaysOpenable, left_together, log_in}
@@ -37,11 +37,15 @@ module _ {D : Type 0} {seen : D → List ℕ} {unsynced : D → ℕ → Bool} {p
   core-of whole same = ap (λ (w : PlainCore). book_of (record p { whole = w })) same ∙ is
 
   -- it begins with a front of its tip, of which no more is acknowledged
-  pub begins-of : (past : PlainFront) → Begins past p.tip → IsPrefix past.front (log_in (world_book now))
+  pub begins-of : (past : PlainFront) → Begins past (front_of p.tip) → IsPrefix past.front (log_in (world_book now))
   begins-of past begins = subst (λ (l : List PlainChange). IsPrefix past.front l) (i.log_is ∙ sym log-of) begins.0
 
-  pub within-of : (past : PlainFront) → Begins past p.tip → past.acked ≤ length (flat now.acked)
+  pub within-of : (past : PlainFront) → Begins past (front_of p.tip) → past.acked ≤ length (flat now.acked)
   within-of past begins = omega (arith, begins.1, i.acked_is, acked-of)
+
+  -- and shows all that it notes as shown
+  pub noted-of : p.tip.shown ≡ now.shown
+  noted-of = i.noted ∙ ap (λ (b : PlainBook D). b.shown) is
 
   -- what is shown begins the history, so it is all of it if it is as long
   pub token-of : (r : Reply) → ShownFits r now.shown (length (log_in (world_book now))) → token_of r p.shower.shown ≡ token_of r (log_in (world_book now))

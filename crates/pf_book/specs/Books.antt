@@ -11,8 +11,8 @@ use Rattle.pf_core.specs.declared.reply.Answer.TheVariants as answer
 use Rattle.pf_core.specs.{Calls.{Call, call}, Durable.Changes.{PlainDurable, PlainChange, after, voided_by, verdict}, Laws.{Durable.IsWithin, Openings.Leaves}, Nexts.{PlainNext, next_with}, WorldBooks.{WorldBook, IsFolded}, Cores.PlainCore, Worlds.{Setting, CurrentOpening, Doing, flat, grouped, as_stored, is_fault, last_epoch, raised}}
 use Rattle.pf_store.specs.declared.{store.fault.OpenFault.OpenFault, store.fault.OpenFault.TheVariants.Memory as OutOfMemory, store.fault.OpenFault.TheVariants.Places as Places}
 use Rattle.pf_store.specs.{Openings.{IsNoLaterThan, LeavesRoom}, Rooms.on_device, Stores.{Holds, IsRoomy}, StoreKept.{Stands, PlainStore}}
-use Rattle.pf_past.specs.Pasts.{PlainFront, all_acked}
-use Rattle.pf_view.specs.Seers.{PlainShower}
+use Rattle.pf_past.specs.Pasts.{PlainFront, PlainTip, all_acked, front_of, no_changes}
+use Rattle.pf_view.specs.Seers.{PlainShower, TableId}
 
 -- ---- an opened device
 
@@ -58,10 +58,10 @@ pub record IsOpened {D : Type 0} (seen : D → List ℕ) (unsynced : D → ℕ �
   pub epoch : IsRaised d
 
 -- what the type of a named opening keeps (its invariant): the device holds what the name says, and its history has no change
-pub record IsBegun {D : Type 0} (seen : D → List ℕ) (unsynced : D → ℕ → Bool) (base : PlainDurable) (store : PlainStore D) (d : PlainDurable) (tip start : PlainFront) : Type 0 where
+pub record IsBegun {D : Type 0} (seen : D → List ℕ) (unsynced : D → ℕ → Bool) (base : PlainDurable) (store : PlainStore D) (d : PlainDurable) (tip : PlainTip) (start : PlainFront) : Type 0 where
   pub opened : IsOpened seen unsynced store d
   pub base_is : d ≡ base
-  pub tip_is : tip ≡ all_acked []
+  pub tip_is : tip ≡ no_changes
   pub start_is : start ≡ all_acked []
 
 -- ---- a Book
@@ -73,7 +73,7 @@ cut (n ∷ sizes) es = take n es ∷ cut sizes (drop n es)
 
 -- What contracts see of a Book: its device; what its opening gave; its core; the groups of changes that were acknowledged, and the one, if
 -- any, that wasn't; how many changes it may have, how many bytes each bank of its device has, and the generation of the bank that counts;
--- how many changes are shown, and the copy that shows them.
+-- how many changes are shown, the copy that shows them, and the copies to which they are published.
 pub record PlainBook (D : Type 0) : Type 0 where
   pub disk : D
   pub base : PlainDurable
@@ -85,6 +85,7 @@ pub record PlainBook (D : Type 0) : Type 0 where
   pub generation : ℕ
   pub shown : ℕ
   pub published : PlainDurable
+  pub copies : TableId
 
 -- what a world's laws see of it, with its limits
 abbrev pub world_book : {D : Type 0} → PlainBook D → WorldBook
@@ -113,11 +114,11 @@ pub record BookParts (D : Type 0) : Type 0 where
   pub offered : ℕ
   pub limit : ℕ
   pub shower : PlainShower
-  pub tip : PlainFront
+  pub tip : PlainTip
   pub front : PlainFront
 
 -- the parts, by the fields in their order
-abbrev pub parts_of : {D : Type 0} → PlainStore D → (base : PlainDurable) → PlainCore → PlainDurable → List PlainChange → List ℕ → (acked offered limit : ℕ) → PlainShower → (tip front : PlainFront) → BookParts D
+abbrev pub parts_of : {D : Type 0} → PlainStore D → (base : PlainDurable) → PlainCore → PlainDurable → List PlainChange → List ℕ → (acked offered limit : ℕ) → PlainShower → PlainTip → (front : PlainFront) → BookParts D
 parts_of store base whole durable log sizes acked offered limit shower tip front = record {
   store = store;
   base = base;
@@ -146,6 +147,7 @@ book_of p = record {
   generation = p.store.generation;
   shown = length p.shower.shown;
   published = after p.base p.shower.shown;
+  copies = p.shower.copies;
 }
 
 -- and what a world's laws see of it
@@ -186,6 +188,8 @@ pub record IsBook {D : Type 0} (seen : D → List ℕ) (unsynced : D → ℕ →
   pub offered_low : p.offered ≤ p.acked
   pub offered_is : p.shower.offered ≡ take p.offered p.log
   pub shown_is : IsPrefix p.shower.shown p.shower.offered
+  -- the history notes how much is shown
+  pub noted : p.tip.shown ≡ length p.shower.shown
   pub latest : p.durable ≡ p.whole.durable
 
 -- ---- what a call leaves

@@ -1,9 +1,9 @@
 -- What the receipts of a group say, and what a group is answered under the lock.
-use Rattle.std.specs.Prelude.{◌≡◌, List, [], ◌∷◌, ◌++◌, length, slice_get, map, Vec, ⊤, Option, Result, Ok, Err}
+use Rattle.std.specs.Prelude.{◌≡◌, ℕ, List, [], ◌∷◌, ◌++◌, length, slice_get, map, All, Vec, ⊤, Option, Result, Ok, Err}
 use Rattle.std.specs.declared.alloc.Global.{Global}
 use Rattle.pf_core.specs.declared.{command.Command.Command, reply.Refusal.Refusal, reply.Reply.Reply}
 use Rattle.pf_core.specs.{Durable.Changes.{PlainDurable, PlainChange}, Worlds.{Setting, CurrentOpening, Upshot, Event, up, down, called_group, flat, log_of, amid, changes_of, changes_with, step_in, heard_group, state_after, IsWorld}}
-use Rattle.pf_book.specs.Receipts.{PlainReceipt, token_of, Follows}
+use Rattle.pf_book.specs.Receipts.{PlainReceipt, token_of, Follows, ShowsNoLess}
 
 -- a reply with its receipt
 abbrev pub Answered : Type 0
@@ -34,6 +34,11 @@ abbrev pub HasReceipts : CurrentOpening → List PlainChange → List Command �
 HasReceipts h shown commands (Ok answers) = AreAnswered h shown [] commands answers
 HasReceipts h shown commands (Err e) = ⊤
 
+-- so many changes were shown at each reply
+abbrev pub HaveShown : ℕ → Result (List Answered) Refusal → Type 0
+HaveShown n (Ok answers) = All (λ a. a.1.shown ≡ n) answers
+HaveShown n (Err e) = ⊤
+
 -- a group's result as a list
 abbrev pub told : {X : Type 0} → Result (Vec X Global) Refusal → Result (List X) Refusal
 told (Ok answers) = Ok answers.items
@@ -52,5 +57,8 @@ pub record IsGroupAnswered (base : PlainDurable) (setting : Setting) (commands :
   pub setting_is : before.setting ≡ setting
   pub legal : IsWorld first (world ++ called_group commands (replies_of result) came ∷ [])
   pub receipts : HasReceipts before (log_of (heard_group before commands (replies_of result) came)) commands result
+  pub shown : HaveShown came.shown result
   -- the history before the group begins with the front of the receipt that was handed in, and what that has as acknowledged is so
   pub follows : Follows last (log_of before) (length (flat before.acked))
+  -- before the group no fewer changes were shown than that receipt says
+  pub shows : ShowsNoLess last before.shown

@@ -26,11 +26,12 @@ given_to r given = if is_kept r then slice_get given 0 else None
 abbrev pub left_behind : Reply → List PlainChange → List PlainChange
 left_behind r given = if is_kept r then drop 1 given else given
 
--- the receipt of a reply after which the history has `n` changes, all of them acknowledged
-abbrev pub slip_at : List PlainChange → ℕ → Option PlainChange → Reply → PlainReceipt
-slip_at log n change r = record { front = take n log; acked = n; change = change; token = token_of r log }
+-- the receipt of a reply after which the history has `n` changes, all of them acknowledged; so many of `log` are `shown`
+abbrev pub slip_at : ℕ → List PlainChange → ℕ → Option PlainChange → Reply → PlainReceipt
+slip_at shown log n change r = record { front = take n log; acked = n; shown = shown; change = change; token = token_of r log }
 
 -- Replies with their receipts, after `n` changes: each reply that kept a change gets the next of `given`.
-abbrev pub paired : List PlainChange → ℕ → List Reply → List PlainChange → List Answered
-paired log n [] given = []
-paired log n (r ∷ replies) given = (r, slip_at log (behind r n) (given_to r given) r) ∷ paired log (behind r n) replies (left_behind r given)
+abbrev pub paired : ℕ → List PlainChange → ℕ → List Reply → List PlainChange → List Answered
+paired shown log n [] given = []
+paired shown log n (r ∷ replies) given =
+    (r, slip_at shown log (behind r n) (given_to r given) r) ∷ paired shown log (behind r n) replies (left_behind r given)

@@ -1,5 +1,5 @@
 -- What the receipt of a reply says, and what a call is answered under the lock.
-use Rattle.std.specs.{Prelude.{◌≡◌, ℕ, ◌≤◌, List, [], ◌∷◌, ◌++◌, length, take, ⊤, Option, None, Some, IfSome}, Option.ForSome}
+use Rattle.std.specs.{Prelude.{◌≡◌, ℕ, ◌<◌, ◌≤◌, List, [], ◌∷◌, ◌++◌, length, take, ⊤, Option, None, Some, IfSome}, Option.ForSome}
 use mathlib.Core.List.{IsPrefix}
 use Rattle.pf_core.specs.declared.{command.Command.Command, reply.Reply.Reply, reply.Reply.TheVariants.{Answer, Applied, Stored, Refused}}
 use Rattle.pf_core.specs.{Calls.call, Durable.Changes.{PlainDurable, PlainChange}, WorldBooks.{WorldBook, StandsFor}, Worlds.{Setting, CurrentOpening, Upshot, Event, up, down, called, flat, log_of, group_in, heard, state_after, IsWorld}}
@@ -9,11 +9,12 @@ use Rattle.pf_book.specs.Books.{change_in}
 
 -- ---- receipts
 
--- A receipt: all changes that the history had at the reply, and how many of them were acknowledged; the change that the call made, if it
--- was kept; and after `Applied` the changes that were shown then.
+-- A receipt: all changes that the history had at the reply, how many of them were acknowledged, and how many were shown; the change that
+-- the call made, if it was kept; and after `Applied` the changes that were shown then.
 pub record PlainReceipt : Type 0 where
   pub front : List PlainChange
   pub acked : ℕ
+  pub shown : ℕ
   pub change : Option PlainChange
   pub token : Option (List PlainChange)
 
@@ -21,11 +22,12 @@ pub record PlainReceipt : Type 0 where
 abbrev pub EndsIn : List PlainChange → PlainChange → Type 0
 EndsIn front e = (rest : List PlainChange) × (front ≡ rest ++ e ∷ [])
 
--- what a receipt's type keeps (its invariant): its front is the first `seq` changes of `past`
-pub record IsReceipt (past : PlainFront) (seq : ℕ) (change : Option PlainChange) : Type 0 where
+-- what a receipt's type keeps (its invariant): its front is the first `seq` changes of `past`, and so many changes were `showing`
+pub record IsReceipt (past : PlainFront) (seq : ℕ) (change : Option PlainChange) (showing shown : ℕ) : Type 0 where
   pub within : seq ≤ length past.front
   pub last : ForSome change (λ e. EndsIn (take seq past.front) e)
   pub acked : ForSome change (λ e. seq ≤ past.acked)
+  pub shown_is : shown ≡ showing
 
 -- The history has at least as many changes as the receipt says, and under this number the receipt's change, if it has one.
 abbrev pub Confirms : List PlainChange → PlainReceipt → Type 0
@@ -72,6 +74,25 @@ ShownFits (Refused e) shown all = ⊤
 abbrev pub Follows : Option PlainReceipt → List PlainChange → ℕ → Type 0
 Follows last log acked = ForSome last (λ l. IsPrefix l.front log × (l.acked ≤ acked) × ForSome l.change (λ e. length l.front ≤ acked))
 
+-- Where the receipt is handed in, if there is one, so many changes are shown, which are no fewer than at its reply.
+abbrev pub ShowsNoLess : Option PlainReceipt → ℕ → Type 0
+ShowsNoLess last shown = ForSome last (λ l. l.shown ≤ shown)
+
+-- One receipt comes after another: its front begins with that of the other, and is longer if the receipt has a change. No fewer changes
+-- were acknowledged and shown at its reply.
+pub record ComesAfter (last slip : PlainReceipt) : Type 0 where
+  pub begins : IsPrefix last.front slip.front
+  pub longer : ForSome slip.change (λ e. length last.front < length slip.front)
+  pub acked : last.acked ≤ slip.acked
+  pub shown : last.shown ≤ slip.shown
+
+-- a reply's number is that of its receipt, and so many changes were acknowledged then
+abbrev pub IsNumberOf : Reply → PlainReceipt → Type 0
+IsNumberOf (Answer a) slip = ⊤
+IsNumberOf (Applied seq outcome) slip = (seq ≡ length slip.front) × (seq ≡ slip.acked)
+IsNumberOf (Stored seq outcome) slip = (seq ≡ length slip.front) × (seq ≡ slip.acked)
+IsNumberOf (Refused e) slip = ⊤
+
 -- ---- under the lock
 
 -- it stands for some world, in an opening that gave `base` and has the limits `setting`
@@ -111,7 +132,10 @@ pub record IsAnswered (base : PlainDurable) (setting : Setting) (c : Command) (r
   -- the receipt's front is the history after the call, with as many acknowledged changes
   pub front : slip.front ≡ log_of (heard before (call c r) came)
   pub acked : slip.acked ≡ length (flat (heard before (call c r) came).acked)
+  pub shown : slip.shown ≡ came.shown
   pub change : IsChangeOf r before c slip
   pub token : slip.token ≡ token_of r slip.front
   -- the history before the call begins with the front of the receipt that was handed in, and what that has as acknowledged is so
   pub follows : Follows last (log_of before) (length (flat before.acked))
+  -- before the call no fewer changes were shown than that receipt says
+  pub shows : ShowsNoLess last before.shown

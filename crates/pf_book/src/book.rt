@@ -6,7 +6,7 @@ ghost use Rattle.pf_core.specs.declared.reply.Refusal.TheVariants as told;
 ghost use Rattle.pf_core.specs.{Calls.call, Commands.may_change, Durable.Changes.{PlainDurable, applied, after, fits, verdict}, WorldBooks.{IsAt, IsFolded, StandsFor, Leads}, Cores.left_by, Worlds.{CurrentOpening, idle, calling, begun, upshot, Event, called, opened, is_fault, flat, raised, last_epoch, down, state_after, IsWorld, LegalReply, shown_by}};
 ghost use Rattle.pf_store.specs.declared.store.fault.OpenFault.TheVariants as open_fault;
 ghost use Rattle.pf_store.specs.{Groups.{can_be_wanted, is_group, made_all}, Stores.{FindsRoom, FollowInTurn, HoldsEither}};
-ghost use Rattle.pf_view.specs.Seers.{IsNewSeer, IsNewShower};
+ghost use Rattle.pf_view.specs.Seers.{IsNewSeer, IsNewShower, JudgesBy};
 ghost use Rattle.pf_book.specs.Receipts.{IsGiven, IsReached};
 ghost use Rattle.pf_book.specs.Books.{world_book, HoldsLeft, HasRoom, HasNoRoom, left_together, IsMore, IsUnkept, IsUnshown, IsMade, IsTold, Stays, IsOpenable, StaysOpenable, StaysUnlessKept, shows_all, change_in, log_in, is_fault_reply, is_fault_result, IsNumbered, IsJudged, IsNamed, setting_of, judging};
 
@@ -16,7 +16,7 @@ mod receipts;
 use crate::chapter::Chapter;
 use crate::opening::{NamedOpening, Opening};
 use crate::saving::{Copies, note_all, prepare, put_all, share};
-use crate::showing::offer_rest;
+use crate::showing::{offer_rest, show_offered};
 use pf_core::{
     Answer, Change, Command, Core, Durable, HistoryCommand, Next, Outcome, ReadyStep, Refusal,
     Reply, Verdict,
@@ -87,8 +87,8 @@ fn may_change(command: &Command) -> bool
 }
 
 impl<D: Disk + Drop, J: Chapter, R: Wait + Drop> Book<D, J, Shower<J, R>> {
-    /// Begins the history of an opening, with no change yet and `history_limit` at most, and makes `seers` seers, one for each worker.
-    /// `J` names the opening.
+    /// Begins the history of an opening, with no change yet and `history_limit` at most, and makes `seers` seers, one for each worker, which
+    /// judge by the copies to which the Book publishes. `J` names the opening.
     ///
     /// `Err` hands the device back, which holds what the opening gave. The fault is `Memory`, when out of memory, or `Places`, when a
     /// worker or the history was given no place, which no run is known to meet.
@@ -110,6 +110,7 @@ impl<D: Disk + Drop, J: Chapter, R: Wait + Drop> Book<D, J, Shower<J, R>> {
         ensures device_err { IfErr result (λ e. e.1 ≡ opening.disk) }
         ensures refused { IfErr result (λ e. IsUnshown e.0) }
         ensures seers { IfOk result (λ r. (length r.1.items ≡ seers) × All IsNewSeer r.1.items) }
+        ensures copies { IfOk result (λ r. All (JudgesBy r.0.copies) r.1.items) }
 
         // If the device held what some world leaves, but for the epoch, the Book stands for that world with an opening at its end.
         ensures worlds { IfOk result (λ r. (first d : PlainDurable) (world : List Event) → IsWorld first world → state_after (down first) world ≡ down d
@@ -130,7 +131,8 @@ impl<D: Disk + Drop, J: Chapter, R: Wait + Drop> Book<D, J, Shower<J, R>> {
 }
 
 impl<D: Disk + Drop, J: Chapter, S: Publisher<J> + Drop> Book<D, J, S> {
-    /// Begins the history of an opening, with no change yet and `history_limit` at most, over a new publisher of this history.
+    /// Begins the history of an opening, with no change yet and `history_limit` at most, over a new publisher of this history, and
+    /// publishes to its copies.
     ///
     /// `Err` hands the device back, which holds what the opening gave. The fault is `Memory`.
     pub fn over(
@@ -147,6 +149,7 @@ impl<D: Disk + Drop, J: Chapter, S: Publisher<J> + Drop> Book<D, J, S> {
         ensures device { IfOk result (λ b. b.disk ≡ opening.disk) }
         ensures size { IfOk result (λ b. b.size ≡ opening.size) }
         ensures generation { IfOk result (λ b. b.generation ≡ opening.generation) }
+        ensures copies { IfOk result (λ b. b.copies ≡ (S.plain shower).copies) }
         ensures device_err { IfErr result (λ e. e.1 ≡ opening.disk) }
         ensures refused { IfErr result (λ e. e.0 ≡ open_fault.Memory) }
 
@@ -296,10 +299,7 @@ impl<D: Disk + Drop, J: Chapter, S: Publisher<J> + Drop> Book<D, J, S> {
             return false;
         }
         self.offered = self.acked;
-        match self.shower.show() {
-            Ok(()) => true,
-            Err(_) => false,
-        }
+        show_offered(&mut self.shower, &mut self.tip)
     }
 
     // Keeps a change that the core wants, and shows it. If it was kept, it is returned for a receipt.
@@ -432,8 +432,10 @@ impl<D: Disk + Drop, J: Chapter, S: Publisher<J> + Drop> Book<D, J, S> {
         reply
     }
 
-    // Between two calls each image holds what a crash then leaves of the opening.
-    pub(crate) fn between_calls(&self)
+    /// Between two calls each image of the device holds what a crash then leaves of the opening: with the next generation at most, and with
+    /// room for another opening if what the last one gave leaves it. What is kept is the fold of all that was acknowledged. This holds of
+    /// each Book at any time, and nothing is looked at.
+    pub fn between_calls(&self)
         ensures images { (h : CurrentOpening) → IsAt h (world_book self.now) → (c : List ℕ)
             → IsImage (D.seen self.now.disk) (D.unsynced self.now.disk) c → HoldsLeft h idle c }
         ensures openable { IsOpenable D.seen D.unsynced self.now }

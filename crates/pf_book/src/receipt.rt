@@ -5,7 +5,7 @@ ghost use Rattle.pf_book.specs.Receipts.{EndsIn};
 
 use crate::chapter::Chapter;
 use pf_core::Change;
-use pf_past::Front;
+use pf_past::{Front, Showing};
 use pf_view::Token;
 use std::marker::Model;
 use std::sync::Arc;
@@ -19,6 +19,9 @@ pub struct Receipt<J: Chapter> {
     pub(crate) seq: usize,
     pub(crate) change: Option<Arc<Change>>,
     pub(crate) token: Option<Token<J>>,
+    // how much was shown, as the history notes it
+    pub(crate) showing: Showing<J>,
+    pub(crate) shown: usize,
 }
 
 impl<J: Chapter> Model for Receipt<J> {
@@ -27,9 +30,9 @@ impl<J: Chapter> Model for Receipt<J> {
 
     ghost Value = { PlainReceipt };
 
-    ghost view = { λ r. record { front = take r.seq r.front.front; acked = min r.seq r.front.acked; change = option_map arc_value r.change; token = r.token } };
+    ghost view = { λ r. record { front = take r.seq r.front.front; acked = min r.seq r.front.acked; shown = r.shown; change = option_map arc_value r.change; token = r.token } };
 
-    ghost invariant = { λ r. IsReceipt r.front r.seq (option_map arc_value r.change) };
+    ghost invariant = { λ r. IsReceipt r.front r.seq (option_map arc_value r.change) r.showing r.shown };
 }
 
 impl<J: Chapter> Receipt<J> {
@@ -40,6 +43,13 @@ impl<J: Chapter> Receipt<J> {
         ensures last { ForSome self.now.change (λ e. EndsIn self.now.front e) }
     {
         self.seq
+    }
+
+    /// How many changes were shown at the reply, and in a group at all its replies.
+    pub fn shown(&self) -> usize
+        ensures { result ≡ self.now.shown }
+    {
+        self.shown
     }
 
     /// The change that the call made: there is one exactly after `Applied` and `Stored`.

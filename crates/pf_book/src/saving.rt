@@ -78,6 +78,7 @@ pub(crate) fn put_all(log: &mut Vec<Arc<Change>>, mut changes: Vec<Arc<Change>>)
 pub(crate) fn note_all<J: Naming>(tip: &mut Tip<J>, changes: Vec<Arc<Change>>, acked: bool)
     ensures front { tip.new.front ≡ tip.old.front ++ map arc_value changes.items }
     ensures acked { tip.new.acked ≡ tip.old.acked + (if acked then length changes.items else 0) }
+    ensures shown { tip.new.shown ≡ tip.old.shown }
 {
     for change in changes {
         tip.add(change, acked);

@@ -85,8 +85,8 @@ impl<D: Disk + Drop, J: Chapter, S: Publisher<J> + Drop> Shared<D, J, S> {
     /// One call, as `Book::run` answers it, with a receipt. It waits for the lock, and under it for workers that are judging.
     ///
     /// The reply is legal in a world of this opening whose last event is this call. The receipt's front is the history after it, and begins
-    /// with the front of a receipt that is handed in; that receipt's change, if it has one, is acknowledged there. Each reply has a
-    /// receipt, `Memory` too: what a receipt needs was made before the device was written, or takes no memory.
+    /// with the front of a receipt that is handed in; that receipt's change, if it has one, is acknowledged there, and no fewer changes are
+    /// shown. Each reply has a receipt, `Memory` too: what a receipt needs was made before the device was written, or takes no memory.
     pub fn run<W: Wait>(
         &self,
         rt: &W,
@@ -104,8 +104,8 @@ impl<D: Disk + Drop, J: Chapter, S: Publisher<J> + Drop> Shared<D, J, S> {
     /// The replies are legal in a world of this opening whose last event is this group. Each receipt's front is the history with the
     /// changes of the group's commands so far; its change is the one that its command wanted, if it was kept; and after `Applied` its token
     /// is of the whole history after the group. The history before the group begins with the front of a receipt that is handed in, and that
-    /// receipt's change, if it has one, is acknowledged there. `Err` refuses the whole group, as `Book::group` says, and is legal in such a
-    /// world too. The room for the answers is made before the device is written.
+    /// receipt's change, if it has one, is acknowledged there; no fewer changes are shown. `Err` refuses the whole group, as `Book::group`
+    /// says, and is legal in such a world too. The room for the answers is made before the device is written.
     pub fn group<W: Wait>(
         &self,
         rt: &W,

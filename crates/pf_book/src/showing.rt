@@ -2,10 +2,10 @@
 ghost use Rattle.std.specs.Prelude.{◌≡◌, ◌≤◌, length, map, take, IfOk, MatchBool};
 ghost use Rattle.std.specs.Arc.{arc_value};
 ghost use Rattle.pf_core.specs.Durable.Changes.{after};
-ghost use Rattle.pf_past.specs.Pasts.{all_acked};
+ghost use Rattle.pf_past.specs.Pasts.{all_acked, front_of};
 
 use pf_core::{Change, Durable};
-use pf_past::{Front, Naming};
+use pf_past::{Front, Naming, Tip};
 use pf_view::Publisher;
 use std::alloc::{AllocError, Global};
 use std::sync::Arc;
@@ -50,6 +50,25 @@ pub(crate) fn offer_rest<J: Naming, S: Publisher<J>>(
     };
     match shower.offer(changes, durable, front) {
         Ok(()) => true,
+        Err(_) => false,
+    }
+}
+
+/// Shows all that was offered, and notes it in the history. Returns false when out of memory: then what is shown stays as it is.
+pub(crate) fn show_offered<J: Naming, S: Publisher<J>>(shower: &mut S, tip: &mut Tip<J>) -> bool
+    requires within { length (S.plain shower.old).shown ≤ length (S.plain shower.old).offered }
+    requires noted { tip.old.shown ≡ length (S.plain shower.old).shown }
+    ensures shown { MatchBool result ((S.plain shower.new).shown ≡ (S.plain shower.old).offered) ((S.plain shower.new).shown ≡ (S.plain shower.old).shown) }
+    ensures offered { (S.plain shower.new).offered ≡ (S.plain shower.old).offered }
+    ensures noted { tip.new.shown ≡ length (S.plain shower.new).shown }
+    ensures front { front_of tip.new ≡ front_of tip.old }
+{
+    let before = shower.len();
+    match shower.show() {
+        Ok(()) => {
+            tip.show(shower.len() - before);
+            true
+        }
         Err(_) => false,
     }
 }

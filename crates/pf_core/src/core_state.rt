@@ -14,7 +14,7 @@ use crate::reply::{Answer, Outcome, PlacedTables, Refusal, StateList};
 use crate::state_command::change_states;
 use crate::step::{ReadyStep, Step, wants};
 use crate::table_edit::edit;
-use pf_anchor::Placed;
+use pf_anchor::{Path, Placed};
 use pf_state::failover::export;
 use pf_ticket::{Offered, RulesetName, RulesetTicket, Tickets};
 use std::alloc::{AllocError, Global};
@@ -145,6 +145,36 @@ fn transact(
     }
 }
 
+// The rules at a path, shared.
+fn shown_rules(durable: &Durable, path: &Path) -> Result<Answer, AllocError>
+    ensures { IfOk result (λ a. a ≡ answer_of durable.now (Question.ShowRules path.now)) }
+{
+    Ok(Answer::Rules(durable.config().rules_at(path)?))
+}
+
+// The tables at a path, shared.
+fn shown_tables(alloc: Global, durable: &Durable, path: &Path) -> Result<Answer, AllocError>
+    ensures { IfOk result (λ a. a ≡ answer_of durable.now (Question.ShowTables path.now)) }
+{
+    let tables = durable.config().tables_at(alloc, path)?;
+    Ok(Answer::Tables(PlacedTables::new(tables)))
+}
+
+// The states, shared.
+fn shown_states(alloc: Global, durable: &Durable) -> Result<Answer, AllocError>
+    ensures { IfOk result (λ a. a ≡ answer_of durable.now Question.ShowStates) }
+{
+    let states = durable.states().listed(alloc)?;
+    Ok(Answer::States(StateList::new(states)))
+}
+
+// The states as messages to a peer.
+fn exported(alloc: Global, durable: &Durable) -> Result<Answer, AllocError>
+    ensures { IfOk result (λ a. a ≡ answer_of durable.now Question.Export) }
+{
+    Ok(Answer::Exported(export(alloc, durable.states(), &durable.sum())?))
+}
+
 // The answer to a question. A judge, a test and a sum take no memory.
 fn answer(alloc: Global, durable: &Durable, question: &Question) -> Result<Answer, AllocError>
     ensures value { IfOk result (λ a. a ≡ answer_of durable.now question.now) }
@@ -159,16 +189,11 @@ fn answer(alloc: Global, durable: &Durable, question: &Question) -> Result<Answe
             name,
             address,
         } => Ok(Answer::Tested(durable.lookup(path, name, *address))),
-        Question::ShowRules(path) => Ok(Answer::Rules(durable.config().rules_at(path)?)),
-        Question::ShowTables(path) => Ok(Answer::Tables(PlacedTables::new(
-            durable.config().tables_at(alloc, path)?,
-        ))),
-        Question::ShowStates => {
-            let states = durable.states().listed(alloc)?;
-            Ok(Answer::States(StateList::new(states)))
-        }
+        Question::ShowRules(path) => shown_rules(durable, path),
+        Question::ShowTables(path) => shown_tables(alloc, durable, path),
+        Question::ShowStates => shown_states(alloc, durable),
         Question::Sum => Ok(Answer::Sum(durable.sum())),
-        Question::Export => Ok(Answer::Exported(export(alloc, durable.states(), &durable.sum())?)),
+        Question::Export => exported(alloc, durable),
     }
 }
 
@@ -249,18 +274,14 @@ impl Core {
         ensures rolled_back { (entries : List RulesetTicket) → command.now ≡ Command.Transact (Transaction.Rollback entries) →
             plain result ≡ rollback_step entries }
     {
+        let durable: &Durable = &self.durable;
         match command {
-            Command::Transact(transaction) => transact(
-                self.alloc,
-                &self.durable,
-                &mut self.tickets,
-                transaction,
-            ),
-            Command::Edit(table_edit) => edit(self.alloc, &self.durable, &[], table_edit),
-            Command::States(command) => change_states(self.alloc, &self.durable, &[], command),
-            Command::Ask(question) => {
-                Ok(ReadyStep::Done(answer(self.alloc, &self.durable, question)?))
+            Command::Transact(transaction) => {
+                transact(self.alloc, durable, &mut self.tickets, transaction)
             }
+            Command::Edit(table_edit) => edit(self.alloc, durable, &[], table_edit),
+            Command::States(command) => change_states(self.alloc, durable, &[], command),
+            Command::Ask(question) => Ok(ReadyStep::Done(answer(self.alloc, durable, question)?)),
             Command::History(command) => Ok(ReadyStep::OfHistory(*command)),
         }
     }
@@ -270,7 +291,7 @@ impl Core {
     pub fn prepare(&self, change: &Change) -> Result<Next, Refusal>
         ensures { OrMemory true result (prepared self.now.durable change.now) }
     {
-        let applied = self.durable.apply(self.alloc, change)?;
+        let applied = self.durable().apply(self.alloc, change)?;
         Ok(Next::new(self.alloc, &[], change, applied)?)
     }
 
@@ -293,19 +314,14 @@ impl Core {
             (step_by (after self.now.tickets (switches before.now.voided)) before.now.durable later.now) }
         ensures made { IsMadeFrom before.now result }
     {
+        let durable: &Durable = &before.durable;
         let voided = before.voided.as_slice();
         match later {
-            Command::Transact(transaction) => commit_of(
-                self.alloc,
-                &before.durable,
-                &self.tickets,
-                voided,
-                transaction,
-            ),
-            Command::Edit(table_edit) => edit(self.alloc, &before.durable, voided, table_edit),
-            Command::States(command) => {
-                change_states(self.alloc, &before.durable, voided, command)
+            Command::Transact(transaction) => {
+                commit_of(self.alloc, durable, &self.tickets, voided, transaction)
             }
+            Command::Edit(table_edit) => edit(self.alloc, durable, voided, table_edit),
+            Command::States(command) => change_states(self.alloc, durable, voided, command),
             _ => unreachable!(),
         }
     }

@@ -1,5 +1,5 @@
 //! Changes of states: which change each one wants, and its outcome.
-ghost use Rattle.std.specs.Prelude.{◌≡◌, ◌∷◌, [], ◌||◌, length, not, IfOk};
+ghost use Rattle.std.specs.Prelude.{◌≡◌, ◌∷◌, [], ◌||◌, length, not, true, IfOk};
 ghost use Rattle.pf_anchor.specs.Rulesets.{rules_at};
 ghost use Rattle.pf_state.specs.declared.step.StateStep.TheVariants as step_kind;
 ghost use Rattle.pf_core.specs.{Durable.Changes.verdict, Commands.{bound_here, makes_state, make_step, judge_step, track_step, expiry_of, is_past, steps_here, states_step, is_done, changes_states_in_memory}, Nexts.next_with, Refusals.OrMemory, Cores.{plain, IsMadeFrom}};
@@ -140,6 +140,59 @@ fn steps_here(alloc: Global, durable: &Durable, message: &Message) -> Result<Ste
     steps_of(alloc, message, &durable.sum(), main_rules.as_slice().len())
 }
 
+// The step of a peer's message.
+fn follow(
+    alloc: Global,
+    durable: &Durable,
+    before: &[RulesetName],
+    message: &Message,
+) -> Result<ReadyStep, Refusal>
+    ensures reply { OrMemory true (plain result) (states_step durable.now (StateCommand.Peer message.now)) }
+    ensures made { IsMadeFrom (next_with durable.now before.now) result }
+{
+    let steps = steps_here(alloc, durable, message)?;
+    let (states, counts) = durable.with_stepped(alloc, steps.as_slice())?;
+    let left = durable.with_states(alloc, states)?;
+    let change = Change::states(steps);
+    Ok(wants(alloc, before, change, left, Outcome::Peered(counts))?)
+}
+
+// The step that takes a state out.
+fn kill(
+    alloc: Global,
+    durable: &Durable,
+    before: &[RulesetName],
+    name: StateName,
+) -> Result<ReadyStep, Refusal>
+    ensures reply { let killed = StateCommand.Kill name in
+        OrMemory (changes_states_in_memory durable.now killed) (plain result) (states_step durable.now killed) }
+    ensures made { IsMadeFrom (next_with durable.now before.now) result }
+{
+    if durable.states().held_at(name).is_none() {
+        return Err(Refusal::Absent);
+    }
+    let states = durable.without_state(alloc, name)?;
+    let left = durable.with_states(alloc, states)?;
+    let change = Change::remove(name);
+    Ok(wants(alloc, before, change, left, Outcome::Killed)?)
+}
+
+// The step of a tick.
+fn expire(
+    alloc: Global,
+    durable: &Durable,
+    before: &[RulesetName],
+    tick: u64,
+) -> Result<ReadyStep, Refusal>
+    ensures reply { let expired = StateCommand.Expire tick in
+        OrMemory (changes_states_in_memory durable.now expired) (plain result) (states_step durable.now expired) }
+    ensures made { IsMadeFrom (next_with durable.now before.now) result }
+{
+    let (left, expired) = durable.at_tick(alloc, tick)?;
+    let change = Change::expire(tick);
+    Ok(wants(alloc, before, change, left, Outcome::Expired(expired))?)
+}
+
 // The step of a change of states, after changes that void these tickets.
 pub(crate) fn change_states(
     alloc: Global,
@@ -156,26 +209,8 @@ pub(crate) fn change_states(
             packet,
             until,
         } => track(alloc, durable, before, *name, packet, *until),
-        StateCommand::Peer(message) => {
-            let steps = steps_here(alloc, durable, message)?;
-            let (states, counts) = durable.with_stepped(alloc, steps.as_slice())?;
-            let left = durable.with_states(alloc, states)?;
-            let change = Change::states(steps);
-            Ok(wants(alloc, before, change, left, Outcome::Peered(counts))?)
-        }
-        StateCommand::Kill(name) => {
-            if durable.states().held_at(*name).is_none() {
-                return Err(Refusal::Absent);
-            }
-            let states = durable.without_state(alloc, *name)?;
-            let left = durable.with_states(alloc, states)?;
-            let change = Change::remove(*name);
-            Ok(wants(alloc, before, change, left, Outcome::Killed)?)
-        }
-        StateCommand::Expire(tick) => {
-            let (left, expired) = durable.at_tick(alloc, *tick)?;
-            let change = Change::expire(*tick);
-            Ok(wants(alloc, before, change, left, Outcome::Expired(expired))?)
-        }
+        StateCommand::Peer(message) => follow(alloc, durable, before, message),
+        StateCommand::Kill(name) => kill(alloc, durable, before, *name),
+        StateCommand::Expire(tick) => expire(alloc, durable, before, *tick),
     }
 }

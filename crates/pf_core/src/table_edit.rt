@@ -1,11 +1,13 @@
 //! Edits of tables: which change each one wants, and its outcome.
-ghost use Rattle.std.specs.Prelude.{◌≡◌, length, filter};
+ghost use Rattle.std.specs.Prelude.{◌≡◌, length, filter, true};
 ghost use Rattle.pf_core.specs.{Commands.{same_addition, added_of, same_deletion, deleted_of, edit_step, edits_in_memory}, Nexts.next_with, Refusals.OrMemory, Cores.{plain, IsMadeFrom}};
 
 use crate::command::TableEdit;
 use crate::durable::{Change, Durable, EntryList};
 use crate::reply::{Outcome, Refusal};
 use crate::step::{ReadyStep, wants};
+use pf_addr::path::TableName;
+use pf_anchor::Path;
 use pf_table::{Addition, Deletion};
 use pf_ticket::RulesetName;
 use std::alloc::Global;
@@ -43,6 +45,84 @@ fn deleted_of(answers: &[Deletion]) -> Outcome
     }
 }
 
+// The step of an edit that adds entries to a table.
+fn add(
+    alloc: Global,
+    durable: &Durable,
+    before: &[RulesetName],
+    path: &Path,
+    name: TableName,
+    entries: &EntryList,
+) -> Result<ReadyStep, Refusal>
+    ensures reply { OrMemory true (plain result) (edit_step durable.now (TableEdit.Add path.now name entries.now)) }
+    ensures made { IsMadeFrom (next_with durable.now before.now) result }
+{
+    let (table, additions) = durable.with_added(alloc, path, &name, entries.as_slice())?;
+    let left = durable.with_table(alloc, path, &name, table)?;
+    let change = Change::add(path.copied(), name, entries.copied(alloc)?);
+    Ok(wants(alloc, before, change, left, added_of(additions.as_slice()))?)
+}
+
+// The step of an edit that deletes entries from a table.
+fn delete(
+    alloc: Global,
+    durable: &Durable,
+    before: &[RulesetName],
+    path: &Path,
+    name: TableName,
+    entries: &EntryList,
+) -> Result<ReadyStep, Refusal>
+    ensures reply { OrMemory true (plain result) (edit_step durable.now (TableEdit.Delete path.now name entries.now)) }
+    ensures made { IsMadeFrom (next_with durable.now before.now) result }
+{
+    let (table, deletions) = durable.with_deleted(alloc, path, &name, entries.as_slice())?;
+    if !durable.has_table(path, &name) {
+        return Err(Refusal::Absent);
+    }
+    let left = durable.with_table(alloc, path, &name, table)?;
+    let change = Change::delete(path.copied(), name, entries.copied(alloc)?);
+    let outcome = deleted_of(deletions.as_slice());
+    Ok(wants(alloc, before, change, left, outcome)?)
+}
+
+// The step of an edit that puts entries in place of a table's own.
+fn set(
+    alloc: Global,
+    durable: &Durable,
+    before: &[RulesetName],
+    path: &Path,
+    name: TableName,
+    entries: &EntryList,
+) -> Result<ReadyStep, Refusal>
+    ensures reply { OrMemory true (plain result) (edit_step durable.now (TableEdit.Set path.now name entries.now)) }
+    ensures made { IsMadeFrom (next_with durable.now before.now) result }
+{
+    let table = durable.with_set(alloc, path, &name, entries.as_slice())?;
+    let left = durable.with_table(alloc, path, &name, table)?;
+    let change = Change::set(path.copied(), name, entries.copied(alloc)?);
+    Ok(wants(alloc, before, change, left, Outcome::Set)?)
+}
+
+// The step of an edit that takes a table out.
+fn kill(
+    alloc: Global,
+    durable: &Durable,
+    before: &[RulesetName],
+    path: &Path,
+    name: TableName,
+) -> Result<ReadyStep, Refusal>
+    ensures reply { let killed = TableEdit.Kill path.now name in
+        OrMemory (edits_in_memory durable.now killed) (plain result) (edit_step durable.now killed) }
+    ensures made { IsMadeFrom (next_with durable.now before.now) result }
+{
+    if !durable.has_table(path, &name) {
+        return Err(Refusal::Absent);
+    }
+    let left = durable.without_table(alloc, path, &name)?;
+    let change = Change::set(path.copied(), name, EntryList::new(Vec::new(alloc)));
+    Ok(wants(alloc, before, change, left, Outcome::Killed)?)
+}
+
 // The step of an edit of a table, after changes that void these tickets.
 pub(crate) fn edit(
     alloc: Global,
@@ -58,43 +138,17 @@ pub(crate) fn edit(
             path,
             name,
             entries,
-        } => {
-            let (table, additions) = durable.with_added(alloc, path, name, entries.as_slice())?;
-            let left = durable.with_table(alloc, path, name, table)?;
-            let change = Change::add(path.copied(), *name, entries.copied(alloc)?);
-            Ok(wants(alloc, before, change, left, added_of(additions.as_slice()))?)
-        }
+        } => add(alloc, durable, before, path, *name, entries),
         TableEdit::Delete {
             path,
             name,
             entries,
-        } => {
-            let (table, deletions) = durable.with_deleted(alloc, path, name, entries.as_slice())?;
-            if !durable.has_table(path, name) {
-                return Err(Refusal::Absent);
-            }
-            let left = durable.with_table(alloc, path, name, table)?;
-            let change = Change::delete(path.copied(), *name, entries.copied(alloc)?);
-            let outcome = deleted_of(deletions.as_slice());
-            Ok(wants(alloc, before, change, left, outcome)?)
-        }
+        } => delete(alloc, durable, before, path, *name, entries),
         TableEdit::Set {
             path,
             name,
             entries,
-        } => {
-            let table = durable.with_set(alloc, path, name, entries.as_slice())?;
-            let left = durable.with_table(alloc, path, name, table)?;
-            let change = Change::set(path.copied(), *name, entries.copied(alloc)?);
-            Ok(wants(alloc, before, change, left, Outcome::Set)?)
-        }
-        TableEdit::Kill { path, name } => {
-            if !durable.has_table(path, name) {
-                return Err(Refusal::Absent);
-            }
-            let left = durable.without_table(alloc, path, name)?;
-            let change = Change::set(path.copied(), *name, EntryList::new(Vec::new(alloc)));
-            Ok(wants(alloc, before, change, left, Outcome::Killed)?)
-        }
+        } => set(alloc, durable, before, path, *name, entries),
+        TableEdit::Kill { path, name } => kill(alloc, durable, before, path, *name),
     }
 }

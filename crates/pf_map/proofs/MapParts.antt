@@ -1,5 +1,5 @@
 -- A map in parts: what is read and replaced in the part of a key's place is read and replaced in the map.
-use Rattle.std.proofs.Common.{◌≡◌, ℕ, zero, suc, ◌+◌, ◌-◌, ◌<◌, ◌≤◌, T, true, false, not, cond, List, [], ◌∷◌, ◌++◌, length, take, drop, get_or, Option, Some, None, option_map, refl, sym, ap, subst, ◌∙◌, append_assoc, append-nil, arith, true≢false, MatchOption}
+use Rattle.std.proofs.Common.{◌≡◌, ℕ, zero, suc, ◌-◌, ◌<◌, ◌≤◌, T, true, false, not, cond, List, [], ◌∷◌, ◌++◌, length, take, drop, get_or, Option, Some, None, option_map, refl, sym, ap, subst, ◌∙◌, append_assoc, append-nil, arith, true≢false, MatchOption, map}
 use Rattle.std.specs.declared.cmp.Ordering.{Ordering}
 use Rattle.std.specs.declared.cmp.Ordering.TheVariants.{Less, Equal, Greater}
 use Rattle.std.specs.Cmp.{IsTotalOrder}
@@ -7,7 +7,7 @@ use Rattle.std.specs.FinMap.{find, put, is_sorted}
 use Rattle.std.specs.FinMap.Entries.{below_all, by_order}
 use Rattle.std.specs.List.{AllByRecursion, remove}
 use Rattle.std.specs.Ordering.{ordering_reverse, eq_by_cmp, is_eq, is_lt}
-use Rattle.std.proofs.lemmas.List.{get_or_default, take-append-drop}
+use Rattle.std.proofs.lemmas.List.{get_or_default, map-append, take-append-drop}
 use Rattle.std.proofs.lemmas.List.Concat.{flat_map-append}
 use Rattle.std.proofs.lemmas.List.Elements.{filter-append}
 use Rattle.pf_map.specs.Maps.{without, with_value, or_else, entry_at, at_or_before}
@@ -254,6 +254,20 @@ module _ {K X : Type 0} (R : K → K → Ordering) (k : K) where
 
 pub halves : {E : Type 0} (n : ℕ) (parts : List (List E)) → joined (take n parts) ++ joined (drop n parts) ≡ joined parts
 halves n parts = sym (flat_map-append (λ part. part) (take n parts) (drop n parts)) ∙ ap joined (take-append-drop n parts)
+
+-- one more part behind others
+pub one_pushed : {E : Type 0} (parts : List (List E)) (part : List E) → joined (parts ++ part ∷ []) ≡ joined parts ++ part
+one_pushed parts part = simp (flat_map-append, append-nil)
+
+-- what goes from the front of some entries behind parts, as one of them
+pub page_moved : {E X : Type 0} (pair : E → X) (pages : List (List X)) (n : ℕ) (rest : List E) → joined (pages ++ map pair (take n rest) ∷ []) ++ map pair (drop n rest) ≡ joined pages ++ map pair rest
+page_moved pair pages n rest =
+    simp (flat_map-append, append_assoc, append-nil)
+    (ap (λ l. joined pages ++ l) (sym (map-append pair (take n rest) (drop n rest)) ∙ ap (map pair) (take-append-drop n rest)))
+
+-- a part that goes from the front of some behind others
+pub one_moved : {E : Type 0} (before : List E) (page rest : List (List E)) (part : List E) → before ++ (joined (page ++ part ∷ []) ++ joined rest) ≡ before ++ (joined page ++ joined (part ∷ rest))
+one_moved before page rest part = simp (flat_map-append, append_assoc, append-nil)
 
 -- ---- a part taken out of its place, and what it became put there
 

@@ -3,9 +3,10 @@ ghost use Rattle.std.specs.{Prelude.{◌≡◌, T, [], length, false, Some, IfOk
 ghost use Rattle.pf_map.specs.{Indexes.{of_flow, is_clash, unflowed, IsIndexOf}, Maps.{with_value, without, entry_at}};
 
 use crate::by_flow::{ByFlow, Flowed, HintedFlow, are_apart, each_by_flow, in_order_of_flows};
-use crate::entries::Entries;
+use crate::each::Each;
 use crate::entry::KeyValue;
-use crate::tree_map::TreeMap;
+use crate::flows::Flows;
+use crate::pairs::Pairs;
 use pf_key::{Key, Sought};
 use std::alloc::{AllocError, Global};
 use std::marker::Model;
@@ -15,8 +16,8 @@ use std::marker::Model;
 /// Each value stands once, in an entry that the map by name and the map by flow share. Both maps are trees, so that a changed index
 /// shares nearly all with the old one.
 pub struct Index<N: Key, F: Key, V: Flowed<F>> {
-    names: TreeMap<N, V, KeyValue<N, V>>,
-    flows: TreeMap<F, KeyValue<N, V>, ByFlow<N, F, V>>,
+    names: Pairs<N, V>,
+    flows: Flows<N, F, V>,
 }
 
 impl<N: Key, F: Key, V: Flowed<F>> Drop for Index<N, F, V> {
@@ -39,9 +40,9 @@ impl<N: Key, F: Key, V: Flowed<F>> Model for Index<N, F, V> {
 // The flows without that of a value that is taken out, if there is one.
 fn without_flow<N: Key, F: Key, V: Flowed<F>>(
     alloc: Global,
-    flows: TreeMap<F, KeyValue<N, V>, ByFlow<N, F, V>>,
+    flows: Flows<N, F, V>,
     old: Option<&KeyValue<N, V>>,
-) -> Result<TreeMap<F, KeyValue<N, V>, ByFlow<N, F, V>>, AllocError>
+) -> Result<Flows<N, F, V>, AllocError>
     ensures { IfOk result (λ m. m ≡ unflowed F.order V.flow (option_map (λ e. e.now.1) old.entry) flows) }
 {
     match old {
@@ -64,8 +65,8 @@ fn of_both<N: Key, F: Key, V: Flowed<F>>(
     if !are_apart(&flows) {
         return Ok(None);
     }
-    let names = TreeMap::of(alloc, entries)?;
-    let flows = TreeMap::of(alloc, &each_by_flow(alloc, flows)?)?;
+    let names = Pairs::of(alloc, entries)?;
+    let flows = Flows::of(alloc, &each_by_flow(alloc, flows)?)?;
     Ok(Some(Index { names, flows }))
 }
 
@@ -75,8 +76,8 @@ impl<N: Key, F: Key, V: Flowed<F>> Index<N, F, V> {
         ensures { result ≡ [] }
     {
         Index {
-            names: TreeMap::empty(),
-            flows: TreeMap::empty(),
+            names: Pairs::empty(),
+            flows: Flows::empty(),
         }
     }
 
@@ -111,10 +112,7 @@ impl<N: Key, F: Key, V: Flowed<F>> Index<N, F, V> {
     pub fn of_flow<Q: Sought<F>>(&self, flow: &Q) -> Option<&KeyValue<N, V>>
         ensures { option_map (λ e. e.now) result ≡ of_flow F.order V.flow (Q.key flow.now) self.now }
     {
-        match self.flows.get(flow) {
-            Some(found) => Some(found.entry()),
-            None => None,
-        }
+        self.flows.get(flow)
     }
 
     /// Whether a value of another name has the flow of this one.
@@ -149,7 +147,7 @@ impl<N: Key, F: Key, V: Flowed<F>> Index<N, F, V> {
         let had = old.is_some();
         let kept = without_flow(alloc, flows, old)?;
         let flows = kept.with_new(alloc, &ByFlow::new(new)?)?;
-        let names = names.with_value(alloc, new.key(), had, Some(new))?;
+        let names = names.with_known(alloc, had, new)?;
         Ok(Index { names, flows })
     }
 
@@ -169,7 +167,7 @@ impl<N: Key, F: Key, V: Flowed<F>> Index<N, F, V> {
     }
 
     /// Its values, in the order of their names. It takes no memory.
-    pub fn entries(&self) -> Entries<'_, N, V, KeyValue<N, V>>
+    pub fn entries(&self) -> Each<'_, N, V>
         ensures { result ≡ self.now }
     {
         self.names.entries()

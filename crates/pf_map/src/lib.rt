@@ -11,8 +11,9 @@
 //! `entry` is what stands at a key, and `weight` what entries weigh together. A tree consists of parts
 //! (`part`), which a `level` holds in slots (`slot`), and a `page` is a part that holds entries; `pieces` is what becomes of a part that
 //! was changed, `raised` makes levels over parts that are there already, and `beside` keeps with a page what follows from its entries.
-//! `tree_map` is the tree and `entries` goes over it; `paged_map` and `index` stand on trees, the latter with `by_flow`, the entries under
-//! their second keys. `laws` has what follows from the definitions.
+//! `tree_map` is the tree and `entries` goes over it, or `each` where an entry is a key and the value there; `pairs` are trees of such
+//! entries, on which `paged_map` and `index` stand, the latter also on `flows`, trees of the same entries under their second keys
+//! (`by_flow`). `laws` has what follows from the definitions.
 //!
 //! Proved, by the public contracts: a look-up finds what the list has, a change leaves the list that the definitions say, and what entries
 //! weigh together is kept. No contract says how many pages a change copies. Only tests of other crates show that memory runs out only if a
@@ -21,13 +22,16 @@
 
 mod beside;
 mod by_flow;
+mod each;
 mod entries;
 mod entry;
+mod flows;
 mod index;
 pub mod laws;
 mod level;
 mod page;
 mod paged_map;
+mod pairs;
 mod part;
 mod pieces;
 mod raised;
@@ -37,6 +41,7 @@ mod weight;
 
 pub use beside::{Beside, PageBeside};
 pub use by_flow::Flowed;
+pub use each::Each;
 pub use entries::Entries;
 pub use entry::{Content, Holder, KeyValue};
 pub use index::Index;

@@ -2,9 +2,9 @@
 ghost use Rattle.std.specs.{Prelude.{◌≡◌, ◌<◌, ◌^◌, T, [], length, IfOk, fold, nat_lt}, FinMap.is_sorted, List.sum_by, Option.option_map};
 ghost use Rattle.pf_map.specs.{Maps.{with_entry, entry_at, IsMap}, Weights.{weight_of, IsWeighed}};
 
-use crate::entries::Entries;
+use crate::each::Each;
 use crate::entry::{Content, KeyValue};
-use crate::tree_map::TreeMap;
+use crate::pairs::Pairs;
 use crate::weight::Weigher;
 use pf_key::{Key, Sought};
 use std::alloc::{AllocError, Global};
@@ -16,7 +16,7 @@ use std::marker::{Model, PhantomData};
 /// The entries stand in pages, so that a changed map shares with the old one all pages but those in which an entry changed. What
 /// they weigh together is kept, and changes with each that is replaced.
 pub struct PagedMap<K: Key, V: Content, W: Weigher<K, V>> {
-    map: TreeMap<K, V, KeyValue<K, V>>,
+    map: Pairs<K, V>,
     weight: u128,
     of: PhantomData<W>,
 }
@@ -43,10 +43,7 @@ impl<K: Key, V: Content, W: Weigher<K, V>> Model for PagedMap<K, V, W> {
 }
 
 // What the entry at a key weighs; nothing where there is none.
-fn weight_at<K: Key, V: Content, W: Weigher<K, V>>(
-    map: &TreeMap<K, V, KeyValue<K, V>>,
-    key: &K,
-) -> u32
+fn weight_at<K: Key, V: Content, W: Weigher<K, V>>(map: &Pairs<K, V>, key: &K) -> u32
     ensures weight { result ≡ weight_of W.weight (entry_at K.order key.now map.now) }
     ensures sorted { T (is_sorted K.order map.now) }
 {
@@ -69,7 +66,7 @@ fn weight_kept<K: Key, V: Content, W: Weigher<K, V>>(entry: &KeyValue<K, V>) -> 
 
 // What entries that weigh so much weigh once the value at one entry's key is replaced.
 fn reweighed<K: Key, V: Content, W: Weigher<K, V>>(
-    map: &TreeMap<K, V, KeyValue<K, V>>,
+    map: &Pairs<K, V>,
     weight: u128,
     change: &KeyValue<K, V>,
 ) -> u128
@@ -84,10 +81,10 @@ fn reweighed<K: Key, V: Content, W: Weigher<K, V>>(
 
 // The map with the value at one entry's key replaced, or taken out where the new one stands for none.
 fn with_change<K: Key, V: Content>(
-    map: TreeMap<K, V, KeyValue<K, V>>,
+    map: Pairs<K, V>,
     alloc: Global,
     change: &KeyValue<K, V>,
-) -> Result<TreeMap<K, V, KeyValue<K, V>>, AllocError>
+) -> Result<Pairs<K, V>, AllocError>
     ensures { IfOk result (λ m. m ≡ with_entry K.order V.kept map change.now) }
 {
     if change.value().is_none() {
@@ -116,7 +113,7 @@ impl<K: Key, V: Content, W: Weigher<K, V>> PagedMap<K, V, W> {
         ensures { result ≡ [] }
     {
         PagedMap {
-            map: TreeMap::empty(),
+            map: Pairs::empty(),
             weight: 0,
             of: PhantomData,
         }
@@ -129,7 +126,7 @@ impl<K: Key, V: Content, W: Weigher<K, V>> PagedMap<K, V, W> {
         ensures { IfOk result (λ m. m ≡ entries.now) }
     {
         Ok(PagedMap {
-            map: TreeMap::of(alloc, entries)?,
+            map: Pairs::of(alloc, entries)?,
             weight: weight_of_all::<K, V, W>(entries),
             of: PhantomData,
         })
@@ -231,7 +228,7 @@ impl<K: Key, V: Content, W: Weigher<K, V>> PagedMap<K, V, W> {
     }
 
     /// Its entries, in order. It takes no memory.
-    pub fn entries(&self) -> Entries<'_, K, V, KeyValue<K, V>>
+    pub fn entries(&self) -> Each<'_, K, V>
         ensures { result ≡ self.now }
     {
         self.map.entries()

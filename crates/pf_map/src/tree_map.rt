@@ -1,6 +1,6 @@
 //! Maps in trees.
 ghost use Rattle.std.specs.{Prelude.{◌≡◌, ◌+◌, ◌<◌, T, [], length, map, cond, true, Some, None, is_some, IfOk, IfSome, MatchOption, nat_lt}, Option.option_map, FinMap.{find, is_sorted}};
-ghost use Rattle.pf_map.specs.{Maps.{with_value, without, entry_at, at_or_before}, MapParts.{joined, IsUpTo}};
+ghost use Rattle.pf_map.specs.{Maps.{with_value, without, entry_at, at_or_before}, MapParts.{joined, first_of, IsUpTo}};
 
 use crate::entries::Entries;
 use crate::entry::Holder;
@@ -111,6 +111,16 @@ impl<K: Key, V: Drop, E: Holder<K, V>, L: Page<K, V, E>> TreeMap<K, V, E, L> {
         ensures sorted { T (is_sorted K.order self.now) }
     {
         find_in(self.slots(), sought.hint(), sought)
+    }
+
+    /// Its first entry; None where it has none.
+    pub fn first(&self) -> Option<&E>
+        ensures { option_map (λ e. E.pair e.now) result ≡ first_of self.now }
+    {
+        match &self.top {
+            Some(top) => Some(top.first()),
+            None => None,
+        }
     }
 
     /// The page with the last entry that isn't behind a key; None where all entries are.

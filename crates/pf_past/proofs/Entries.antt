@@ -7,11 +7,12 @@ use mathlib.Core.List.{IsPrefix}
 use prog.Atomic.{either}
 use Rattle.logbook.specs.Pages.{Cell, cell, Nib, keeps, gives, adds, no_nib, step, may_write, Moves}
 use Rattle.pf_past.specs.declared.rule.HistoryEntry.{HistoryEntry}
-use Rattle.std.specs.Prelude.{map, if◌then◌else◌, ◌≤◌}
+use Rattle.std.specs.Prelude.{flat_map, if◌then◌else◌, option_to_list, ◌≤◌}
 use Rattle.std.specs.List.{sum_by}
-use Rattle.std.proofs.lemmas.List.Sums.{sum_by-append}
+use Rattle.std.proofs.lemmas.{Grind.flat_map-append, List.Sums.{sum_by-append, sum_by_push}}
+use Rattle.pf_core.specs.Durable.Changes.{PlainChange}
 use Rattle.pf_past.specs.Pasts.{Begins}
-use Rattle.pf_past.specs.Rules.{lead, lead_of, IsSpent, IsChain, IsKept, Comes, Starts, Adds, Stays, after_first, past_of}
+use Rattle.pf_past.specs.Rules.{lead, lead_of, IsSpent, IsChain, IsKept, Comes, Starts, Adds, Stays, after_first, past_of, shown_of, tip_of, with_entry}
 use Rattle.pf_past.proofs.Prefixes.{prefix_trans, prefix_shorter, prefix_whole, prefix_length}
 
 abbrev pub shown : List HistoryEntry → List HistoryEntry
@@ -178,21 +179,37 @@ starts v p ask ((suc n, b) ∷ cs) log kept pre away =
     (omega arith, kept.0, (keeps, [], None, tt, kept', inl (refl, refl), λ z. absurd (omega arith)))
 
 -- what a longer log says of changes
-prefix_map : (xs ys : List HistoryEntry) → IsPrefix xs ys → IsPrefix (map (λ (e : HistoryEntry). e.change) xs) (map (λ (e : HistoryEntry). e.change) ys)
-prefix_map [] ys p = (map (λ (e : HistoryEntry). e.change) ys, refl)
-prefix_map (x ∷ xs) [] p = absurd (cc (p.1))
-prefix_map (x ∷ xs) (y ∷ ys) p = let heads : x ≡ y = cc (p.1) in let rest = prefix_map xs ys (p.0, cc (p.1)) in (rest.0, cc (heads, rest.1))
+rest_longer : (xs ys : List HistoryEntry) → IsPrefix xs ys → IsPrefix (after_first xs) (after_first ys)
+rest_longer [] ys p = (after_first ys, refl)
+rest_longer (x ∷ xs) [] p = absurd (cc (p.1))
+rest_longer (x ∷ xs) (y ∷ ys) p = (p.0, cc (p.1))
 
-prefix_sum : (xs ys : List HistoryEntry) → IsPrefix xs ys → sum_by (λ (e : HistoryEntry). if e.acked then 1 else 0) xs ≤ sum_by (λ (e : HistoryEntry). if e.acked then 1 else 0) ys
-prefix_sum xs ys p = omega (arith, sum_by-append (λ (e : HistoryEntry). if e.acked then 1 else 0) xs p.0, ap (sum_by (λ (e : HistoryEntry). if e.acked then 1 else 0)) p.1)
+flat_map_longer : (f : HistoryEntry → List PlainChange) (xs ys : List HistoryEntry) → IsPrefix xs ys → IsPrefix (flat_map f xs) (flat_map f ys)
+flat_map_longer f xs ys p = (flat_map f p.0, sym (flat_map-append f xs p.0) ∙ ap (flat_map f) p.1)
 
-prefix_rest : (xs ys : List HistoryEntry) → IsPrefix xs ys → IsPrefix (after_first xs) (after_first ys)
-prefix_rest [] ys p = (after_first ys, refl)
-prefix_rest (x ∷ xs) [] p = absurd (cc (p.1))
-prefix_rest (x ∷ xs) (y ∷ ys) p = (p.0, cc (p.1))
+sum_by_longer : (f : HistoryEntry → ℕ) (xs ys : List HistoryEntry) → IsPrefix xs ys → sum_by f xs ≤ sum_by f ys
+sum_by_longer f xs ys p = omega (arith, sum_by-append f xs p.0, ap (sum_by f) p.1)
 
 pub past_begins : (xs ys : List HistoryEntry) → IsPrefix xs ys → Begins (past_of xs) (past_of ys)
-past_begins xs ys p = let q = prefix_rest xs ys p in (prefix_map (after_first xs) (after_first ys) q, prefix_sum (after_first xs) (after_first ys) q)
+past_begins xs ys p =
+    let q = rest_longer xs ys p in
+    (flat_map_longer (λ (e : HistoryEntry). option_to_list e.change) (after_first xs) (after_first ys) q, sum_by_longer (λ (e : HistoryEntry). if e.acked then 1 else 0) (after_first xs) (after_first ys) q)
+
+pub shown_rises : (xs ys : List HistoryEntry) → IsPrefix xs ys → shown_of xs ≤ shown_of ys
+shown_rises xs ys p = sum_by_longer (λ (e : HistoryEntry). e.shown) (after_first xs) (after_first ys) (rest_longer xs ys p)
+
+-- one more entry after the first
+pub tip_of-push : (log : List HistoryEntry) (e : HistoryEntry) → 0 < length log → tip_of (log ++ e ∷ []) ≡ with_entry (tip_of log) e.change e.acked e.shown
+tip_of-push [] e some = absurd (omega (arith, some))
+tip_of-push (x ∷ log) e some = λ i. record { front = front i; acked = acked i; shown = shown i } where
+  front : flat_map (λ (d : HistoryEntry). option_to_list d.change) (log ++ e ∷ []) ≡ flat_map (λ (d : HistoryEntry). option_to_list d.change) log ++ option_to_list e.change
+  front = flat_map-append (λ (d : HistoryEntry). option_to_list d.change) log (e ∷ []) ∙ ap (λ (l : List PlainChange). flat_map (λ (d : HistoryEntry). option_to_list d.change) log ++ l) (append-nil (option_to_list e.change))
+
+  acked : sum_by (λ (d : HistoryEntry). if d.acked then 1 else 0) (log ++ e ∷ []) ≡ sum_by (λ (d : HistoryEntry). if d.acked then 1 else 0) log + (if e.acked then 1 else 0)
+  acked = sum_by_push (λ (d : HistoryEntry). if d.acked then 1 else 0) log e
+
+  shown : sum_by (λ (d : HistoryEntry). d.shown) (log ++ e ∷ []) ≡ sum_by (λ (d : HistoryEntry). d.shown) log + e.shown
+  shown = sum_by_push (λ (d : HistoryEntry). d.shown) log e
 
 -- of two fronts of one history the one with no more changes begins the other
 pub front_begins : (xs ys zs : List HistoryEntry) → IsPrefix xs zs → IsPrefix ys zs → length (past_of xs).front ≤ length (past_of ys).front → IsPrefix (past_of xs).front (past_of ys).front

@@ -1,10 +1,10 @@
 -- The rule of the history: one pen alone may add to it.
-use Rattle.std.specs.{Prelude.{◌≡◌, ℕ, ◌<◌, length, List, [], ◌∷◌, ◌++◌, true, map, if◌then◌else◌}, List.sum_by}
+use Rattle.std.specs.{Prelude.{◌≡◌, ℕ, ◌<◌, ◌+◌, length, List, [], ◌∷◌, ◌++◌, Bool, true, flat_map, if◌then◌else◌, Option, option_to_list}, List.sum_by}
 use mathlib.Core.List.{IsPrefix}
 use Rattle.logbook.specs.Pages.{Cell, cell, Step, View, Book, Named, Nib, may_make, may_write}
 use Rattle.pf_core.specs.Durable.Changes.{PlainChange}
 use Rattle.pf_past.specs.declared.rule.HistoryEntry.{HistoryEntry}
-use Rattle.pf_past.specs.Pasts.{PlainFront}
+use Rattle.pf_past.specs.Pasts.{PlainFront, PlainTip}
 
 -- ---- the invariant of the words and the entries
 
@@ -13,7 +13,7 @@ abbrev pub lead : ℕ → List HistoryEntry → ℕ
 lead k [] = k
 lead k (e ∷ es) = lead e.next es
 
--- the first entry is no change: it names the first pen. Before it nobody may add
+-- the first entry notes nothing: it names the first pen. Before it nobody may add
 abbrev pub lead_of : List HistoryEntry → ℕ
 lead_of [] = 0
 lead_of (e ∷ es) = lead e.next es
@@ -59,13 +59,27 @@ after_first [] = []
 after_first (e ∷ es) = es
 
 abbrev pub changes_in : List HistoryEntry → List PlainChange
-changes_in log = map (λ e. e.change) (after_first log)
+changes_in log = flat_map (λ e. option_to_list e.change) (after_first log)
 
 abbrev pub acked_of : List HistoryEntry → ℕ
 acked_of log = sum_by (λ e. if e.acked then 1 else 0) (after_first log)
 
+abbrev pub shown_of : List HistoryEntry → ℕ
+shown_of log = sum_by (λ e. e.shown) (after_first log)
+
 abbrev pub past_of : List HistoryEntry → PlainFront
 past_of log = record { front = changes_in log; acked = acked_of log }
+
+abbrev pub tip_of : List HistoryEntry → PlainTip
+tip_of log = record { front = changes_in log; acked = acked_of log; shown = shown_of log }
+
+-- with one more entry
+abbrev pub with_entry : PlainTip → Option PlainChange → Bool → ℕ → PlainTip
+with_entry t change acked shown = record {
+  front = t.front ++ option_to_list change;
+  acked = t.acked + (if acked then 1 else 0);
+  shown = t.shown + shown;
+}
 
 -- the pen is the one that may add to the log
 pub record IsTip (name : Book) (head : Named) (seen_book pen_book : Book) (pen : Nib) (log : List HistoryEntry) : Type 0 where

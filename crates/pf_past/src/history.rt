@@ -1,8 +1,8 @@
 //! A history and fronts of it. All of it exists in proofs alone, and takes no memory: at run time only a word or two are kept.
 ghost use Rattle.std.specs.Prelude.{◌≡◌, ◌≤◌, length, IfSome};
-ghost use Rattle.std.specs.Arc.{arc_value};
+ghost use Rattle.std.specs.{Arc.arc_value, Option.option_map};
 ghost use mathlib.Core.List.{IsPrefix};
-ghost use Rattle.pf_past.specs.Pasts.{no_changes, with_change, Begins, trace_with};
+ghost use Rattle.pf_past.specs.{Pasts.{front_of, no_changes, with_change, with_shown, Begins, trace_with}, Rules.{past_of, shown_of, with_entry}};
 
 use crate::naming::Naming;
 use crate::rule::{
@@ -25,13 +25,13 @@ pub struct NewHistory {
 impl Model for NewHistory {
     ghost use Rattle.std.specs.Prelude.{◌≡◌, IfSome};
     ghost use Rattle.logbook.specs.Pages.{Book};
-    ghost use Rattle.pf_past.specs.{Pasts.no_changes, Rules.{past_of, IsTip}};
+    ghost use Rattle.pf_past.specs.{Pasts.no_changes, Rules.{tip_of, IsTip}};
 
     ghost Value = { Book };
 
     ghost view = { λ h. h.seen.book };
 
-    ghost invariant = { λ h. IfSome h.pen (λ pen. IsTip h.seen.book h.head h.seen.book pen.book pen.nib h.seen.log × (past_of h.seen.log ≡ no_changes)) };
+    ghost invariant = { λ h. IfSome h.pen (λ pen. IsTip h.seen.book h.head h.seen.book pen.book pen.nib h.seen.log × (tip_of h.seen.log ≡ no_changes)) };
 }
 
 impl NewHistory {
@@ -162,7 +162,25 @@ impl<J: Naming> Front<J> {
     }
 }
 
-/// The whole history, with the one right to add to it. Contracts see it as a `PlainFront`.
+/// How many changes of the history were shown at some moment. Contracts see the number.
+#[derive(Drop)]
+pub struct Showing<J: Naming> {
+    seen: SeenEntries,
+    of: PhantomData<J>,
+}
+
+impl<J: Naming> Model for Showing<J> {
+    ghost use Rattle.std.specs.Prelude.{◌≡◌, ℕ};
+    ghost use Rattle.pf_past.specs.Rules.{shown_of};
+
+    ghost Value = { ℕ };
+
+    ghost view = { λ s. shown_of s.seen.log };
+
+    ghost invariant = { λ s. s.seen.book ≡ J.history };
+}
+
+/// The whole history, with the one right to add to it. Contracts see it as a `PlainTip`.
 #[derive(Drop)]
 pub struct Tip<J: Naming> {
     head: Head,
@@ -172,11 +190,11 @@ pub struct Tip<J: Naming> {
 }
 
 impl<J: Naming> Model for Tip<J> {
-    ghost use Rattle.pf_past.specs.{Pasts.PlainFront, Rules.{past_of, IsTip}};
+    ghost use Rattle.pf_past.specs.{Pasts.PlainTip, Rules.{tip_of, IsTip}};
 
-    ghost Value = { PlainFront };
+    ghost Value = { PlainTip };
 
-    ghost view = { λ t. past_of t.seen.log };
+    ghost view = { λ t. tip_of t.seen.log };
 
     ghost invariant = { λ t. IsTip J.history t.head t.seen.book t.pen.book t.pen.nib t.seen.log };
 }
@@ -184,9 +202,19 @@ impl<J: Naming> Model for Tip<J> {
 impl<J: Naming> Tip<J> {
     /// A front that is the whole history.
     pub fn front(&self) -> Front<J>
-        ensures { result ≡ self.now }
+        ensures { result ≡ front_of self.now }
     {
         Front {
+            seen: self.seen.again(),
+            of: PhantomData,
+        }
+    }
+
+    /// How many changes are shown.
+    pub fn showing(&self) -> Showing<J>
+        ensures { result ≡ self.now.shown }
+    {
+        Showing {
             seen: self.seen.again(),
             of: PhantomData,
         }
@@ -196,9 +224,24 @@ impl<J: Naming> Tip<J> {
     pub fn add(&mut self, change: Arc<Change>, acked: bool)
         ensures { self.new ≡ with_change self.old (arc_value change) acked }
     {
+        self.note(Some(change), acked, 0);
+    }
+
+    /// Notes that so many changes more are shown.
+    pub fn show(&mut self, more: usize)
+        ensures { self.new ≡ with_shown self.old more }
+    {
+        self.note(None, false, more);
+    }
+
+    // Adds an entry.
+    fn note(&mut self, change: Option<Arc<Change>>, acked: bool, shown: usize)
+        ensures { self.new ≡ with_entry self.old (option_map arc_value change) acked shown }
+    {
         let asked = Asked {
             change,
             acked,
+            shown,
             pen: new_pen(&self.head, &self.seen),
         };
         let mut offer: EntryOffer = self.seen.plain::<NoGain, Asked, Adding>(&asked);
@@ -207,6 +250,7 @@ impl<J: Naming> Tip<J> {
         let Asked {
             change: _change,
             acked: _,
+            shown: _,
             pen,
         } = asked;
         self.pen = pen;
@@ -214,11 +258,29 @@ impl<J: Naming> Tip<J> {
 
     /// The tip begins with each front of this history.
     pub fn contains(&mut self, front: &Front<J>)
-        ensures begins { Begins front.now self.old }
+        ensures begins { Begins front.now (front_of self.old) }
+        ensures same { self.new ≡ self.old }
+    {
+        self.look(&front.seen);
+    }
+
+    /// No fewer changes are shown than at any moment before.
+    pub fn has_shown(&mut self, showing: &Showing<J>)
+        ensures risen { showing.now ≤ self.old.shown }
+        ensures same { self.new ≡ self.old }
+    {
+        self.look(&showing.seen);
+    }
+
+    // The tip begins with all that was seen of its history, and no fewer changes are shown.
+    fn look(&mut self, other: &SeenEntries)
+        requires { other.now.book ≡ J.history }
+        ensures begins { Begins (past_of other.now.log) (front_of self.old) }
+        ensures risen { shown_of other.now.log ≤ self.old.shown }
         ensures same { self.new ≡ self.old }
     {
         let mut both = self.seen.again();
-        both.learn(&front.seen);
+        both.learn(other);
         let mut offer: EntryOffer = both.plain::<NoGain, (), Staying>(&());
         self.head
             .compare_exchange::<Staying, NoGain>(0, 0, &mut both, &mut offer, &mut self.pen);

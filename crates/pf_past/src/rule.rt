@@ -7,10 +7,12 @@ use logbook::{Gain, Offer, Pen, Plain, Play, Rule, Seen, Word};
 use pf_core::Change;
 use std::sync::Arc;
 
-/// A change, whether it was acknowledged, and the key of the pen that may add the next one. No value of it is ever made.
+/// A change, if it notes one, and whether that was acknowledged; how many changes more are shown; and the key of the pen that may add the
+/// next entry. No value of it is ever made.
 pub struct HistoryEntry {
-    pub change: Change,
+    pub change: Option<Change>,
     pub acked: bool,
+    pub shown: u64,
     pub next: u64,
 }
 
@@ -50,10 +52,11 @@ pub(crate) type SeenEntries = Seen<HistoryEntry, u64, OnePen>;
 
 pub(crate) type EntryOffer = Offer<HistoryEntry, u64, OnePen, NoGain>;
 
-// An entry to add: a change, and the pen that may add the next one.
+// An entry to add, and the pen that may add the next one.
 pub(crate) struct Asked {
-    pub(crate) change: Arc<Change>,
+    pub(crate) change: Option<Arc<Change>>,
     pub(crate) acked: bool,
+    pub(crate) shown: usize,
     pub(crate) pen: Pen,
 }
 
@@ -67,15 +70,14 @@ impl Play<HistoryEntry, u64> for Coming {
 }
 
 impl Plain<(), HistoryEntry, u64> for Coming {
-    ghost use Rattle.std.specs.Prelude.{None, false, []};
-    ghost use Rattle.pf_core.specs.Durable.Changes.{commits};
+    ghost use Rattle.std.specs.Prelude.{None, false};
 
-    ghost ask = { λ a. record { change = commits []; acked = false; next = 0 } };
+    ghost ask = { λ a. record { change = None; acked = false; shown = 0; next = 0 } };
 
     ghost state = { λ a. None };
 }
 
-/// The first entry is put, which is no change.
+/// The first entry is put, which notes nothing.
 pub struct Starting;
 
 impl Play<HistoryEntry, u64> for Starting {
@@ -85,10 +87,9 @@ impl Play<HistoryEntry, u64> for Starting {
 }
 
 impl Plain<Pen, HistoryEntry, u64> for Starting {
-    ghost use Rattle.std.specs.Prelude.{None, false, []};
-    ghost use Rattle.pf_core.specs.Durable.Changes.{commits};
+    ghost use Rattle.std.specs.Prelude.{None, false};
 
-    ghost ask = { λ p. record { change = commits []; acked = false; next = p.nib.key } };
+    ghost ask = { λ p. record { change = None; acked = false; shown = 0; next = p.nib.key } };
 
     ghost state = { λ p. None };
 }
@@ -104,9 +105,9 @@ impl Play<HistoryEntry, u64> for Adding {
 
 impl Plain<Asked, HistoryEntry, u64> for Adding {
     ghost use Rattle.std.specs.Prelude.{None};
-    ghost use Rattle.std.specs.Arc.{arc_value};
+    ghost use Rattle.std.specs.{Arc.arc_value, Option.option_map};
 
-    ghost ask = { λ a. record { change = arc_value a.change; acked = a.acked; next = a.pen.nib.key } };
+    ghost ask = { λ a. record { change = option_map arc_value a.change; acked = a.acked; shown = a.shown; next = a.pen.nib.key } };
 
     ghost state = { λ a. None };
 }
@@ -121,10 +122,9 @@ impl Play<HistoryEntry, u64> for Staying {
 }
 
 impl Plain<(), HistoryEntry, u64> for Staying {
-    ghost use Rattle.std.specs.Prelude.{None, false, []};
-    ghost use Rattle.pf_core.specs.Durable.Changes.{commits};
+    ghost use Rattle.std.specs.Prelude.{None, false};
 
-    ghost ask = { λ a. record { change = commits []; acked = false; next = 0 } };
+    ghost ask = { λ a. record { change = None; acked = false; shown = 0; next = 0 } };
 
     ghost state = { λ a. None };
 }

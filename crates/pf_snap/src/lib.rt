@@ -34,7 +34,7 @@
 //! - A look returns what is there, and says `broken` exactly where nothing is held ([`look`], [`Banks::open`]).
 //! - An image holds at most one content ([`image_holds_one_content`]), and a look at one fails only when out of memory or by a fault of
 //!   the device, for generations below 2^63 ([`content_is_refused_by_chance_alone`]).
-//! - The header's bytes ([`header_has_these_bytes`]).
+//! - The header's bytes ([`header_has_these_bytes`]), and the version in which banks are begun ([`the_newest_version`]).
 //!
 //! No contract says when memory runs out: that calls succeed with enough memory only tests show (`pf_store_tests`). That
 //! [`NextBank::start`] takes at once all the memory that the snapshot and its gate need is neither proved nor tested.
@@ -55,6 +55,7 @@ pub use formatting::format;
 pub use header::{BANK_HEADER, NEWEST, is_size};
 pub use laws::{
     content_is_refused_by_chance_alone, header_has_these_bytes, image_holds_one_content,
+    the_newest_version,
 };
 pub use looking::{Looked, look};
 pub use next_bank::NextBank;

@@ -1,11 +1,11 @@
 -- The order of expiries has exactly the states that have one, also after a change; and its first says whether any is due.
 use Rattle.std.proofs.{Common.{◌≡◌, ℕ, ◌+◌, ◌<◌, ◌≤◌, Bool, true, false, not, ◌&&◌, ◌||◌, cond, T, List, [], ◌∷◌, ◌++◌, Option, Some, None, option_map, length, take, drop, get_or, refl, sym, ap, ◌∙◌, subst, arith}, lemmas.{Cmp.{nat_cmp_total, tied_itself}, Bool.{and_parts, or_parts, eqb-true, eq-eqb, Decides.nat_tests}, List.{take_more, take-append-drop}}}
 use Rattle.std.specs.{Prelude.{◌==◌, nat_lt}, declared.{cmp.Ordering.TheVariants.Less, cmp.Ordering.TheVariants.Greater}, FinMap.{find, is_sorted, nat_cmp-IsAntisymmetric}, FinMap.Entries.below_all, Option.option_map_or, Ordering.{ordering_reverse, nat_cmp, eq_by_cmp, is_eq, is_lt}}
-use Rattle.pf_map.specs.Maps.{with_value, without, entry_at}
+use Rattle.pf_map.specs.{Maps.{with_value, without, entry_at}, MapParts.first_of as first_entry}
 use Rattle.pf_map.proofs.{Maps.{replaces_the_key, stays_sorted}, Ordered.{put_last, sorted_front}}
 use Rattle.pf_state.specs.{declared.{dues.Due.Due, state.Held.Held, state.StateName.StateName}, Dues.{due_order, due_of, PlainDues, with_place, without_place, is_listed, AreDues, IsDueAt}, Orders.{name_total, due_total, dues_rise}, Peer.Written.Each, States.{PlainState, name_order, held_at, stands, all_stand, none_expires}, Steps.without_state}
 use Rattle.pf_state.proofs.{Leaves.{reads_put, reads_delete}, Names.one_name, Tables.{no, nothing_is}, TakenOver.{all_held}, Ticks.held_passes}
-use Rattle.pf_map.proofs.Tests.{first_of, second_of, less_of, equal_of}
+use Rattle.pf_map.proofs.Tests.{first_of, second_of, less_of, equal_of, same_entry}
 use Rattle.std.specs.Cmp.{tied_then}
 
 -- ---- two places are one exactly if the expiries and the names are
@@ -225,8 +225,8 @@ listed_first es d ds is = by (held_at d.name es) refl (sym (is.lists d) ∙ ap (
       let same : h.expiry ≡ d.expiry = eqb-true h.expiry d.expiry (and_parts (not (d.expiry == 0)) (h.expiry == d.expiry) both).1 in
       record { held = h; there = there; same = same; some = ap (λ (n : ℕ). n == 0) same ∙ some }
 
-pub first_is_due : (tick : ℕ) (es : List PlainState) (d : Due) (ds : PlainDues) → AreDues es ((d, tt) ∷ ds) → nat_lt tick d.expiry ≡ false → IsDueAt tick d.name es
-first_is_due tick es d ds is past =
+due_in_front : (tick : ℕ) (es : List PlainState) (d : Due) (ds : PlainDues) → AreDues es ((d, tt) ∷ ds) → nat_lt tick d.expiry ≡ false → IsDueAt tick d.name es
+due_in_front tick es d ds is past =
     let has = listed_first es d ds is in
     record {
       held = has.held;
@@ -271,11 +271,23 @@ unlisted : (b : Bool) → None ≡ found_by b → b ≡ false
 unlisted true e = nothing_is tt e
 unlisted false e = refl
 
-pub none_due : (tick : ℕ) (es : List PlainState) → T (is_sorted name_order es) → AreDues es [] → all_stand tick es ≡ true
-none_due tick es sorted is = all_by tick es es (all_held es sorted) (λ d due. unlisted _ (is.lists d))
+stands_in_front : (tick : ℕ) (es : List PlainState) (d : Due) (ds : PlainDues) → T (is_sorted name_order es) → AreDues es ((d, tt) ∷ ds) → nat_lt tick d.expiry ≡ true → all_stand tick es ≡ true
+stands_in_front tick es d ds sorted is later = all_by tick es es (all_held es sorted) (λ e due. unlisted _ (sym (none_found tick d e ds is.sorted later due) ∙ is.lists e))
 
-pub first_stands : (tick : ℕ) (es : List PlainState) (d : Due) (ds : PlainDues) → T (is_sorted name_order es) → AreDues es ((d, tt) ∷ ds) → nat_lt tick d.expiry ≡ true → all_stand tick es ≡ true
-first_stands tick es d ds sorted is later = all_by tick es es (all_held es sorted) (λ e due. unlisted _ (sym (none_found tick d e ds is.sorted later due) ∙ is.lists e))
+-- what the first of the order says, if there is one
+pub none_due : (tick : ℕ) (es : List PlainState) (ds : PlainDues) → T (is_sorted name_order es) → AreDues es ds → None ≡ first_entry ds → all_stand tick es ≡ true
+none_due tick es [] sorted is none = all_by tick es es (all_held es sorted) (λ d due. unlisted _ (is.lists d))
+none_due tick es (d ∷ ds) sorted is none = absurd (cc (none))
+
+pub first_stands : (tick : ℕ) (es : List PlainState) (d : Due) (ds : PlainDues) → T (is_sorted name_order es) → AreDues es ds → Some (d, tt) ≡ first_entry ds → nat_lt tick d.expiry ≡ true → all_stand tick es ≡ true
+first_stands tick es d [] sorted is first later = absurd (cc (first))
+first_stands tick es d (e ∷ ds) sorted is first later =
+    stands_in_front tick es d ds sorted (subst (λ (x : Due × Unit {0}). AreDues es (x ∷ ds)) (sym (same_entry (d, tt) e first)) is) later
+
+pub first_is_due : (tick : ℕ) (es : List PlainState) (d : Due) (ds : PlainDues) → AreDues es ds → Some (d, tt) ≡ first_entry ds → nat_lt tick d.expiry ≡ false → IsDueAt tick d.name es
+first_is_due tick es d [] is first past = absurd (cc (first))
+first_is_due tick es d (e ∷ ds) is first past =
+    due_in_front tick es d ds (subst (λ (x : Due × Unit {0}). AreDues es (x ∷ ds)) (sym (same_entry (d, tt) e first)) is) past
 
 -- ---- whether any state has an expiry
 

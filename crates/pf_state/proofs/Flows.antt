@@ -1,5 +1,5 @@
 -- Which flows are one.
-use Rattle.std.proofs.{Common.{◌≡◌, ◌⊎◌, inl, inr, Bool, true, false, not, ◌&&◌, ◌||◌, T, refl, sym, ap, ◌∙◌, subst}, lemmas.Bool.{and_parts, eqb-true, eq-eqb, or_right}}
+use Rattle.std.proofs.{Common.{◌≡◌, ◌⊎◌, inl, inr, Bool, true, false, not, ◌||◌, T, refl, sym, ap, ◌∙◌, subst}, lemmas.Bool.{and_parts, eqb-true, eq-eqb, or_right}}
 use Rattle.pf_addr.specs.declared.{addr.Addr.Addr, addr.Addr.TheVariants.V4, addr.Addr.TheVariants.V6}
 use Rattle.pf_rule.specs.{declared.{value.direction.Direction.Direction, value.direction.Direction.TheVariants.In, value.direction.Direction.TheVariants.Out}, Value.Tests.same_direction}
 use Rattle.pf_state.specs.{Flows.{PlainFlow, other_way, turned, same_addr, is_equal, same_flow}, Laws.States.OneFlowOrAnother}

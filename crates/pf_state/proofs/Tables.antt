@@ -1,6 +1,6 @@
 -- What steps leave is in order, with no name and no flow twice; and the state that is found is the only one of its flow.
-use Rattle.std.proofs.{Common.{◌≡◌, ℕ, zero, suc, ◌≤◌, Bool, true, false, not, ◌&&◌, ◌||◌, cond, T, List, [], ◌∷◌, length, take, Option, Some, None, is_some, refl, sym, ap, ◌∙◌, subst, true≢false, arith}, lemmas.Bool.{or_parts, Decides.nat_tests}}
-use Rattle.std.specs.{Prelude.◌==◌, declared.{cmp.Ordering.Ordering, cmp.Ordering.TheVariants.Less, cmp.Ordering.TheVariants.Equal, cmp.Ordering.TheVariants.Greater}, FinMap.is_sorted, FinMap.Entries.{is_sorted-where_key, below_all}, Option.unwrap_or, Ordering.{eq_by_cmp, is_eq, is_lt}}
+use Rattle.std.proofs.{Common.{◌≡◌, ℕ, zero, suc, ◌≤◌, Bool, true, false, not, ◌&&◌, cond, T, List, [], ◌∷◌, length, take, Option, Some, None, is_some, refl, sym, ap, ◌∙◌, subst, true≢false, arith}, lemmas.Bool.{or_parts, Decides.nat_tests}}
+use Rattle.std.specs.{Prelude.◌==◌, FinMap.is_sorted, FinMap.Entries.{is_sorted-where_key, below_all}, Option.unwrap_or, Ordering.{eq_by_cmp}}
 use Rattle.pf_map.specs.Maps.{with_value}
 use Rattle.pf_map.proofs.Maps.{stays_sorted}
 use Rattle.pf_state.specs.{Orders.name_total, declared.{limits.TheConstants.STATE_LIMIT, state.Held.Held, state.StateName.StateName, step.Insertion.TheVariants.Stale, step.Insertion.TheVariants.Clash, step.Insertion.TheVariants.Replaced, step.Insertion.TheVariants.New, step.StateStep.StateStep, step.StateStep.TheVariants.Insert, step.StateStep.TheVariants.Delete, step.StateStep.TheVariants.Clear}, Flows.{PlainFlow, same_flow}, States.{PlainState, name_order, held_at, state_of, NamesFlows}, Steps.{is_stale, is_clash, insertion, has_effect, without_creator, without_state, stepped, after, is_over, passes_limit}, Laws.States.{IsStateOf, OneStateAFlow, StaysStates, RefusedByAnyStep}}

@@ -1,10 +1,10 @@
 -- What a tick takes out, and that nothing due is left or comes in.
 use Rattle.std.proofs.{Common.{◌≡◌, ℕ, suc, ◌+◌, ◌-◌, ◌<◌, Bool, true, false, not, cond, T, List, [], ◌∷◌, length, Option, Some, None, is_some, refl, sym, ap, ◌∙◌, subst, arith}, lemmas.{Bool.{and_parts, not-false, or_parts}, List.Sums.sum_by-cons}}
-use Rattle.std.specs.{Prelude.{filter, ◌==◌}, declared.{cmp.Ordering.Ordering, cmp.Ordering.TheVariants.Less, cmp.Ordering.TheVariants.Equal, cmp.Ordering.TheVariants.Greater}, FinMap.{is_sorted, put}, FinMap.Entries.{below_all, by_order, length_without}, List.{list_all}, Option.unwrap_or, Ordering.{eq_by_cmp, is_eq, is_lt}}
+use Rattle.std.specs.{Prelude.{filter, ◌==◌}, declared.{cmp.Ordering.Ordering, cmp.Ordering.TheVariants.Less, cmp.Ordering.TheVariants.Equal, cmp.Ordering.TheVariants.Greater}, FinMap.{is_sorted, put}, FinMap.Entries.{below_all, by_order, length_without}, List.{list_all}, Option.unwrap_or, Ordering.{eq_by_cmp}}
 use Rattle.pf_map.specs.Maps.{with_value}
 use Rattle.pf_map.proofs.Maps.{stays_sorted}
 use Rattle.pf_state.specs.{Orders.name_total, declared.{state.Held.Held, state.StateName.StateName, step.StateStep.StateStep, step.StateStep.TheVariants.Insert, step.StateStep.TheVariants.Delete, step.StateStep.TheVariants.Clear}, Dues.IsDueAt, States.{PlainState, name_order, held_at, NamesFlows, IsStates, stands, all_stand, are_whole, is_whole}, Steps.{insertion, has_effect, without_state, without_due, due_count, inserts_due, any_inserts_due, stepped, after}, Laws.States.{still_held, TicksTakeOutTheDue, StepsLeaveNoneDue}}
-use Rattle.pf_state.proofs.{Names.{one_name}, Tables.{no, nothing_is, none_behind}}
+use Rattle.pf_state.proofs.{Names.{one_name}, Tables.{nothing_is, none_behind}}
 use Rattle.pf_map.proofs.Tests.{first_of, second_of, both_of, untied_of}
 
 -- ---- what is left

@@ -6,7 +6,7 @@ ghost use Rattle.pf_state.specs.{Dues.{AreDues, IsDueAt, without_place}, FlowKey
 use crate::dues::{Dues, with_place, without_place};
 use crate::flow_key::FlowKey;
 use crate::state::{Held, State, StateName};
-use pf_map::{Entries, Index};
+use pf_map::{Each, Index};
 use std::alloc::{AllocError, Global};
 use std::marker::Model;
 
@@ -120,17 +120,16 @@ impl States {
     }
 
     /// The name of the state that expires first, if it is due at a tick. It takes no memory.
-    #[tactic(auto, using(crate::proofs::ByExpiry::none_due, crate::proofs::ByExpiry::first_stands, crate::proofs::ByExpiry::first_is_due))]
+    #[tactic(auto, using(crate::proofs::ByExpiry::none_due, crate::proofs::ByExpiry::first_is_due))]
     pub(crate) fn first_due(&self, tick: u64) -> Option<StateName>
         requires { T (is_sorted name_order self.now) }
         ensures { MatchOption result (all_stand tick self.now ≡ true) (λ n. IsDueAt tick n self.now) }
     {
-        let mut dues = self.dues.entries();
-        let first = dues.next()?;
-        if tick < first.0.expiry {
+        let first = self.dues.first()?;
+        if tick < first.expiry {
             return None;
         }
-        Some(first.0.name)
+        Some(first.name)
     }
 
     /// Whether no state has an expiry. It takes no memory.
@@ -179,7 +178,7 @@ impl States {
     }
 
     /// The states, in the order of their names. It takes no memory.
-    pub(crate) fn entries(&self) -> Entries<'_, StateName, Held, State>
+    pub(crate) fn entries(&self) -> Each<'_, StateName, Held>
         ensures { result ≡ self.now }
     {
         self.index.entries()

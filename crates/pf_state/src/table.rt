@@ -9,7 +9,7 @@ use crate::index::States;
 use crate::refusal::StatesRefusal;
 use crate::state::{Held, State, StateName};
 use crate::step::StateStep;
-use pf_map::Entries;
+use pf_map::Each;
 use pf_rule::Packet;
 use std::alloc::{AllocError, Global};
 use std::marker::Model;
@@ -84,7 +84,7 @@ impl StateTable {
     }
 
     /// The states, in the order of their names. It takes no memory.
-    pub fn states(&self) -> Entries<'_, StateName, Held, State>
+    pub fn states(&self) -> Each<'_, StateName, Held>
         ensures value { result ≡ self.now }
         // what each table keeps
         ensures table { IsStates self.now }

@@ -255,11 +255,6 @@ ends_in_snapshot version d before bytes told fits is = record {
 pub one_durable : (version : ℕ) (d e : PlainDurable) (bytes : List ℕ) → IsDurable version d bytes → IsDurable version e bytes → d ≡ e
 one_durable version d e bytes a b = a.told ∙ ap durable_in (one_value (durable_form version) bytes (plain_durable d) (plain_durable e) a.spelled b.spelled) ∙ sym b.told
 
--- and what is kept has the bytes of some data that determine it
-pub none_told : {A : Type 0} (version : ℕ) (d : PlainDurable) (bytes : List ℕ) → ((v : Value DurableShape) → Spells (durable_form version) v bytes → A)
-    → IsDurable version d bytes → A
-none_told version d bytes refuses is = refuses (plain_durable d) is.spelled
-
 -- ---- part by part
 
 -- the form of the parts, by whether there is a tick

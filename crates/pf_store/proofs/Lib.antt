@@ -6,7 +6,9 @@ pub mod Sized
 pub mod OlderBanks
 pub mod Recording
 pub mod Leading
+pub mod Beginnings
 pub mod Refusing
+pub mod Refusals
 pub mod Saving
 pub mod Preparing
 pub mod RoomForGroups

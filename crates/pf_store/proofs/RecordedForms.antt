@@ -146,8 +146,3 @@ opening_pushed version epoch out lt is = spelled version (opens epoch ∷ []) ou
 pub one_group : (version : ℕ) (rs ss : List Recorded) (bytes : List ℕ) → IsRecorded version rs bytes → IsRecorded version ss bytes → rs ≡ ss
 one_group version rs ss bytes a b =
     a.told ∙ ap (map record_in) (one_value (group_form version) bytes (map plain_record rs) (map plain_record ss) a.spelled b.spelled) ∙ sym b.told
-
--- and what is recorded has the bytes of some data that determine it
-pub none_told : {A : Type 0} (version : ℕ) (rs : List Recorded) (bytes : List ℕ) → ((v : Value (list ChangeShape)) → Spells (group_form version) v bytes → A)
-    → IsRecorded version rs bytes → A
-none_told version rs bytes refuses is = refuses (map plain_record rs) is.spelled

@@ -173,6 +173,11 @@ made_all es = map made es
 abbrev pub have_form : List Recorded → Bool
 have_form rs = is_group rs && list_all has_form rs
 
+-- The number of a group comes first, 1 to 64.
+abbrev pub begins_group : List ℕ → Bool
+begins_group [] = false
+begins_group (n ∷ rest) = nat_le 1 n && nat_le n GROUP_LIMIT
+
 -- whether they have bytes in a version: it allows them too
 abbrev pub have_form_in : ℕ → List Recorded → Bool
 have_form_in version rs = have_form rs && allows_group version rs

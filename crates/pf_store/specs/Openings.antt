@@ -5,7 +5,7 @@ use Rattle.pf_journal.specs.Records.{records, region, IsFront}
 use Rattle.pf_snap.specs.{Banks.{AreBanks, Content, Counts, HasSnapshot, bank_size, records_start}, Faults.IsRefused, declared.header.TheConstants.BANK_HEADER}
 use Rattle.pf_snap.specs.Banks as snap
 use Rattle.pf_snap.specs.declared.fault.LookFault.TheVariants as looking
-use Rattle.pf_core.specs.{Durable.Changes.{PlainDurable}, Worlds.{last_epoch, raised}}
+use Rattle.pf_core.specs.{Durable.Changes.{PlainDurable}, Worlds.{down, refused_opening, last_epoch, raised, next, IsLegal}}
 use Rattle.pf_store.specs.{Durables.IsDurable, Groups.IsRecorded, Lengths.snapshot_length, Stores.{FollowInTurn, Holds, HoldsEither, IsRoomy, Leads, Makes}}
 use Rattle.pf_store.specs.declared.{groups.recorded.Recorded.Recorded, store.fault.OpenFault.OpenFault, store.fault.OpenFault.TheVariants.{BadSize, NoBank, Corrupt, Memory, Fault, EpochsExhausted, Full, Places}}
 use Rattle.pf_store.specs.declared.limits.TheConstants.{OPENING_RECORD}
@@ -115,3 +115,13 @@ IsUnopened Fault seen = IsRefused looking.Fault seen
 IsUnopened EpochsExhausted seen = (d : PlainDurable) × (held : Holds seen d) × (generation_of seen d held < 2 ^ 63) × (d.epoch ≡ last_epoch)
 IsUnopened Full seen = (d : PlainDurable) × IsFull seen d
 IsUnopened Places seen = ⊥
+
+-- What an opening that is refused or cut short leaves: an image from its start held `before`, and it is an event that leaves `d` of that.
+pub record LeavesRefused (seen : List ℕ) (unsynced : ℕ → Bool) (d : PlainDurable) : Type 0 where
+  pub image : List ℕ
+  pub start : IsImage seen unsynced image
+  pub before : PlainDurable
+  pub held : Holds image before
+  pub rose : Bool
+  pub legal : IsLegal (down before) (refused_opening rose)
+  pub leaves : next (down before) (refused_opening rose) ≡ down d

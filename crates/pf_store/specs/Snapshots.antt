@@ -1,5 +1,5 @@
 -- Snapshots as they are written.
-use Rattle.std.specs.Prelude.{◌≡◌, ℕ, List, ◌++◌, replicate, if◌then◌else◌}
+use Rattle.std.specs.Prelude.{◌≡◌, ℕ, ◌+◌, nat_le, Bool, List, ◌++◌, length, replicate, if◌then◌else◌}
 use Rattle.pf_form.specs.Bytes.Forms.{nat, Form, number, back}
 use Rattle.pf_snap.specs.{Ready.IsNext, declared.{header.TheConstants.NEWEST, next_bank.NextBank.NextBank}}
 use Rattle.pf_state.specs.Layouts.States.{has_expiry}
@@ -14,6 +14,10 @@ zeros_of version = if has_expiry version then 20 else 12
 -- The snapshot of nothing: the epoch in four bytes, and these zeros.
 unfoldable pub empty_form : ℕ → Form nat
 empty_form version = back (number 4) (replicate (zeros_of version) 0)
+
+-- whether there are as many bytes as the snapshot of nothing has in a version
+abbrev pub has_least : (version : ℕ) → List ℕ → Bool
+has_least version bytes = nat_le (4 + zeros_of version) (length bytes)
 
 -- These bytes are those that were there, then a snapshot of what is kept, in a version.
 pub record EndsInSnapshot (version : ℕ) (d : PlainDurable) (before bytes : List ℕ) : Type 0 where

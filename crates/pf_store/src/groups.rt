@@ -26,6 +26,7 @@ mod tables;
 pub use as_change::AsChange;
 pub(crate) use facts::rules_are_their_data;
 pub use fault::GroupFault;
+pub(crate) use fault::unread;
 pub(crate) use group::{changes_are_allowed_in, have_form, record_group, record_opening};
 pub use group::{read_group, write_group};
 pub(crate) use items::{push_rules, read_rules};

@@ -11,7 +11,8 @@
 //! - `replaying`: what a snapshot and payloads make.
 //! - `lengths`: how long a snapshot and a payload would be.
 //! - `fault`: why any of them fails.
-//! - `laws`: an image holds at most one thing, within all limits, and when it can be opened; when a group fits.
+//! - `laws`: an image holds at most one thing, within all limits, and when it can be opened; that an opening which is refused is an event;
+//!   when a group fits, and how much room there is.
 
 mod adding;
 mod fault;
@@ -27,6 +28,6 @@ pub use formatting::format;
 pub use keeping::Store;
 pub use laws::{
     group_fits_where_its_record_does, group_of_changes_leaves_what_they_do, held_state_is_found,
-    held_state_is_within_limits, image_holds_one_state, state_with_room_is_refused_by_chance_alone,
-    what_can_be_wanted_has_bytes,
+    held_state_is_within_limits, image_holds_one_state, refused_openings_are_events,
+    state_with_room_is_refused_by_chance_alone, the_rooms_of_records, what_can_be_wanted_has_bytes,
 };

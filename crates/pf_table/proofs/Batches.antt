@@ -1,5 +1,5 @@
 -- How entries are gathered, added and deleted in turn, and what is answered for each.
-use Rattle.std.proofs.{Common.{◌≡◌, ℕ, zero, suc, ◌+◌, ◌<◌, ◌≤◌, Bool, true, false, not, cond, ◌&&◌, ◌||◌, List, [], ◌∷◌, ◌++◌, length, get_or, take, drop, append-nil, append_assoc, drop-cons, Option, Some, None, is_some, is_none, refl, sym, ap, ◌∙◌, subst, true≢false, arith}, Math.Seq.take-suc, lemmas.Bool.or_parts, lemmas.List.take-append-drop, lemmas.List.Folds.list_any-append, lemmas.List.Sums.fold-append, lemmas.List.Elements.{All-nil, All-push}}
+use Rattle.std.proofs.{Common.{◌≡◌, ℕ, zero, suc, ◌+◌, ◌<◌, ◌≤◌, Bool, true, false, not, cond, ◌&&◌, List, [], ◌∷◌, ◌++◌, length, get_or, take, drop, append-nil, append_assoc, drop-cons, Option, Some, None, is_some, is_none, refl, sym, ap, ◌∙◌, subst, true≢false, arith}, Math.Seq.take-suc, lemmas.Bool.or_parts, lemmas.List.take-append-drop, lemmas.List.Folds.list_any-append, lemmas.List.Sums.fold-append, lemmas.List.Elements.{All-nil, All-push}}
 use Rattle.std.specs.{Bool.beq, FinMap.put, FinMap.Entries.find_tied, Ordering.is_eq, List.{list_any, All, fold}, Option.option_or}
 use Rattle.pf_addr.specs.Address.{IsNetwork, PlainNet}
 use Rattle.pf_table.specs.{declared.answer.{Addition.{Addition, TheVariants.{Added, Same, Conflict}}, Deletion.Deletion}, Entries.PlainEntry, Laws.Edits.{Agree, any_is_sign, agree_push, or_none, sign_added, sign_left, sign_deleted}, Tables.sign_of, Edits.{with_entry, added, addition, additions, is_sign, has_entry, without_entry, deleted, deletion, deletions, same_entry, is_opposite, conflict_behind, conflict_in}, Noted.{first_sign, noted_with}}

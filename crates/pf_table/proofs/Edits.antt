@@ -2,7 +2,6 @@
 use Rattle.std.proofs.{Common.{◌≡◌, ℕ, ◌≤◌, nat_lt, false, List, [], length, None, All, refl, arith}, lemmas.Bool.Decides.nat_tests, lemmas.List.Elements.{All-nil, All-from_recursion, recursion_from_All}}
 use Rattle.pf_addr.specs.Address.{IsNetwork}
 use Rattle.pf_table.specs.declared.limits.TheConstants.{TABLE_LIMIT}
-use Rattle.pf_table.specs.declared.refusal.TableRefusal.TheVariants as refusal
 use Rattle.pf_table.specs.{Entries.PlainEntry, Tables.IsTable, Searches.NoneShorter, Edits.{added, deleted, replaced, conflict_in, edit_refusal}, Laws.Edits.{sorted_added, sorted_deleted, added_all, deleted_all, deleted_fewer}}
 
 no_more_than : (n limit : ℕ) → n ≤ limit → nat_lt limit n ≡ false

@@ -1,5 +1,5 @@
 -- The laws of tables.
-use Rattle.std.proofs.{Common.{◌≡◌, ◌≢◌, ℕ, zero, suc, ◌+◌, ◌<◌, ◌≤◌, T, Bool, true, false, not, cond, List, [], ◌∷◌, ◌++◌, ◌&&◌, length, get_or, slice_get, take, append-nil, append_assoc, length-append, filter, Option, Some, None, is_some, is_none, option_map, refl, sym, ap, ◌∙◌, subst, true≢false, arith, Contains}, lemmas.List.Elements.{All-from_recursion, recursion_from_All}, lemmas.Option.{slice_get_within, get_or_from_slice_get}}
+use Rattle.std.proofs.{Common.{◌≡◌, ◌≢◌, ℕ, zero, suc, ◌+◌, ◌<◌, T, Bool, true, false, not, cond, List, [], ◌∷◌, ◌++◌, ◌&&◌, length, get_or, slice_get, take, append-nil, append_assoc, length-append, filter, Option, Some, None, is_some, is_none, option_map, refl, sym, ap, ◌∙◌, subst, true≢false, arith, Contains}, lemmas.List.Elements.{All-from_recursion, recursion_from_All}, lemmas.Option.{slice_get_within, get_or_from_slice_get}}
 use Rattle.std.specs.{Bool.beq, Cmp.tied_itself, FinMap.{put, is_sorted}, FinMap.Entries.{where_key, find-put, length-put, length_without, is_sorted-put, is_sorted-where_key}, List.list_any, Option.{option_or, option_map_or}, Ordering.{eq_by_cmp, is_eq}}
 use Rattle.pf_addr.specs.Address.{PlainNet, contains, IsNetwork}
 use Rattle.pf_table.specs.{declared.answer.{Addition.{Addition, TheVariants.{Same, Conflict}}, Deletion.{Deletion, TheVariants.Absent}}, Entries.PlainEntry, Tables.{sign_of, Decides, deciding, table_holds}, Edits.{added, addition, additions, with_entry, is_sign, has_entry, without_entry, deleted, deletion, deletions, same_entry, is_opposite, conflict_behind, conflict_in}, Laws.Edits.{exchanged, or_none, sign_added, sign_deleted, sign_left, sorted_added, sorted_deleted, added_all, deleted_all, deleted_fewer, one_table}}

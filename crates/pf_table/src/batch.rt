@@ -5,8 +5,8 @@ ghost use Rattle.pf_table.specs.declared.refusal.TableRefusal.TheVariants.{Memor
 ghost use Rattle.pf_table.specs.Edits.{replaced, conflict_refusal};
 
 use crate::change::{is_sign, sign_of, with_entry};
-use crate::columns::EntryMap;
 use crate::entry::Entry;
+use crate::entry_map::EntryMap;
 use crate::refusal::TableRefusal;
 use std::alloc::Global;
 

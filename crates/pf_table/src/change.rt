@@ -5,8 +5,8 @@ ghost use Rattle.pf_table.specs.declared.refusal.TableRefusal.TheVariants.{Memor
 ghost use Rattle.pf_table.specs.{Tables.sign_of, Edits.{with_entry, added, addition, additions, is_sign, without_entry, deleted, deletion, deletions, conflict_refusal}, Noted.{first_sign, noted_with}};
 
 use crate::answer::{Addition, Deletion};
-use crate::columns::EntryMap;
 use crate::entry::Entry;
+use crate::entry_map::EntryMap;
 use crate::refusal::TableRefusal;
 use pf_addr::Net;
 use std::alloc::{AllocError, Global};

@@ -5,7 +5,7 @@ ghost use Rattle.pf_table.specs.PageColumns.{AreOf};
 use crate::entry::Entry;
 use pf_addr::Net;
 use pf_lanes::NetCols;
-use pf_map::{Beside, PageBeside, TreeMap};
+use pf_map::{Beside, PageBeside};
 use std::alloc::{AllocError, Global};
 
 /// A page's entries as a list, and their networks in columns.
@@ -17,9 +17,6 @@ pub struct PageColumns {
 
 /// A page of a table.
 pub type TablePage = PageBeside<Net, bool, Entry, PageColumns>;
-
-/// Entries in the order of their networks, each in its page.
-pub(crate) type EntryMap = TreeMap<Net, bool, Entry, TablePage>;
 
 // The networks of entries.
 fn nets_of(alloc: Global, entries: &[Entry]) -> Result<Vec<Net>, AllocError>

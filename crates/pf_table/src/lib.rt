@@ -7,10 +7,10 @@
 //! longest prefix decides. Read specs/Tables.antt first, which says so, then specs/Edits.antt, what an edit leaves and answers, then
 //! specs/Laws/Tables.antt, which says both without recursion.
 //!
-//! Callers use `Table`, whose entries are in a map in the order of their networks. An edit is `batch`, which gathers its list, and
-//! `change`, which changes the map entry by entry; `lookup` finds the entry that decides in a few searches, by what `columns` keeps in a
-//! page. `entry` and `entry_form` are an entry and its bytes (specs/EntryForms.antt), `answer`, `refusal` and `limits` what edits answer
-//! and refuse, and `content` makes a table a map's value.
+//! Callers use `Table`, whose entries are in a map in the order of their networks (`entry_map`); `each` goes over them. An edit is `batch`,
+//! which gathers its list, and `change`, which changes the map entry by entry; `lookup` finds the entry that decides in a few searches, by
+//! what `columns` keeps in a page. `entry` and `entry_form` are an entry and its bytes (specs/EntryForms.antt), `answer`, `refusal` and
+//! `limits` what edits answer and refuse, and `content` makes a table a map's value.
 //!
 //! Proved: what a look-up finds, what each edit leaves, answers and refuses (the contracts of `Table`); that at most one entry decides,
 //! that equal signs make equal tables, that edits change only what they name, and that entries come back from their bytes (`laws`). Nothing
@@ -22,8 +22,10 @@ mod batch;
 mod change;
 mod columns;
 mod content;
+mod each;
 mod entry;
 mod entry_form;
+mod entry_map;
 pub mod laws;
 mod limits;
 mod lookup;
@@ -32,6 +34,7 @@ mod table;
 
 pub use answer::{Addition, Deletion};
 pub use columns::{PageColumns, TablePage};
+pub use each::EachEntry;
 pub use entry::Entry;
 pub use limits::TABLE_LIMIT;
 pub use refusal::TableRefusal;

@@ -5,8 +5,9 @@ ghost use Rattle.pf_addr.specs.NetOrder.{net_order};
 ghost use Rattle.pf_map.specs.Maps.{at_or_before};
 ghost use Rattle.pf_table.specs.{Tables.{IsTable, deciding}, Searches.{NoneShorter, NoneContains, IsLongest, IsCandidate}, Shared.Share};
 
-use crate::columns::{EntryMap, PageColumns};
+use crate::columns::PageColumns;
 use crate::entry::Entry;
+use crate::entry_map::EntryMap;
 use pf_addr::{Addr, Net};
 use pf_lanes::longest;
 

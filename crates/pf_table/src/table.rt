@@ -7,13 +7,13 @@ ghost use Rattle.pf_table.specs.{Entries.PlainEntry, Tables.{AreEntries, IsTable
 use crate::answer::{Addition, Deletion};
 use crate::batch::gather;
 use crate::change::{add_all, delete_all};
-use crate::columns::{EntryMap, TablePage};
+use crate::each::EachEntry;
 use crate::entry::Entry;
+use crate::entry_map::EntryMap;
 use crate::limits::TABLE_LIMIT;
 use crate::lookup::decider;
 use crate::refusal::TableRefusal;
-use pf_addr::{Addr, Net};
-use pf_map::Entries;
+use pf_addr::Addr;
 use std::alloc::{AllocError, Global};
 use std::marker::Model;
 
@@ -107,7 +107,7 @@ impl Table {
     }
 
     /// The entries in order. It takes no memory.
-    pub fn entries(&self) -> Entries<'_, Net, bool, Entry, TablePage>
+    pub fn entries(&self) -> EachEntry<'_>
         ensures value { result ≡ self.now }
         // the invariant of tables
         ensures table { IsTable self.now }

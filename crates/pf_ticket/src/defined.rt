@@ -1,6 +1,7 @@
 //! Tables that are offered.
-ghost use Rattle.std.specs.{Prelude.{◌≡◌, T, [], length, nat_lt, List, IfOk, OnOk, OnErr}, FinMap.{put, is_sorted}};
+ghost use Rattle.std.specs.{Prelude.{◌≡◌, T, [], length, nat_lt, List, IfOk, OnOk, OnErr}, FinMap.{put, is_sorted}, Iterator.{item_count, YieldsFirstBy}, Option.option_map};
 ghost use Rattle.pf_addr.specs.Path.Names.{name_order};
+ghost use Rattle.pf_map.specs.Maps.{entry_at};
 ghost use Rattle.pf_table.specs.Entries.{PlainEntry};
 ghost use Rattle.pf_ticket.specs.declared.limits.TheConstants.{OFFERED_TABLE_LIMIT};
 
@@ -69,6 +70,40 @@ impl Holder<TableName, Table> for DefinedTable {
     }
 }
 
+/// Defined tables that are left to come, in the order of their names. Contracts see it as the list.
+///
+/// It has no type parameters, so that a proof that loops over defined tables or drops this says nothing of pages.
+pub struct EachDefined<'a> {
+    entries: Entries<'a, TableName, Table, DefinedTable>,
+}
+
+impl<'a> Drop for EachDefined<'a> {
+    fn drop(self) {
+        let EachDefined { entries: _ } = self;
+    }
+}
+
+impl<'a> Model for EachDefined<'a> {
+    ghost use Rattle.std.specs.Prelude.{List};
+    ghost use Rattle.pf_ticket.specs.NamedTables.{PlainDefinedTable};
+
+    ghost Value = { List PlainDefinedTable };
+
+    ghost view = { λ s. s.entries };
+}
+
+impl<'a> Iterator for EachDefined<'a> {
+    type Item = &'a DefinedTable;
+
+    ghost next_gives = { YieldsFirstBy (λ d. d.now) (λ s. s) };
+
+    ghost remaining = { item_count (λ s. s) };
+
+    fn next(&mut self) -> Option<&'a DefinedTable> {
+        self.entries.next()
+    }
+}
+
 /// The tables that are offered with a ticket, in the order of their names. Contracts see it as the list.
 pub struct Defined {
     tables: TreeMap<TableName, Table, DefinedTable>,
@@ -121,11 +156,13 @@ impl Defined {
     }
 
     /// The tables, in the order of their names, none of them twice. It takes no memory.
-    pub fn entries(&self) -> Entries<'_, TableName, Table, DefinedTable>
+    pub fn entries(&self) -> EachDefined<'_>
         ensures value { result ≡ self.now }
         ensures order { T (is_sorted name_order self.now) }
     {
-        self.tables.entries()
+        EachDefined {
+            entries: self.tables.entries(),
+        }
     }
 
     // The same tables, shared and not copied.
@@ -137,15 +174,34 @@ impl Defined {
         })
     }
 
+    // The table of a name, if there is one.
+    fn get(&self, name: &TableName) -> Option<&DefinedTable>
+        ensures table { option_map (λ e. e.now) result ≡ entry_at name_order name.now self.now }
+        // the invariant of defined tables
+        ensures order { T (is_sorted name_order self.now) }
+    {
+        self.tables.get(name)
+    }
+
+    // These with one more, in the place of the one of its name. `AllocError`: nothing is left of them.
+    fn with(self, alloc: Global, new: &DefinedTable) -> Result<Defined, AllocError>
+        ensures { IfOk result (λ d. d ≡ put name_order new.now.0 new.now.1 self) }
+    {
+        let Defined { tables } = self;
+        Ok(Defined {
+            tables: tables.with(alloc, new)?,
+        })
+    }
+
     // Whether there would be more tables than allowed, with one of this name.
     pub(crate) fn is_full_for(&self, name: &TableName) -> bool
         ensures { (rows : List PlainEntry) → result ≡ nat_lt OFFERED_TABLE_LIMIT (length (put name_order name.now rows self.now)) }
     {
-        let room = match self.tables.get(name) {
+        let room = match self.get(name) {
             Some(_) => OFFERED_TABLE_LIMIT,
             None => OFFERED_TABLE_LIMIT - 1,
         };
-        self.tables.is_more_than(room)
+        room < self.len()
     }
 
     // Sets the table of this name. Out of memory: all is as before.
@@ -159,7 +215,7 @@ impl Defined {
         ensures err { OnErr result (self.new ≡ self.old) }
     {
         let defined = DefinedTable { name: *name, table };
-        self.tables = self.tables.shared()?.with(alloc, &defined)?;
+        *self = self.shared()?.with(alloc, &defined)?;
         Ok(())
     }
 }

@@ -30,7 +30,7 @@ mod slots;
 mod ticket;
 mod tickets;
 
-pub use defined::{Defined, DefinedTable};
+pub use defined::{Defined, DefinedTable, EachDefined};
 pub use entry::{RulesetTicket, RulesetTickets};
 pub use limits::{ENTRY_LIMIT, LAST_COUNT, OFFERED_TABLE_LIMIT};
 pub use name::{RulesetKind, RulesetName, RulesetNames};

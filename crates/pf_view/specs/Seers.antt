@@ -1,7 +1,7 @@
 -- What contracts see of a seer and of a shower.
 use Rattle.std.specs.Prelude.{◌≡◌, List, [], length, nat_lt, if◌then◌else◌}
 use mathlib.Core.List.{IsPrefix}
-use Rattle.atomic_table.specs.Seated.{TableId}
+pub use Rattle.atomic_table.specs.Seated.{TableId}
 use Rattle.pf_core.specs.Durable.Changes.{PlainChange}
 
 -- a seer: the changes of the copy by which it judged last, or what it was given when it was made; the most that it learnt by a token; and

@@ -4,7 +4,7 @@ ghost use Rattle.pf_disk.specs.Disk.{EachMoment};
 ghost use Rattle.std.specs.{Arc.arc_value, List.AllByRecursion, Option.{ForSome, option_copied, option_map}, Vec.Iter.into_iter_items};
 ghost use mathlib.Core.List.{IsPrefix};
 ghost use Rattle.pf_core.specs.{Calls.call, WorldBooks.{IsAt, Leads, LeadsGroup}, Worlds.{CurrentOpening, calling, grouping, flat, upshot}};
-ghost use Rattle.pf_book.specs.{Groups.{told, replies_of, HasReceipts}, Pairs.{behind, is_kept, given_to, kept_count, left_behind, paired, slip_at}, Books.{StaysUnlessAnyKept, HoldsLeft, StaysOpenable, StaysUnlessKept, world_book, log_in}, Receipts.{token_of, Confirms, EndsIn, Follows, IsGiven, ShownFits}};
+ghost use Rattle.pf_book.specs.{Groups.{told, replies_of, HasReceipts, HaveShown}, Pairs.{behind, is_kept, given_to, kept_count, left_behind, paired, slip_at}, Books.{StaysUnlessAnyKept, HoldsLeft, StaysOpenable, StaysUnlessKept, world_book, log_in}, Receipts.{token_of, Confirms, EndsIn, Follows, IsGiven, ShownFits, ShowsNoLess}};
 
 use crate::book::Book;
 use crate::chapter::Chapter;
@@ -66,10 +66,12 @@ impl<D: Disk + Drop, J: Chapter, S: Publisher<J> + Drop> Book<D, J, S> {
         ensures openable { StaysOpenable D.moment D.left_since self.old self.new }
         ensures front { result.1.front ≡ log_in (world_book self.new) }
         ensures acked { result.1.acked ≡ length (flat self.new.acked) }
+        ensures shown { result.1.shown ≡ self.new.shown }
         ensures given { IsGiven result.0 result.1.change (world_book self.old) (world_book self.new) }
         ensures token { result.1.token ≡ token_of result.0 (log_in (world_book self.new)) }
         ensures stays { StaysUnlessKept result.0 self.old self.new }
         ensures follows { Follows (option_copied last.entry) (log_in (world_book self.old)) (length (flat self.old.acked)) }
+        ensures shows { ShowsNoLess (option_copied last.entry) self.old.shown }
         ensures base { self.new.base ≡ self.old.base }
         ensures setting { (world_book self.new).setting ≡ (world_book self.old).setting }
     {
@@ -90,9 +92,11 @@ impl<D: Disk + Drop, J: Chapter, S: Publisher<J> + Drop> Book<D, J, S> {
         ensures any_moment { (h : CurrentOpening) → IsAt h (world_book self.old)
             → EachMoment D.moment D.left_since self.old.disk self.new.disk (HoldsLeft h (grouping commands.now)) }
         ensures receipts { (h : CurrentOpening) → IsAt h (world_book self.old) → HasReceipts h (log_in (world_book self.new)) commands.now (told result) }
+        ensures shown { HaveShown self.new.shown (told result) }
         ensures openable { StaysOpenable D.moment D.left_since self.old self.new }
         ensures stays { StaysUnlessAnyKept (replies_of (told result)) self.old self.new }
         ensures follows { Follows (option_copied last.entry) (log_in (world_book self.old)) (length (flat self.old.acked)) }
+        ensures shows { ShowsNoLess (option_copied last.entry) self.old.shown }
         ensures base { self.new.base ≡ self.old.base }
         ensures setting { (world_book self.new).setting ≡ (world_book self.old).setting }
     {
@@ -107,6 +111,7 @@ impl<D: Disk + Drop, J: Chapter, S: Publisher<J> + Drop> Book<D, J, S> {
         ensures any_moment { (h : CurrentOpening) → IsAt h (world_book self.old)
             → EachMoment D.moment D.left_since self.old.disk self.new.disk (HoldsLeft h (grouping commands.now)) }
         ensures receipts { (h : CurrentOpening) → IsAt h (world_book self.old) → HasReceipts h (log_in (world_book self.new)) commands.now (told result) }
+        ensures shown { HaveShown self.new.shown (told result) }
         ensures openable { StaysOpenable D.moment D.left_since self.old self.new }
         ensures stays { StaysUnlessAnyKept (replies_of (told result)) self.old self.new }
         ensures base { self.new.base ≡ self.old.base }
@@ -125,20 +130,24 @@ impl<D: Disk + Drop, J: Chapter, S: Publisher<J> + Drop> Book<D, J, S> {
     fn look_at(&mut self, last: Option<&Receipt<J>>)
         ensures same { self.new ≡ self.old }
         ensures follows { Follows (option_copied last.entry) (log_in (world_book self.old)) (length (flat self.old.acked)) }
+        ensures shows { ShowsNoLess (option_copied last.entry) self.old.shown }
     {
         if let Some(last) = last {
             self.begins_with(last);
         }
     }
 
-    // The history begins with the receipt's front. What was acknowledged at its reply still is, and so is its change.
+    // The history begins with the receipt's front. What was acknowledged at its reply still is, and so is its change. No fewer changes are
+    // shown.
     fn begins_with(&mut self, receipt: &Receipt<J>)
         ensures same { self.new ≡ self.old }
         ensures begins { IsPrefix receipt.now.front (log_in (world_book self.old)) }
         ensures acked { receipt.now.acked ≤ length (flat self.old.acked) }
         ensures change { ForSome receipt.now.change (λ e. length receipt.now.front ≤ length (flat self.old.acked)) }
+        ensures shown { receipt.now.shown ≤ self.old.shown }
     {
         self.tip.contains(&receipt.front);
+        self.tip.has_shown(&receipt.showing);
         // reading a field makes the receipt's invariant known here
         let _ = receipt.seq;
     }
@@ -150,6 +159,7 @@ impl<D: Disk + Drop, J: Chapter, S: Publisher<J> + Drop> Book<D, J, S> {
         requires shown { ShownFits reply.now self.now.shown (length (log_in (world_book self.now))) }
         ensures front { result.front ≡ log_in (world_book self.now) }
         ensures acked { result.acked ≡ length (flat self.now.acked) }
+        ensures shown { result.shown ≡ self.now.shown }
         ensures change { result.change ≡ option_map arc_value change }
         ensures token { result.token ≡ token_of reply.now (log_in (world_book self.now)) }
     {
@@ -158,6 +168,8 @@ impl<D: Disk + Drop, J: Chapter, S: Publisher<J> + Drop> Book<D, J, S> {
             seq: self.log.len(),
             change,
             token: token_after(reply, &self.shower),
+            showing: self.tip.showing(),
+            shown: self.shower.len(),
         }
     }
 
@@ -168,13 +180,15 @@ impl<D: Disk + Drop, J: Chapter, S: Publisher<J> + Drop> Book<D, J, S> {
         requires within { seq ≤ length (log_in (world_book self.now)) }
         requires last { ForSome (option_map arc_value change) (λ e. EndsIn (take seq (log_in (world_book self.now))) e) }
         requires shown { ShownFits reply.now self.now.shown (length (log_in (world_book self.now))) }
-        ensures { result ≡ slip_at (log_in (world_book self.now)) seq (option_map arc_value change) reply.now }
+        ensures { result ≡ slip_at self.now.shown (log_in (world_book self.now)) seq (option_map arc_value change) reply.now }
     {
         Receipt {
             front: self.tip.front(),
             seq,
             change,
             token: token_after(reply, &self.shower),
+            showing: self.tip.showing(),
+            shown: self.shower.len(),
         }
     }
 
@@ -193,7 +207,7 @@ impl<D: Disk + Drop, J: Chapter, S: Publisher<J> + Drop> Book<D, J, S> {
         requires within { before ≤ length (log_in (world_book self.now)) }
         requires kept { kept_count replies.items ≡ length (map arc_value given.items) }
         requires shown { AllByRecursion (λ r. ShownFits r self.now.shown (length (log_in (world_book self.now)))) replies.items }
-        ensures { result.items ≡ paired (log_in (world_book self.now)) before replies.items (map arc_value given.items) }
+        ensures { result.items ≡ paired self.now.shown (log_in (world_book self.now)) before replies.items (map arc_value given.items) }
     {
         // reading a field makes the Book's invariant known here
         let _ = &self.core;
@@ -210,11 +224,12 @@ impl<D: Disk + Drop, J: Chapter, S: Publisher<J> + Drop> Book<D, J, S> {
 
     /// Whether the history has at least as many changes as the receipt's number says, and under this number the receipt's change, if it has
     /// one. It is true for each receipt of this opening, while the Book is under its lock and afterwards. Only the number is compared: the
-    /// types say already that the history begins with what a receipt saw. It never runs out of memory.
+    /// types say already that the history begins with what a receipt saw, and that no fewer changes are shown. It never runs out of memory.
     pub fn confirm(&mut self, receipt: &Receipt<J>) -> bool
         ensures exact { IsTrue result ↔ Confirms (log_in (world_book self.old)) receipt.now }
         ensures yes { IsTrue result }
         ensures begins { IsPrefix receipt.now.front (log_in (world_book self.old)) }
+        ensures shown { receipt.now.shown ≤ self.old.shown }
         ensures same { self.new ≡ self.old }
     {
         self.begins_with(receipt);

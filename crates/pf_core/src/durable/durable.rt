@@ -226,7 +226,7 @@ impl Durable {
         ensures { result ≡ allows version self.now }
     {
         let ticks = version >= EXPIRY_FROM || self.tick == 0;
-        self.config.is_allowed_in(version) && ticks && self.states.is_allowed_in(version)
+        self.config().is_allowed_in(version) && ticks && self.states().is_allowed_in(version)
     }
 
     /// What happens to a packet: the state of its flow passes it, if its expiry is 0 or greater than the tick; without one the rule decides
@@ -234,10 +234,10 @@ impl Durable {
     pub fn verdict(&self, packet: &Packet) -> Verdict
         ensures { result ≡ verdict self.now packet.now }
     {
-        match self.states.find(packet) {
+        match self.states().find(packet) {
             // the expiry stands in the state that was found, so this looks nothing up
             Some(state) if state.value().stands(self.tick) => Verdict::State(*state.key()),
-            _ => Verdict::Rules(self.config.judge(packet)),
+            _ => Verdict::Rules(self.config().judge(packet)),
         }
     }
 
@@ -246,14 +246,14 @@ impl Durable {
     pub fn lookup(&self, path: &Path, name: &TableName, address: Addr) -> Option<Entry>
         ensures { result ≡ deciding (entries_at self.now path.now name.now) address }
     {
-        self.config.table_at(path, name)?.lookup(address)
+        self.config().table_at(path, name)?.lookup(address)
     }
 
     // The table at a path and name, shared; an empty one if there is none.
     fn table(&self, path: &Path, name: &TableName) -> Result<Table, AllocError>
         ensures { IfOk result (λ t. t ≡ entries_at self.now path.now name.now) }
     {
-        match self.config.table_at(path, name) {
+        match self.config().table_at(path, name) {
             Some(table) => table.shared(),
             None => Ok(Table::empty()),
         }
@@ -263,7 +263,7 @@ impl Durable {
     pub fn has_table(&self, path: &Path, name: &TableName) -> bool
         ensures { result ≡ not (length (entries_at self.now path.now name.now) == 0) }
     {
-        self.config.table_at(path, name).is_some()
+        self.config().table_at(path, name).is_some()
     }
 
     // Refuses a table that would be one too many.
@@ -280,7 +280,7 @@ impl Durable {
             return Ok(());
         }
         let tables = [PlacedTable::new(alloc, (path.copied(), *name), new.shared()?)?];
-        if self.config.would_be_too_many_tables(alloc, &tables)? {
+        if self.config().would_be_too_many_tables(alloc, &tables)? {
             return Err(ChangeRefusal::TooManyTables);
         }
         Ok(())
@@ -356,13 +356,11 @@ impl Durable {
     {
         let tables = tables_in(alloc, items)?;
         let rulesets = rulesets_in(alloc, items)?;
-        if self.config.would_be_too_many(alloc, rulesets.as_slice())? {
+        let config = self.config();
+        if config.would_be_too_many(alloc, rulesets.as_slice())? {
             return Err(ChangeRefusal::TooManyRulesets);
         }
-        if self
-            .config
-            .would_be_too_many_tables(alloc, tables.as_slice())?
-        {
+        if config.would_be_too_many_tables(alloc, tables.as_slice())? {
             return Err(ChangeRefusal::TooManyTables);
         }
         Ok(())
@@ -389,7 +387,7 @@ impl Durable {
     {
         let rulesets = rulesets_in(alloc, items)?;
         let tables = tables_in(alloc, items)?;
-        let config = self.config.with_rulesets(alloc, rulesets.as_slice())?;
+        let config = self.config().with_rulesets(alloc, rulesets.as_slice())?;
         Ok(Durable {
             sum: self.sum_after(rulesets.as_slice(), &config)?,
             config: shared(alloc, config.with_tables(alloc, tables.as_slice())?)?,
@@ -409,7 +407,7 @@ impl Durable {
     {
         let tables = [PlacedTable::new(alloc, (path.copied(), *name), table)?];
         Ok(Durable {
-            config: shared(alloc, self.config.with_tables(alloc, &tables)?)?,
+            config: shared(alloc, self.config().with_tables(alloc, &tables)?)?,
             ..self.shared_all()?
         })
     }
@@ -512,6 +510,64 @@ impl Durable {
         })
     }
 
+    // What is kept after a commit of these items.
+    fn commit(&self, alloc: Global, items: &[Item]) -> Result<Durable, ChangeRefusal>
+        ensures { OrMemory Memory result (changed self.now (commits items.now)) }
+    {
+        self.check_commit(alloc, items)?;
+        Ok(self.committed(alloc, items)?)
+    }
+
+    // What is kept after these entries are added to a table.
+    fn add(
+        &self,
+        alloc: Global,
+        path: &Path,
+        name: &TableName,
+        entries: &[Entry],
+    ) -> Result<Durable, ChangeRefusal>
+        ensures { OrMemory Memory result (changed self.now (adds path.now name.now entries.now)) }
+    {
+        let (table, _) = self.with_added(alloc, path, name, entries)?;
+        Ok(self.with_table(alloc, path, name, table)?)
+    }
+
+    // What is kept after these entries are deleted from a table.
+    fn delete(
+        &self,
+        alloc: Global,
+        path: &Path,
+        name: &TableName,
+        entries: &[Entry],
+    ) -> Result<Durable, ChangeRefusal>
+        ensures { OrMemory Memory result (changed self.now (deletes path.now name.now entries.now)) }
+    {
+        let (table, _) = self.with_deleted(alloc, path, name, entries)?;
+        Ok(self.with_table(alloc, path, name, table)?)
+    }
+
+    // What is kept with these entries in place of a table's own.
+    fn set(
+        &self,
+        alloc: Global,
+        path: &Path,
+        name: &TableName,
+        entries: &[Entry],
+    ) -> Result<Durable, ChangeRefusal>
+        ensures { OrMemory Memory result (changed self.now (sets path.now name.now entries.now)) }
+    {
+        let table = self.with_set(alloc, path, name, entries)?;
+        Ok(self.with_table(alloc, path, name, table)?)
+    }
+
+    // What is kept after these steps on states.
+    fn act(&self, alloc: Global, steps: &[StateStep]) -> Result<Durable, ChangeRefusal>
+        ensures { OrMemory Memory result (changed self.now (acts steps.now)) }
+    {
+        let (states, _) = self.with_stepped(alloc, steps)?;
+        Ok(self.with_states(alloc, states)?)
+    }
+
     /// What is kept after a change. Rulesets and tables that stay are shared, and no rule is copied; if a change isn't of states and
     /// is no tick, these are shared too.
     ///
@@ -523,38 +579,23 @@ impl Durable {
         ensures { OrMemory Memory result (changed self.now change.now) }
     {
         match &change.kind {
-            ChangeKind::Commit(items) => {
-                self.check_commit(alloc, items.as_slice())?;
-                Ok(self.committed(alloc, items.as_slice())?)
-            }
+            ChangeKind::Commit(items) => self.commit(alloc, items.as_slice()),
             ChangeKind::Add {
                 path,
                 name,
                 entries,
-            } => {
-                let (table, _) = self.with_added(alloc, path, name, entries.as_slice())?;
-                Ok(self.with_table(alloc, path, name, table)?)
-            }
+            } => self.add(alloc, path, name, entries.as_slice()),
             ChangeKind::Delete {
                 path,
                 name,
                 entries,
-            } => {
-                let (table, _) = self.with_deleted(alloc, path, name, entries.as_slice())?;
-                Ok(self.with_table(alloc, path, name, table)?)
-            }
+            } => self.delete(alloc, path, name, entries.as_slice()),
             ChangeKind::Set {
                 path,
                 name,
                 entries,
-            } => {
-                let table = self.with_set(alloc, path, name, entries.as_slice())?;
-                Ok(self.with_table(alloc, path, name, table)?)
-            }
-            ChangeKind::States(steps) => {
-                let (states, _) = self.with_stepped(alloc, steps.as_slice())?;
-                Ok(self.with_states(alloc, states)?)
-            }
+            } => self.set(alloc, path, name, entries.as_slice()),
+            ChangeKind::States(steps) => self.act(alloc, steps.as_slice()),
             ChangeKind::Remove(name) => {
                 let states = self.without_state(alloc, *name)?;
                 Ok(self.with_states(alloc, states)?)

@@ -4,7 +4,7 @@ ghost use Rattle.pf_state.specs.{Peer.Messages.IsMessage, Peer.Streams.{Reads, U
 
 use crate::peer::{Group, Insert, InsertFields, Message, Records, write_peer};
 use crate::{ALL_ONES, Held, State, StateName, StateTable, exported};
-use pf_map::Entries;
+use pf_map::Each;
 use std::alloc::{AllocError, Global};
 use std::marker::Model;
 
@@ -63,10 +63,7 @@ pub fn export(
 }
 
 // The states of the next message, shared, taken from those that are left.
-fn next_part(
-    alloc: Global,
-    rest: &mut Entries<'_, StateName, Held, State>,
-) -> Result<Vec<State>, AllocError>
+fn next_part(alloc: Global, rest: &mut Each<'_, StateName, Held>) -> Result<Vec<State>, AllocError>
     ensures part { IfOk result (λ v. v.items ≡ take EXPORT_RECORDS rest.old) }
     ensures left { OnOk result (rest.new ≡ drop EXPORT_RECORDS rest.old) }
 {

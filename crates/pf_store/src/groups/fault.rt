@@ -1,7 +1,9 @@
 //! Why something wasn't written as bytes, or read from them.
-ghost use Rattle.std.specs.Prelude.{◌≡◌};
-ghost use Rattle.pf_store.specs.declared.groups.fault.GroupFault.TheVariants.{Memory};
+ghost use Rattle.std.specs.Prelude.{◌≡◌, true, false};
+ghost use Rattle.pf_store.specs.declared.groups.fault.GroupFault.TheVariants.{Memory, NoForm};
+ghost use Rattle.pf_form.specs.declared.bytes.fault.Undecoded.TheVariants as undecoded;
 
+use pf_form::bytes::Undecoded;
 use std::alloc::{AllocError, AllocFailed};
 
 /// Why a group or a snapshot wasn't written or read.
@@ -26,5 +28,23 @@ impl<T: Drop> From<AllocFailed<T>> for GroupFault {
 
     fn from(_: AllocFailed<T>) -> Self {
         GroupFault::Memory
+    }
+}
+
+/// Why bytes weren't read, by why they weren't decoded and whether they begin as they have to: if they don't, that is why, however little
+/// memory there is.
+pub(crate) fn unread(fault: Undecoded, begins: bool) -> GroupFault
+    ensures memory { result ≡ Memory → (fault ≡ undecoded.Memory) × (begins ≡ true) }
+    ensures no_form { result ≡ NoForm → fault ≡ undecoded.Memory → begins ≡ false }
+{
+    match fault {
+        Undecoded::Memory => {
+            if begins {
+                GroupFault::Memory
+            } else {
+                GroupFault::NoForm
+            }
+        }
+        Undecoded::Fault(_) => GroupFault::NoForm,
     }
 }

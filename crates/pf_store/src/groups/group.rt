@@ -2,12 +2,12 @@
 ghost use Rattle.std.specs.{Prelude.{◌≡◌, ◌+◌, ◌^◌, ◌<◌, ◌≤◌, ◌&&◌, ◌++◌, [], ◌∷◌, true, false, length, map, List, ℕ, IfOk, IfErr, OnOk}, List.list_all};
 ghost use Rattle.pf_form.specs.{Bytes.Forms.{counted, onto, Fits}, Bytes.Readers.Reads};
 ghost use Rattle.pf_store.specs.declared.limits.TheConstants.{AROUND, OPENING_RECORD};
-ghost use Rattle.pf_store.specs.{Groups.{change_form, group_form, have_form, have_form_in, has_form, allows_record, allows_group, is_group, made_all, plain_record, record_in, IsRecorded, IsRecordOf}, Lengths.payload_length};
+ghost use Rattle.pf_store.specs.{Groups.{change_form, group_form, have_form, have_form_in, has_form, allows_record, allows_group, is_group, begins_group, made_all, plain_record, record_in, IsRecorded, IsRecordOf}, Lengths.payload_length};
 
 use crate::groups::as_change::AsChange;
 use crate::groups::change::{OPEN, has_change_form, is_allowed_in, push_change, push_record};
 use crate::groups::facts::{change_is_its_data, record_is_its_data};
-use crate::groups::fault::GroupFault;
+use crate::groups::fault::{GroupFault, unread};
 use crate::groups::recorded::Recorded;
 use pf_core::GROUP_LIMIT;
 use pf_form::bytes::{
@@ -225,18 +225,29 @@ pub(crate) fn record_opening(alloc: Global, epoch: u32) -> Result<Record, AllocE
     Ok(record)
 }
 
-/// What these bytes record in a version: 1 to 64 changes and openings. `NoForm`: they are no group's. `Memory`: out of memory.
-#[tactic(auto, using(crate::proofs::RecordedForms::spelled, crate::proofs::RecordedForms::none_told))]
+// Whether the first of them is the number of a group, 1 to 64.
+fn begins_group(bytes: &[u8]) -> bool
+    ensures { result ≡ begins_group bytes.now }
+{
+    match bytes.first() {
+        Some(count) => *count >= 1 && *count as usize <= GROUP_LIMIT,
+        None => false,
+    }
+}
+
+/// What these bytes record in a version: 1 to 64 changes and openings. `NoForm`: they are no group's, for instance since another number
+/// comes first. `Memory`: such a number comes first, but memory ran out.
+#[tactic(auto, using(crate::proofs::RecordedForms::spelled))]
 pub fn read_group(alloc: Global, version: u8, bytes: &[u8]) -> Result<Vec<Recorded>, GroupFault>
     ensures found { IfOk result (λ v. IsRecorded version v.items bytes.now) }
     ensures none { IfErr result (λ e. e ≡ GroupFault.NoForm → (rs : List Recorded) → ¬ IsRecorded version rs bytes.now) }
+    ensures memory { IfErr result (λ e. e ≡ GroupFault.Memory → begins_group bytes.now ≡ true) }
 {
     match decode::<StoredGroup>(alloc, version, bytes) {
         Ok(group) => {
             records_are_their_data(group.records.as_slice());
             Ok(group.records)
         }
-        Err(Undecoded::Memory) => Err(GroupFault::Memory),
-        Err(Undecoded::Fault(_)) => Err(GroupFault::NoForm),
+        Err(fault) => Err(unread(fault, begins_group(bytes))),
     }
 }

@@ -7,13 +7,14 @@ ghost use Rattle.pf_anchor.specs.Tables.{table_order};
 ghost use Rattle.pf_core.specs.Durable.Changes.{PlainDurable};
 ghost use Rattle.pf_anchor.specs.Forms.{has_some, configured};
 ghost use Rattle.pf_core.specs.Durable.Forms.{allows, durable_length, tick_form, durable_form, plain_durable};
-ghost use Rattle.pf_store.specs.{Durables.{durable_has_form, durable_has_form_in, IsDurable}, Lengths.snapshot_length, Snapshots.EndsInSnapshot};
+ghost use Rattle.pf_store.specs.{Durables.{durable_has_form, durable_has_form_in, IsDurable}, Lengths.snapshot_length, Snapshots.{has_least, EndsInSnapshot}};
 
-use crate::groups::GroupFault;
+use crate::groups::{GroupFault, unread};
+use crate::limits::EMPTY_LENGTH;
 use crate::snapshots::facts::durable_is_its_data;
 use crate::snapshots::rulesets::{push_rulesets, read_rulesets};
 use crate::snapshots::tables::{push_tables, read_tables};
-use pf_anchor::{Config, Placed, PlacedTable};
+use pf_anchor::{Config, Placed, PlacedTable, RULESET_LIMIT, TABLE_COUNT_LIMIT};
 use pf_core::Durable;
 use pf_form::bytes::{
     Fault, Layout, Rest, Undecoded, decode, push_u32, push_u64, read_u32, read_u64,
@@ -118,14 +119,11 @@ fn push_durable(out: &mut Vec<u8>, version: u8, durable: &Durable) -> Result<(),
 }
 
 // Whether it has bytes.
-fn has_form(alloc: Global, durable: &Durable) -> Result<bool, AllocError>
-    ensures { IfOk result (λ b. b ≡ durable_has_form durable.now) }
+fn has_form(durable: &Durable) -> bool
+    ensures { result ≡ durable_has_form durable.now }
 {
     let config = durable.config();
-    if config.would_be_too_many(alloc, &[])? {
-        return Ok(false);
-    }
-    Ok(!config.would_be_too_many_tables(alloc, &[])?)
+    config.ruleset_count() <= RULESET_LIMIT && config.table_count() <= TABLE_COUNT_LIMIT
 }
 
 /// Appends a snapshot of what is kept, which has one in the version, to the bytes. Fails only when out of memory.
@@ -145,14 +143,15 @@ pub(crate) fn push_snapshot(
 /// The bytes, at least 16, of a snapshot of what is kept, in a version.
 ///
 /// `NoForm`: it has none, since there are more than 1,024 rulesets or tables, or since the version doesn't allow it: a rule with a label in
-/// one before labels, a tick or an expiry in one before expiries. `Memory`: out of memory.
+/// one before labels, a tick or an expiry in one before expiries. `Memory`: it has some, but memory ran out.
 pub fn write_durable(alloc: Global, version: u8, durable: &Durable) -> Result<Vec<u8>, GroupFault>
     ensures written { IfOk result (λ v. IsDurable version durable.now v.items) }
     ensures length { IfOk result (λ v. length v.items ≡ durable_length version durable.now) }
     ensures formed { OnOk result (durable_has_form_in version durable.now ≡ true) }
     ensures formless { IfErr result (λ e. e ≡ GroupFault.NoForm → durable_has_form_in version durable.now ≡ false) }
+    ensures memory { IfErr result (λ e. e ≡ GroupFault.Memory → durable_has_form_in version durable.now ≡ true) }
 {
-    if !durable.is_allowed_in(version) || !has_form(alloc, durable)? {
+    if !durable.is_allowed_in(version) || !has_form(durable) {
         return Err(GroupFault::NoForm);
     }
     let Ok(length) = usize::try_from(durable.byte_length()) else {
@@ -163,18 +162,31 @@ pub fn write_durable(alloc: Global, version: u8, durable: &Durable) -> Result<Ve
     Ok(out)
 }
 
-/// What these bytes are the snapshot of in a version. `NoForm`: they are no snapshot. `Memory`: out of memory.
-#[tactic(auto, using(crate::proofs::Durables::durable_spelled, crate::proofs::Durables::none_told))]
+// Whether there are as many bytes as the snapshot of nothing has in this version.
+fn has_least(version: u8, bytes: &[u8]) -> bool
+    ensures { result ≡ has_least version bytes.now }
+{
+    let least = if version < EXPIRY_FROM {
+        EMPTY_LENGTH - 8
+    } else {
+        EMPTY_LENGTH
+    };
+    least <= bytes.len()
+}
+
+/// What these bytes are the snapshot of in a version. `NoForm`: they are no snapshot, for instance fewer than that of nothing has.
+/// `Memory`: they aren't fewer, but memory ran out.
+#[tactic(auto, using(crate::proofs::Durables::durable_spelled))]
 pub fn read_durable(alloc: Global, version: u8, bytes: &[u8]) -> Result<Durable, GroupFault>
     ensures found { IfOk result (λ d. IsDurable version d bytes.now) }
     ensures none { IfErr result (λ e. e ≡ GroupFault.NoForm → (d : PlainDurable) → ¬ IsDurable version d bytes.now) }
+    ensures memory { IfErr result (λ e. e ≡ GroupFault.Memory → has_least version bytes.now ≡ true) }
 {
     match decode::<Snapshot>(alloc, version, bytes) {
         Ok(snapshot) => {
             durable_is_its_data(&snapshot.durable);
             Ok(snapshot.durable)
         }
-        Err(Undecoded::Memory) => Err(GroupFault::Memory),
-        Err(Undecoded::Fault(_)) => Err(GroupFault::NoForm),
+        Err(fault) => Err(unread(fault, has_least(version, bytes))),
     }
 }

@@ -1,5 +1,5 @@
 use Rattle.std.proofs.Common.{Some, refl}
-use Rattle.pf_book.proofs.LockedCalls.{front-begins, change-longer, applied-is, applied-acked, stored-is, stored-acked, still-acked}
+use Rattle.pf_book.proofs.LockedCalls.{front-begins, change-longer, applied-is, applied-acked, stored-is, stored-acked, still-acked, still-shown}
 use Rattle.pf_book.proofs.laws.receipts.Goals as goal
 
 pub returns-clause-begins : goal.returns-clause-begins
@@ -7,6 +7,9 @@ returns-clause-begins d base setting c r slip last a = front-begins a.before c r
 
 pub returns-clause-acked : goal.returns-clause-acked
 returns-clause-acked d base setting c r slip last a = still-acked base setting c slip (Some last) r last refl a
+
+pub returns-clause-shown : goal.returns-clause-shown
+returns-clause-shown d base setting c r slip last a = still-shown base setting c slip (Some last) r last refl a
 
 pub returns-clause-fewer : goal.returns-clause-fewer
 returns-clause-fewer d base setting c r slip last e a is = change-longer a.before c r slip e last.front a.change is (a.follows last refl).0

@@ -10,4 +10,5 @@ invariant-loop-change g l = record {
   len : into_iter_len l.change-iterator ≡ length (into_iter_items l.change-iterator);
   front : l.tip.front ≡ l.fn.tip.front ++ map arc_value l.yielded;
   acked : l.tip.acked ≡ l.fn.tip.acked + (if l.acked then length l.yielded else 0);
+  shown : l.tip.shown ≡ l.fn.tip.shown;
 }

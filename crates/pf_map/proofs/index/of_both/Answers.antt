@@ -1,7 +1,7 @@
-use Rattle.std.proofs.Common.{◌≡◌, Bool, T, sym, subst, ap, ◌∙◌}
-use Rattle.std.specs.{FinMap.{is_sorted}, Ordering.is_lt}
+use Rattle.std.proofs.Common.{◌≡◌, Bool, sym, ap, ◌∙◌}
+use Rattle.std.specs.Ordering.{is_lt}
 use Rattle.pf_map.specs.InOrder.{in_order}
-use Rattle.pf_map.proofs.Gathered.{map_same, apart, not_apart, flows_sorted, index_of}
+use Rattle.pf_map.proofs.Gathered.{apart, not_apart, flows_sorted, index_of}
 use Rattle.pf_map.proofs.index.of_both.Goals as goal
 use Rattle.pf_map.proofs.index.of_both.Given.{Over}
 
@@ -13,9 +13,6 @@ pub returns-then-not-are_apart : goal.returns-then-not-are_apart
 returns-then-not-are_apart g c =
     not_apart g.met.F.Key.total g.V.Flowed.flow c.args.entries.now c.args.flows.items c.requires.same c.requires.sorted
     (ap (in_order (before g)) (sym c.deref.ensures.value) ∙ sym c.are_apart.ensures ∙ c.if-not-are_apart.true)
-
-pub of-requires : goal.of-requires
-of-requires g c = subst (λ l. T (is_sorted g.N.Key.order l)) (sym (map_same c.args.entries.now)) c.requires.named
 
 pub of-requires-2 : goal.of-requires-2
 of-requires-2 g c =
@@ -31,12 +28,12 @@ invariant_of-result g c =
     let sorted =
     flows_sorted g.met.F.Key.total g.V.Flowed.flow c.args.flows.items
     (ap (in_order (before g)) (sym c.deref.ensures.value) ∙ sym c.are_apart.ensures ∙ c.if-not-are_apart.false) in
-    rw (c.in_ok-names.ensures, c.in_ok-flows.ensures, map_same c.args.entries.now, flows)
+    rw (c.in_ok-names.ensures, c.in_ok-flows.ensures, flows)
     (index_of g.met.F.Key.total g.V.Flowed.flow g.met.N.Key.total g.met.N.Key.alike c.args.entries.now c.args.flows.items c.requires.named c.requires.same sorted)
 
 pub returns : goal.returns
 returns g c = (
-  c.in_ok-names.ensures ∙ map_same c.args.entries.now,
+  c.in_ok-names.ensures,
   apart g.met.F.Key.total g.V.Flowed.flow c.args.entries.now c.args.flows.items c.requires.same
       (ap (in_order (before g)) (sym c.deref.ensures.value) ∙ sym c.are_apart.ensures ∙ c.if-not-are_apart.false),
 )

@@ -1,10 +1,10 @@
-use Rattle.std.proofs.{Common.{false, ◌≡◌, ◌+◌, ◌++◌, List, [], length, map, drop, Ok, refl, sym, ap, ◌∙◌, subst, append-nil, length-append, arith}, lemmas.{Grind.common_steps, List.length-map, Result.err_from_is_err_and}}
+use Rattle.std.proofs.{Common.{false, ◌≡◌, ◌+◌, ◌++◌, List, [], All, length, map, drop, Ok, refl, sym, ap, ◌∙◌, subst, append-nil, length-append, arith}, lemmas.{Grind.common_steps, List.length-map, Result.err_from_is_err_and}}
 use Rattle.std.specs.{Arc.arc_value, Prelude.nat_lt}
 use Rattle.pf_core.specs.declared.reply.Reply.{Reply}
 use Rattle.pf_core.specs.{Durable.Changes.PlainChange, WorldBooks.{WorldBook, IsAt, LeadsGroup}, Worlds.{CurrentOpening, Upshot, flat, grouping, upshot, changes_due, replies_due, is_fault}}
 use Rattle.pf_core.proofs.Courses.{told_as}
 use Rattle.pf_book.specs.{Books.{world_book, log_in, StaysUnlessAnyKept}, Groups.{Answered, AreAnswered}, Pairs.{kept_count, paired}}
-use Rattle.pf_book.proofs.{Calling.{fault-flag, own, own-at}, Grouping.{begin-calm, begin-leads, begun-by, memory-refuses}, OpenedBooks.{disk-of, log-of, moment-of, stays-of}, HistoryGroups.left-group, GroupReceipts.{IsTold, told-by, slips, paired-replies, kept-due, one-each}}
+use Rattle.pf_book.proofs.{Calling.{fault-flag, own, own-at}, Grouping.{begin-calm, begin-leads, begun-by, memory-refuses}, OpenedBooks.{disk-of, log-of, moment-of, stays-of}, HistoryGroups.left-group, GroupReceipts.{IsTold, told-by, slips, paired-replies, paired-shown, kept-due, one-each}}
 use Rattle.pf_book.proofs.book.Book.answer_each.Given.{Over}
 use Rattle.pf_book.proofs.book.Book.answer_each.Goals.{In-Ok, After-pair}
 use Rattle.pf_book.proofs.book.Book.answer_each.Goals as goal
@@ -91,7 +91,7 @@ pair-requires-clause-shown g c = (own-told g (goal.at.pair-requires-clause-shown
 
 -- its replies stay as they are
 same : (g : Over) (c : After-pair g) → c.in-Ok.replies.items ≡ map (λ (a : Answered). a.0) c.pair.result.items
-same g c = sym (ap (map (λ (a : Answered). a.0)) c.pair.ensures ∙ paired-replies (log_in (world_book c.call_all.new.self)) c.len-before.result c.in-Ok.replies.items (map arc_value c.in-Ok.given.items))
+same g c = sym (ap (map (λ (a : Answered). a.0)) c.pair.ensures ∙ paired-replies c.call_all.new.self.shown (log_in (world_book c.call_all.new.self)) c.len-before.result c.in-Ok.replies.items (map arc_value c.in-Ok.given.items))
 
 pub returns-in-Ok-clause-leads : goal.returns-in-Ok-clause-leads
 returns-in-Ok-clause-leads g c h at =
@@ -105,11 +105,16 @@ returns-in-Ok-clause-receipts g c h at =
     let t = told g here h at in
     let log : List PlainChange = log_in (world_book c.call_all.new.self) in
     let commands = c.args.commands.now in
-    let pairs : c.pair.result.items ≡ paired log c.len-before.result (map (told_as t.stored) (replies_due h [] commands)) (changes_due h [] commands) =
-    c.pair.ensures ∙ ap (λ (rs : List Reply). paired log c.len-before.result rs (map arc_value c.in-Ok.given.items)) t.told_is
-    ∙ ap (paired log c.len-before.result (map (told_as t.stored) (replies_due h [] commands))) (c.in-Ok.ensures.given h at) in
+    let pairs : c.pair.result.items ≡ paired c.call_all.new.self.shown log c.len-before.result (map (told_as t.stored) (replies_due h [] commands)) (changes_due h [] commands) =
+    c.pair.ensures ∙ ap (λ (rs : List Reply). paired c.call_all.new.self.shown log c.len-before.result rs (map arc_value c.in-Ok.given.items)) t.told_is
+    ∙ ap (paired c.call_all.new.self.shown log c.len-before.result (map (told_as t.stored) (replies_due h [] commands))) (c.in-Ok.ensures.given h at) in
     let first : c.len-before.result ≡ length (flat h.acked) + 0 = omega (arith, number g here, ap (λ (gs : List (List PlainChange)). length (flat gs)) at.acked) in
-    subst (λ (answers : List Answered). AreAnswered h log [] commands answers) (sym pairs) (slips h log [] (changes_due h [] commands) commands t.stored t.none t.may refl t.log c.len-before.result first)
+    subst (λ (answers : List Answered). AreAnswered h log [] commands answers) (sym pairs) (slips c.call_all.new.self.shown h log [] (changes_due h [] commands) commands t.stored t.none t.may refl t.log c.len-before.result first)
+
+pub returns-in-Ok-clause-shown : goal.returns-in-Ok-clause-shown
+returns-in-Ok-clause-shown g c =
+    let shown = c.call_all.new.self.shown in
+    subst (All (λ (a : Answered). a.1.shown ≡ shown)) (sym c.pair.ensures) (paired-shown shown (log_in (world_book c.call_all.new.self)) c.len-before.result c.in-Ok.replies.items (map arc_value c.in-Ok.given.items))
 
 pub returns-in-Ok-clause-stays : goal.returns-in-Ok-clause-stays
 returns-in-Ok-clause-stays g c =

@@ -20,4 +20,4 @@ pub returns-clause-change : goal.returns-clause-change
 returns-clause-change g c =
     let r = c.receipt.inside in
     subst (λ (x : PlainReceipt). ForSome x.change (λ e. length x.front ≤ length (flat c.args.self.now.acked))) c.receipt.view_is
-    (acked-too r.front r.seq (option_map arc_value r.change) (length (flat c.args.self.now.acked)) (within-of c.self.invariant c.self.view_is r.front c.contains.ensures.begins) c.receipt.invariant)
+    (acked-too r.front r.seq (option_map arc_value r.change) r.showing r.shown (length (flat c.args.self.now.acked)) (within-of c.self.invariant c.self.view_is r.front c.contains.ensures.begins) c.receipt.invariant)

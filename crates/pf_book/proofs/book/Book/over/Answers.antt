@@ -13,7 +13,7 @@ pub invariant_of-result : goal.invariant_of-result
 invariant_of-result g c =
     let i = c.opening.invariant in
     new-book c.opening.inside.store g.J.Naming.base c.new.result (arc_value c.opening.inside.durable) _ _ c.args.history_limit _ _ _ i.opened
-    (ap (λ xs. map arc_value xs) c.new-2.ensures.items) c.new-3.ensures.items i.tip_is (i.start_is ∙ sym i.tip_is) i.base_is (ap (λ (w : PlainCore). w.durable) c.new.ensures ∙ c.in-Ok.ensures)
+    (ap (λ xs. map arc_value xs) c.new-2.ensures.items) c.new-3.ensures.items i.tip_is i.start_is i.base_is (ap (λ (w : PlainCore). w.durable) c.new.ensures ∙ c.in-Ok.ensures)
     (subst (λ (w : PlainCore). AreTicketsWithin w.tickets) (sym c.new.ensures) (keeps_the_limits.first (arc_value c.in-Ok.shared).epoch)) (omega (arith, c.requires.high))
     c.requires.new.0 c.requires.new.1
 

@@ -26,18 +26,18 @@ loop-reply-preserved g c =
     let left : List PlainChange = map arc_value (into_iter_items c.give-change.new.given) in
     let number : c.behind-seq.result ≡ behind r at.seq = c.behind-seq.ensures in
     let here = one g (goal.at.loop-reply-preserved g c).After-behind-seq in
-    let rest : List Answered = paired log c.behind-seq.result others left in
+    let rest : List Answered = paired c.args.self.now.shown log c.behind-seq.result others left in
     let old : List Answered = at.answers.items in
-    let slip : c.receipt_at-receipt.result ≡ slip_at log (behind r at.seq) (given_to r given) r =
-    c.receipt_at-receipt.ensures ∙ ap (λ (m : ℕ). slip_at log m (option_map arc_value c.give-change.result) r) number ∙ ap (λ (o : Option PlainChange). slip_at log (behind r at.seq) o r) c.give-change.ensures.given in
+    let slip : c.receipt_at-receipt.result ≡ slip_at c.args.self.now.shown log (behind r at.seq) (given_to r given) r =
+    c.receipt_at-receipt.ensures ∙ ap (λ (m : ℕ). slip_at c.args.self.now.shown log m (option_map arc_value c.give-change.result) r) number ∙ ap (λ (o : Option PlainChange). slip_at c.args.self.now.shown log (behind r at.seq) o r) c.give-change.ensures.given in
     record {
       all = append_assoc at.yielded (r ∷ []) _ ∙ rw (← steps) at.invariant.all;
       len = let was = at.invariant.len in let gone = c.in-Some.ensures.steps.1 in let short = ap length steps in omega arith;
       told = ap (λ (xs : List Answered). xs ++ rest) c.push_reserved.ensures.items ∙ append_assoc old ((r, c.receipt_at-receipt.result) ∷ []) rest
           ∙ ap (λ (x : PlainReceipt). old ++ ((r, x) ∷ rest)) slip
-          ∙ ap (λ (m : ℕ). old ++ ((r, slip_at log (behind r at.seq) (given_to r given) r) ∷ paired log m others left)) number
-          ∙ ap (λ (l : List PlainChange). old ++ ((r, slip_at log (behind r at.seq) (given_to r given) r) ∷ paired log (behind r at.seq) others l)) c.give-change.ensures.left
-          ∙ ap (λ (rs : List Reply). old ++ paired log at.seq rs given) (sym steps) ∙ at.invariant.told;
+          ∙ ap (λ (m : ℕ). old ++ ((r, slip_at c.args.self.now.shown log (behind r at.seq) (given_to r given) r) ∷ paired c.args.self.now.shown log m others left)) number
+          ∙ ap (λ (l : List PlainChange). old ++ ((r, slip_at c.args.self.now.shown log (behind r at.seq) (given_to r given) r) ∷ paired c.args.self.now.shown log (behind r at.seq) others l)) c.give-change.ensures.left
+          ∙ ap (λ (rs : List Reply). old ++ paired c.args.self.now.shown log at.seq rs given) (sym steps) ∙ at.invariant.told;
       given = ap (λ (m : ℕ). drop m log) number ∙ here.0.given_is ∙ sym c.give-change.ensures.left;
       within = subst (λ (m : ℕ). m ≤ length log) (sym number) here.0.within;
       kept = here.0.kept ∙ ap length (sym c.give-change.ensures.left);
@@ -75,7 +75,7 @@ loop-reply-init g c =
     record {
       all = refl;
       len = let same = ap length gives.0 in grind (arith, common_steps, gives.1, same);
-      told = ap (λ (xs : List Answered). xs ++ paired log c.args.before (into_iter_items c.into_iter-reply-iterator.result) (map arc_value (into_iter_items c.into_iter-given.result))) c.requires.empty;
+      told = ap (λ (xs : List Answered). xs ++ paired c.args.self.now.shown log c.args.before (into_iter_items c.into_iter-reply-iterator.result) (map arc_value (into_iter_items c.into_iter-given.result))) c.requires.empty;
       given = c.requires.given ∙ ap (λ xs. map arc_value xs) (sym rest);
       within = c.requires.within;
       kept = ap kept_count gives.0 ∙ c.requires.kept ∙ ap (λ xs. length (map arc_value xs)) (sym rest);
@@ -90,6 +90,6 @@ returns g c =
     let gives = c.into_iter-reply-iterator.ensures.into_iter_gives in
     let given : List PlainChange = map arc_value (into_iter_items at.given) in
     let none : into_iter_items at.reply-iterator ≡ [] = no-items (into_iter_items at.reply-iterator) (sym at.invariant.len ∙ c.in-None.ensures.steps.0) in
-    sym (append-nil at.answers.items) ∙ ap (λ (rs : List Reply). at.answers.items ++ paired log at.seq rs given) (sym none) ∙ at.invariant.told
-    ∙ ap (λ (rs : List Reply). paired log c.args.before rs (map arc_value (into_iter_items c.into_iter-given.result))) gives.0
-    ∙ ap (λ xs. paired log c.args.before c.args.replies.items (map arc_value xs)) c.into_iter-given.ensures.rest
+    sym (append-nil at.answers.items) ∙ ap (λ (rs : List Reply). at.answers.items ++ paired c.args.self.now.shown log at.seq rs given) (sym none) ∙ at.invariant.told
+    ∙ ap (λ (rs : List Reply). paired c.args.self.now.shown log c.args.before rs (map arc_value (into_iter_items c.into_iter-given.result))) gives.0
+    ∙ ap (λ xs. paired c.args.self.now.shown log c.args.before c.args.replies.items (map arc_value xs)) c.into_iter-given.ensures.rest

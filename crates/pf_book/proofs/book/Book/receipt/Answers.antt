@@ -2,7 +2,7 @@ use Rattle.std.proofs.{Common.{◌≡◌, ◌≤◌, List, length, map, take, sy
 use Rattle.std.specs.Arc.{arc_value}
 use Rattle.pf_core.specs.{Durable.Changes.PlainChange, Worlds.flat}
 use Rattle.pf_past.specs.Pasts.{PlainFront}
-use Rattle.pf_book.specs.{Books.{world_book, log_in}, Receipts.EndsIn}
+use Rattle.pf_book.specs.{Books.{PlainBook, world_book, log_in}, Receipts.EndsIn}
 use Rattle.pf_book.proofs.OpenedBooks.{acked-of, log-of, token-of}
 use Rattle.pf_book.proofs.book.Book.receipt.Goals as goal
 
@@ -21,7 +21,11 @@ invariant_of-result g c =
       acked = λ e some.
           let no_more : length (log_in (world_book c.args.self.now)) ≤ length (flat c.args.self.now.acked) = (c.requires.last e some).1 in
           omega (arith, no_more, counted, ap length whole, acked, all);
+      shown_is = c.len-2.ensures ∙ sym (c.showing.ensures ∙ i.noted);
     }
+
+pub returns-clause-shown : goal.returns-clause-shown
+returns-clause-shown g c = c.len-2.ensures ∙ ap (λ (l : PlainBook g.row.D.Denot). l.shown) c.self.view_is
 
 pub returns-clause-front : goal.returns-clause-front
 returns-clause-front g c =

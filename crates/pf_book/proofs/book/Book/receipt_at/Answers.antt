@@ -2,7 +2,7 @@ use Rattle.std.proofs.Common.{◌≡◌, ◌≤◌, List, length, map, take, min
 use Rattle.std.specs.{Arc.arc_value, Option.option_map}
 use Rattle.pf_core.specs.Durable.Changes.{PlainChange}
 use Rattle.pf_past.specs.Pasts.{PlainFront}
-use Rattle.pf_book.specs.{Books.{world_book, log_in}, Receipts.{EndsIn, token_of}}
+use Rattle.pf_book.specs.{Books.{PlainBook, world_book, log_in}, Receipts.{EndsIn, token_of}}
 use Rattle.pf_book.proofs.OpenedBooks.{all-of, log-of, token-of}
 use Rattle.pf_book.proofs.book.Book.receipt_at.Goals as goal
 
@@ -19,6 +19,7 @@ invariant_of-result g c =
       within = omega (arith, within, ap length front);
       last = λ e some. subst (λ (l : List PlainChange). EndsIn (take c.args.seq l) e) (whole ∙ sym front) (c.requires.last e some);
       acked = λ e some. omega (arith, within, all, acked);
+      shown_is = c.len.ensures ∙ sym (c.showing.ensures ∙ i.noted);
     }
 
 pub returns : goal.returns
@@ -32,4 +33,5 @@ returns g c =
     let first : take c.args.seq c.front.result.front ≡ take c.args.seq (log_in (world_book c.args.self.now)) = ap (take c.args.seq) (front ∙ sym whole) in
     let count : min c.args.seq c.front.result.acked ≡ c.args.seq = omega (arith, c.requires.within, ap length whole, all, acked) in
     let token : c.token_after.result ≡ token_of c.args.reply.now (log_in (world_book c.args.self.now)) = c.token_after.ensures ∙ token-of i c.self.view_is c.args.reply.now c.requires.shown in
-    λ j. record { front = first j; acked = count j; change = option_map arc_value c.args.change; token = token j }
+    let shown : c.len.result ≡ c.args.self.now.shown = c.len.ensures ∙ ap (λ (l : PlainBook g.row.D.Denot). l.shown) c.self.view_is in
+    λ j. record { front = first j; acked = count j; shown = shown j; change = option_map arc_value c.args.change; token = token j }

@@ -117,7 +117,7 @@ invariant_of-self-in-Ok g c =
     let next : c.deref.result.now ≡ c.accept.new.self.durable = c.deref.ensures ∙ c.in_ok-logged.ensures.after ∙ left g saved ∙ sym whole in
     more-book i c.save.new.self c.accept.new.self _ (map arc_value c.put_all.new.log.items) c.push_reserved.new.self.items (s.acked + length c.args.changes.now) c.note_all.new.tip c.front.result es
     (grown g (goal.at.invariant_of-self-in-Ok g c).After-accept) (room-of i c.self.view_is es c.requires.room)
-    (c.note_all.ensures.front ∙ ap (λ (l : List PlainChange). s.tip.front ++ l) noted) (omega (arith, c.note_all.ensures.acked, simp length-map at (ap length noted))) c.front.ensures
+    (c.note_all.ensures.front ∙ ap (λ (l : List PlainChange). s.tip.front ++ l) noted) (omega (arith, c.note_all.ensures.acked, simp length-map at (ap length noted))) c.note_all.ensures.shown c.front.ensures
     whole (subst (λ (w : PlainCore). AreTicketsWithin w.tickets) (sym c.accept.ensures) (keeps_the_limits.commit s.core.tickets c.args.next.voided i.tickets)) (c.in_ok-logged.ensures.after ∙ left g saved ∙ sym whole)
     (going g saved) kept.goes_on (subst (λ (k : PlainDurable). Stands g.D.Disk.seen g.D.Disk.unsynced c.save.new.self k) next kept.stands) kept.generation
     (λ image is. subst (λ (k : PlainDurable). Holds image k) next (kept.images image is)) (generations g saved) (roomy g saved)
@@ -181,7 +181,7 @@ invariant_of-self-in-Err-Fault g c =
     let f = rw c.in-Err-Fault.field-0-is at c.in-Err-Fault.ensures in
     fault-book i c.save.new.self (map arc_value c.put_all-in-Err-Fault.new.log.items) c.prepare.new.sizes.items c.note_all-in-Err-Fault.new.tip es
     (all-of i c.self.view_is c.requires.free) (some-formed es found.formed) (few-formed es found.formed) (room-of i c.self.view_is es c.requires.room) logged c.prepare.ensures.sizes
-    (c.note_all-in-Err-Fault.ensures.front ∙ ap (λ (l : List PlainChange). s.tip.front ++ l) c.in_ok-logged.ensures.noted) (omega (arith, c.note_all-in-Err-Fault.ensures.acked)) (f.halts refl)
+    (c.note_all-in-Err-Fault.ensures.front ∙ ap (λ (l : List PlainChange). s.tip.front ++ l) c.in_ok-logged.ensures.noted) (omega (arith, c.note_all-in-Err-Fault.ensures.acked)) c.note_all-in-Err-Fault.ensures.shown (f.halts refl)
     (each g saved _ (run g saved)) (generations g saved) (roomy g saved)
 
 pub returns-in-Err-Fault-clause-err : goal.returns-in-Err-Fault-clause-err

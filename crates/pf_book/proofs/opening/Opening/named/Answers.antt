@@ -1,6 +1,7 @@
 use Rattle.std.proofs.Common.{ap, sym, ◌∙◌}
 use Rattle.std.specs.Arc.{arc_value}
 use Rattle.logbook.specs.Pages.{Book}
+use Rattle.pf_past.specs.Pasts.{front_of}
 use Rattle.pf_book.specs.Books.{PlainOpening, opening_of}
 use Rattle.pf_book.proofs.opening.Opening.named.Goals as goal
 
@@ -9,7 +10,7 @@ invariant_of-result g c = record {
   opened = c.self.invariant;
   base_is = ap (λ (o : PlainOpening g.row.D.Denot). o.given) c.self.view_is ∙ c.requires.base;
   tip_is = c.in-Some.ensures;
-  start_is = c.front-start.ensures ∙ c.in-Some.ensures;
+  start_is = c.front-start.ensures ∙ ap front_of c.in-Some.ensures;
 }
 
 pub returns-clause-same : goal.returns-clause-same

@@ -20,7 +20,7 @@ returns-clause-answered g c =
     let new = c.answer_all-answers.new.self in
     let t : Upshot = upshot new.shown (nat_lt (g.D.Disk.fault_count old.disk) (g.D.Disk.fault_count new.disk)) in
     let e = c.answer_all-answers.ensures in
-    group-answered g.J.Naming.base g.J.Chapter.setting (world_book old) (world_book new) c.args.commands.now (told c.answer_all-answers.result) t c.self.invariant e.leads c.between_calls.ensures.folded (option_copied c.args.last) e.receipts e.follows
+    group-answered g.J.Naming.base g.J.Chapter.setting (world_book old) (world_book new) c.args.commands.now (told c.answer_all-answers.result) t c.self.invariant e.leads c.between_calls.ensures.folded (option_copied c.args.last) e.receipts e.shown e.follows e.shows
 
 pub returns-clause-any_moment : goal.returns-clause-any_moment
 returns-clause-any_moment g c =

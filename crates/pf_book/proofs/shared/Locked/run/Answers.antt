@@ -20,7 +20,7 @@ returns-clause-answered g c =
     let new = c.answer-answer.new.self in
     let t : Upshot = upshot new.shown (nat_lt (g.D.Disk.fault_count old.disk) (g.D.Disk.fault_count new.disk)) in
     let e = c.answer-answer.ensures in
-    answered g.J.Naming.base g.J.Chapter.setting (world_book old) (world_book new) c.args.command.now c.answer-answer.result.0 t c.self.invariant e.leads c.between_calls.ensures.folded c.answer-answer.result.1 (option_copied c.args.last) e.front e.acked e.given e.token e.follows
+    answered g.J.Naming.base g.J.Chapter.setting (world_book old) (world_book new) c.args.command.now c.answer-answer.result.0 t c.self.invariant e.leads c.between_calls.ensures.folded c.answer-answer.result.1 (option_copied c.args.last) e.front e.acked e.shown e.given e.token e.follows e.shows
 
 pub returns-clause-any_moment : goal.returns-clause-any_moment
 returns-clause-any_moment g c =

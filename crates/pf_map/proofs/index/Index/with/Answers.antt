@@ -13,15 +13,15 @@ with_new-requires g c =
     rw (c.in_ok-new.ensures, c.in_ok-kept.ensures, old)
     (freed g.met.N.Key.total g.met.N.Key.alike g.met.F.Key.total c.self.inside.names c.self.inside.flows c.self.invariant new.0 new.1 free)
 
-pub with_value-requires-clause-had : goal.with_value-requires-clause-had
-with_value-requires-clause-had g c =
+pub with_known-requires : goal.with_known-requires
+with_known-requires g c =
     let new = c.args.new.now in
-    rw c.key-2.ensures (c.is_some-had.ensures ∙ is_there (λ e. e.now) new.0 c.get-old.result (find g.N.Key.order new.0 c.self.inside.names) (rw c.key.ensures at c.get-old.ensures.entry))
+    c.is_some-had.ensures ∙ is_there (λ e. e.now) new.0 c.get-old.result (find g.N.Key.order new.0 c.self.inside.names) (rw c.key.ensures at c.get-old.ensures.entry)
 
 pub invariant_of-result : goal.invariant_of-result
 invariant_of-result g c =
     let new = c.args.new.now in
     let old = held (λ e. e.now) new.0 c.get-old.result (find g.N.Key.order new.0 c.self.inside.names) (rw c.key.ensures at c.get-old.ensures.entry) in
     let free : is_clash g.N.Key.order g.F.Key.order g.V.Flowed.flow c.self.inside.names new ≡ false = ap (λ (es : List (g.row.N.Denot × g.row.V.Denot)). is_clash g.N.Key.order g.F.Key.order g.V.Flowed.flow es new) c.self.view_is ∙ c.requires in
-    rw (c.in_ok-names.ensures, c.in_ok-flows.ensures, c.in_ok-new.ensures, c.in_ok-kept.ensures, c.key-2.ensures, old)
+    rw (c.in_ok-names.ensures, c.in_ok-flows.ensures, c.in_ok-new.ensures, c.in_ok-kept.ensures, old)
     (put_in g.met.N.Key.total g.met.N.Key.alike g.met.F.Key.total c.self.inside.names c.self.inside.flows c.self.invariant new.0 new.1 free)

@@ -12,12 +12,12 @@ one_less n = grind (arith, nat_tests)
 
 pub returns : goal.returns
 returns c rows =
-    let ts = c.self.inside.tables in
-    let count = count_with c.args.name.now rows ts c.self.invariant in
-    let there = is_there (λ e. e.now) c.args.name.now c.get.result (find name_order c.args.name.now ts) c.get.ensures.entry in
-    c.is_more_than.ensures ∙ elim c.match-get.branch [
+    let ts = c.args.self.now in
+    let count = count_with c.args.name.now rows ts c.get.ensures.order in
+    let there = is_there (λ e. e.now) c.args.name.now c.get.result (find name_order c.args.name.now ts) c.get.ensures.table in
+    rw c.len.ensures (elim c.match-get.branch [
       | in-Some w ↦ let yes : is_some (find name_order c.args.name.now ts) ≡ true = sym there ∙ ap is_some w.in-Some.is in
-          rw (w.room-is, sym c.self.view_is, count, yes) refl
+          rw (w.room-is, count, yes) refl
       | in-None w ↦ let no : is_some (find name_order c.args.name.now ts) ≡ false = sym there ∙ ap is_some w.in-None.is in
-          rw (w.room-is, sym c.self.view_is, count, no) (one_less (length ts))
-    ]
+          rw (w.room-is, count, no) (one_less (length ts))
+    ])
