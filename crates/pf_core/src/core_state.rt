@@ -262,8 +262,16 @@ impl Core {
         alone(self.step_ready(command))
     }
 
-    /// The step of one command, as `step` gives it, with what its change leaves, as `prepare` would make it of the core as it is. Its
-    /// refusals are those of `step`; out of memory for what the change leaves, it is refused too, and the core stays as it is.
+    /// The step of one command, as `step` gives it. With a change that it wants comes what the change leaves, as `prepare` would make it of
+    /// the core as it is. If the step wants a change, is left to whoever keeps the history, or is refused, the core is as before.
+    ///
+    /// The refusal is the first of these that holds. A begin: `BadCount`, `TooManyRulesets`, `TicketsExhausted`. An add of a rule: `Busy`,
+    /// `RulesetFull`. A define: `Conflict`, `Busy`, `TableFull`, `TooManyTables`. A commit: `BadCount`, `Twice`, `Busy`, `TooManyRulesets`,
+    /// `TooManyTables`. A rollback: `BadCount`, `Twice`. Entries that are added to a table or replace its own: `Conflict`, `TableFull`,
+    /// `TooManyTables`. Entries that are deleted: `Conflict`, `Absent`. A table or a state that is killed: `Absent`. A tick: `BadTick`. A
+    /// packet that is tracked: `BadTick`, and if a state is to be made of it `StatesFull`. A peer's message: `StatesFull`. A question, or
+    /// what the history is asked: none. Out of memory, also for what the change leaves, `Memory` may come before any of
+    /// them.
     pub fn step_ready(&mut self, command: &Command) -> Result<ReadyStep, Refusal>
         ensures reply { OrMemory (takes_memory self.old.durable command.now) (plain result)
             (step_by self.old.tickets self.old.durable command.now) }
@@ -286,8 +294,12 @@ impl Core {
         }
     }
 
-    /// Makes what a change leaves. It is refused as `Durable::apply` says, but never so for a change that a step of this core wants; out of
-    /// memory, nothing is made.
+    /// Makes what a change leaves. The core stays as it is.
+    ///
+    /// The refusal is the first of these that holds: `Twice` for a commit that names a ruleset or a table twice; `Conflict` for a list that
+    /// names a network with both signs; `BadTick` for a step that inserts a state that is due, and for a tick below the present one;
+    /// `TableFull`; `TooManyRulesets`, `TooManyTables`; `StatesFull`. A change that a step of this core wants is refused for none of these.
+    /// Out of memory, `Memory` may come before any of them.
     pub fn prepare(&self, change: &Change) -> Result<Next, Refusal>
         ensures { OrMemory true result (prepared self.now.durable change.now) }
     {
@@ -296,8 +308,13 @@ impl Core {
     }
 
     /// The step of a later command of a group, as `step` would give it after what the earlier ones left was accepted. The core stays as it
-    /// is, and has to be the one that `before` was prepared of. The command has to be one that a group may have. Its refusals are those of
-    /// `step`.
+    /// is, and has to be the one that `before` was prepared of. The command has to be one that a group may have: a commit, an edit of a
+    /// table, or a command of states.
+    ///
+    /// The refusal is the first of these that holds. A commit: `BadCount`, `Twice`, `Busy`, `TooManyRulesets`, `TooManyTables`. Entries
+    /// that are added to a table or replace its own: `Conflict`, `TableFull`, `TooManyTables`. Entries that are deleted: `Conflict`,
+    /// `Absent`. A table or a state that is killed: `Absent`. A tick: `BadTick`. A packet that is tracked: `BadTick`, and if a state is to
+    /// be made of it `StatesFull`. A peer's message: `StatesFull`. Out of memory, `Memory` may come before any of them.
     pub fn step_from(&self, before: &Next, later: &Command) -> Result<Step, Refusal>
         requires { may_be_grouped later.now ≡ true }
         ensures { OrMemory (takes_memory before.now.durable later.now) result
@@ -306,8 +323,15 @@ impl Core {
         alone(self.step_ready_from(before, later))
     }
 
-    /// As `step_from`, with what the command's change leaves after those of the earlier ones, as `prepare_from` would make it. Its refusals
-    /// are those of `step_ready`.
+    /// The step of a later command of a group, as `step_from` gives it. With a change that it wants comes what this change and the earlier
+    /// ones leave, as `prepare_from` would make it. The core stays as it is, and has to be the one that `before` was prepared of. The
+    /// command has to be one that a group may have: a commit, an edit of a table, or a command of states.
+    ///
+    /// The refusal is the first of these that holds. A commit: `BadCount`, `Twice`, `Busy`, `TooManyRulesets`, `TooManyTables`. Entries
+    /// that are added to a table or replace its own: `Conflict`, `TableFull`, `TooManyTables`. Entries that are deleted: `Conflict`,
+    /// `Absent`. A table or a state that is killed: `Absent`. A tick: `BadTick`. A packet that is tracked: `BadTick`, and if a state is to
+    /// be made of it `StatesFull`. A peer's message: `StatesFull`. Out of memory, also for what the change leaves, `Memory` may come before
+    /// any of them.
     pub fn step_ready_from(&self, before: &Next, later: &Command) -> Result<ReadyStep, Refusal>
         requires { may_be_grouped later.now ≡ true }
         ensures reply { OrMemory (takes_memory before.now.durable later.now) (plain result)
@@ -326,8 +350,8 @@ impl Core {
         }
     }
 
-    /// Makes what a change leaves after the earlier ones of a group: to accept it is to accept them all. The core stays as it is. It is
-    /// refused as `prepare` says.
+    /// Makes what a change leaves after the earlier ones of a group: to accept it is to accept them all. The core stays as it is. The
+    /// refusals are those of `prepare`, of what the earlier ones left.
     pub fn prepare_from(&self, before: &Next, change: &Change) -> Result<Next, Refusal>
         ensures { OrMemory true result (prepared_from before.now change.now) }
     {

@@ -94,18 +94,22 @@ pub fn shows_all()
     ensures { ShowsAll }
 {}
 
-/// So the answer to a test is the one entry of its table that contains the address with the most specific network, or none if none contains
-/// it. A packet is judged by the one state of its flow, which isn't due, and without one by the rules: if the main ruleset has no anchor
-/// rule, by the last rule that matches or the first quick one. An anchor rule leads to the rulesets that are there.
+/// In the opening that a world ends in, if what was held first keeps the limits (`keeps_the_limits`), a test and a judge are answered by
+/// what is kept.
+///
+/// A test tells the one entry of its table whose network contains the address and is the most specific one, or none if none contains it. A
+/// packet is judged by the state of its flow, if there is one: there is one at most, and it isn't due. Without one the rules judge it. If
+/// the main ruleset has no anchor rule, that is the first quick rule that matches, or else the last rule that matches. An anchor rule leads
+/// to the rulesets that are there, in their order.
 pub fn answers_rest_on_what_is_kept()
     ensures tests { TestsTellTheEntry }
     ensures judges { JudgesTellTheVerdict }
 {}
 
-/// Of every world, over crashes and openings: no ticket that was given before an opening is valid after it; every group of changes, so
-/// every commit, is kept whole or not at all; what each later opening gives is, but for its epoch, the fold of all changes that were kept
-/// since the first base, in order and each once, with every change that was acknowledged before; what a worker saw or learnt was
-/// acknowledged, and what is kept begins with it.
+/// What holds of every world, over crashes and openings. No ticket that was given before an opening is valid after it: the opening's epoch
+/// is above the ticket's. Every group of changes, so every commit, is kept whole or not at all. What an opening gives is, but for its
+/// epoch, the fold of all changes that were kept since the first base, in order and each once. Every change that was acknowledged before is
+/// one of them. What a worker saw or learnt was acknowledged, and what is kept begins with it.
 pub fn worlds()
     ensures void { VoidsTickets }
     ensures whole { KeepsWhole }

@@ -3,10 +3,13 @@
 //! It knows tickets, rulesets, tables and states by the crates below, and what a peer's message is. It doesn't know how a command is
 //! spelled or a reply written (pf_line), nor who keeps the changes and publishes them (pf_book).
 //!
-//! A `Core` is what is kept, a `Durable`, and the open transactions. `Core::step` answers a command, refuses it, leaves it to whoever keeps
-//! the history, or says which `Change` it wants kept; `Core::prepare` makes what the change leaves, and `Core::accept` puts it in place.
-//! `Core::step_ready` does the first two in one, so that what its change leaves is made once. `Core::step_ready_from` and
-//! `Core::prepare_from` do the same for a later command of a group, whose changes are kept together.
+//! A `Core` is what is kept, a `Durable`, and the open transactions. `Core::step_ready` answers a command, refuses it, leaves it to whoever
+//! keeps the history, or says which `Change` it wants kept. With such a change it gives a `Next`: what the change leaves, with all its
+//! memory. `Core::accept` puts a `Next` in place. `Core::step_ready_from` steps a later command of a group, whose changes are kept
+//! together. It takes the `Next` of the commands before, and the `Next` that it gives is what all these changes leave.
+//!
+//! `Core::step` and `Core::step_from` give the same steps without a `Next`. `Core::prepare` makes the `Next` of a change alone, and
+//! `Core::prepare_from` that of a later change of a group.
 //!
 //! Read specs/Durable/Changes.antt first (what is kept, what a change does to it, which change fits), then specs/Commands.antt (the one
 //! step that a command is due), then specs/Worlds.antt: lists of calls, of groups of commands, of what workers see, of crashes and

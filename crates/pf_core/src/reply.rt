@@ -137,67 +137,64 @@ pub enum Outcome {
 /// the count of the next ticket.
 #[derive(Clone, Copy, Debug, PartialEq, Eq)]
 pub enum Refusal {
-    /// The line is longer than 4,096 bytes, or has a byte that no line may have. No command was read: all is as before.
+    /// The line is longer than 4,096 bytes, or has a byte that no line may have. No command was read.
     BadLine,
-    /// The first word at which the text can't go on, from 0; the number of words if one is missing. No command was read: all is as before.
+    /// The first word at which the text can't go on, from 0; the number of words if one is missing. No command was read.
     BadWord { at: usize },
     /// The same, for a name past its limit: 15 bytes for an interface, 31 for a table, 63 for a path's component, a label
-    /// and a reference, 255 for a path, and 16 components in a path. No command was read: all is as before.
+    /// and a reference, 255 for a path, and 16 components in a path. No command was read.
     NameTooLong { at: usize },
-    /// The same, for a word that isn't a protocol. No command was read: all is as before.
+    /// The same, for a word that isn't a protocol. No command was read.
     BadProto { at: usize },
-    /// The families of a rule's hosts and its own, or of a packet's addresses, differ. No command was read: all is as
-    /// before.
+    /// The families of a rule's hosts and its own, or of a packet's addresses, differ. No command was read.
     MixedFamily,
-    /// A rule tests a port, and its protocol isn't TCP or UDP. No command was read: all is as before.
+    /// A rule tests a port, and its protocol isn't TCP or UDP. No command was read.
     PortNeedsProto,
-    /// The bytes of a peer's message have this fault, or end within a message. No command was read: all is as before.
+    /// The bytes of a peer's message have this fault, or end within a message. No command was read.
     BadPeer(PeerFault),
-    /// The bytes of a peer's message are several messages, or none. No command was read: all is as before.
+    /// The bytes of a peer's message are several messages, or none. No command was read.
     PeerCount,
     /// The device that changes are kept on failed in this opening, so nothing more is changed in it. For a command that could change
-    /// something this comes before any other refusal. All is as before.
+    /// something this comes before any other refusal.
     Halted,
-    /// The list of a begin, a commit or a rollback, or a group of commands, is empty or longer than 64. All is as before.
+    /// The list of a begin, a commit or a rollback, or a group of commands, is empty or longer than 64.
     BadCount,
-    /// This command of a group, from 0, is the first that isn't of the kinds that a group may have. All is as before, for the other
-    /// commands too.
+    /// This command of a group, from 0, is the first that isn't of the kinds that a group may have. None of the others is done either.
     NotGrouped { index: usize },
-    /// This entry of a commit or a rollback, from 0, is the first that names a ruleset named before it. All is as before, for the other
-    /// entries too.
+    /// This entry of a commit or a rollback, from 0, is the first that names a ruleset named before it. No other entry is done
+    /// either.
     Twice { at: usize },
-    /// This entry of a commit, from 0, is the first whose ticket isn't valid; 0 for an add or a define. All is as before, and the other
-    /// entries' valid tickets stay valid.
+    /// This entry of a commit, from 0, is the first whose ticket isn't valid; 0 for an add or a define. The other entries' valid
+    /// tickets stay valid.
     Busy { at: usize },
-    /// This entry of a list, from 0, is the first whose network came before it with the other sign. All is as before.
+    /// This entry of a list, from 0, is the first whose network came before it with the other sign.
     Conflict { at: usize },
-    /// Entries are to be deleted from a table that isn't there, or such a table is to be killed, or a state that isn't there. All is as
-    /// before.
+    /// Entries are to be deleted from a table that isn't there, or such a table is to be killed, or a state that isn't there.
     Absent,
-    /// The tick would go back, or a packet is to be tracked until a tick that has come. All is as before.
+    /// The tick would go back, or a packet is to be tracked until a tick that has come.
     BadTick,
-    /// The inactive ruleset has 1,024 rules already. All is as before, and its ticket is valid.
+    /// The inactive ruleset has 1,024 rules already. Its ticket stays valid.
     RulesetFull,
-    /// A commit would leave more than 1,024 rulesets, or a begin more than 1,024 with a valid ticket. All is as before.
+    /// A commit would leave more than 1,024 rulesets, or a begin more than 1,024 with a valid ticket.
     TooManyRulesets,
-    /// A table would have more than 65,536 entries. All is as before.
+    /// A table would have more than 65,536 entries.
     TableFull,
-    /// There would be more than 1,024 tables, or more than 1,024 offered with one ticket. All is as before.
+    /// There would be more than 1,024 tables, or more than 1,024 offered with one ticket.
     TooManyTables,
     /// There would be more than 65,536 states: with a state that is to be made, or after one of the records of a peer's message, even if
-    /// later records would leave fewer. All is as before.
+    /// later records would leave fewer.
     StatesFull,
-    /// A begin needs more counts than are left up to 4,294,967,295, the last of an opening. All is as before: none of them is given.
+    /// A begin needs more counts than are left up to 4,294,967,295, the last of an opening. None of them is given.
     TicketsExhausted,
-    /// The history has as many changes as it may have, as whoever keeps it says. All is as before.
+    /// The history has as many changes as it may have, as whoever keeps it says.
     HistoryFull,
-    /// The device that changes are kept on has no room for this one, or for all of a group, as whoever keeps them says. All is as before.
+    /// The device that changes are kept on has no room for this one, or for all of a group, as whoever keeps them says.
     Full,
     /// The device failed while the change, or a group's changes, were being written. They aren't acknowledged: the next opening may give
     /// them or not, of a group all or none. What is kept, the tickets and what is shown are as before, and until that opening all that may
     /// change something is `Halted`.
     Fault,
-    /// Out of memory. All is as before, and the command may be tried again.
+    /// Out of memory. The command may be tried again.
     Memory,
 }
 

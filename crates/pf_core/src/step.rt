@@ -21,7 +21,8 @@ pub enum Step {
     OfHistory(HistoryCommand),
 }
 
-/// The same, with what the change leaves, which was made to find the outcome.
+/// What a command comes to, if it isn't refused, as `Step` says it. A change that it wants comes with what the change leaves: that is made
+/// to find the outcome, so it isn't made again to be accepted.
 #[derive(Drop)]
 pub enum ReadyStep {
     /// It is answered.

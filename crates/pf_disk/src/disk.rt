@@ -8,8 +8,8 @@ pub struct DiskFault;
 
 /// A device of fixed size. A place is a byte's number from the device's start, from 0.
 ///
-/// What a crash leaves is as long as the device and agrees with what a read gives, but for the unsynced places: there any
-/// bytes may stand. A write adds its range to them from its own start on, and a sync that succeeds empties them at its end.
+/// A crash leaves an image: as many bytes as the device has. At an unsynced place the image may have any byte, and at each other place it
+/// has the byte that a read gives. From the start of a write on its range may be unsynced. After a sync that succeeds no place is.
 ///
 /// A call takes one moment at most, so a bound on the moments of a function over every device bounds the calls that succeed on a
 /// device where each of these is one moment, as it is on `MemDisk`.

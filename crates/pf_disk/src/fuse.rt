@@ -69,9 +69,17 @@ impl<D: Disk> FuseDisk<D> {
         }
     }
 
-    /// Fails call number `k + 1` alone. If that is a write it is torn: its range then holds what the fill says, where `New` are the bytes
-    /// that were to be written, `Inverted` these with all bits inverted, and `Old` what was there, which stays too if the device fails or
-    /// memory for the fill runs out.
+    /// Fails call number `k + 1` alone. If that call is a write it is torn: it fails, and its range then holds what the fill says.
+    ///
+    /// - `Old`: what was there.
+    /// - `New`: the bytes that were to be written.
+    /// - `Inverted`: these with all bits inverted.
+    /// - `Zeros`: bytes 00.
+    /// - `Open`: bytes [`OPEN_GATE`].
+    /// - `Bytes`: of these bytes, one for each place of the device, those at the range's places. If there are too few of them, what was
+    /// there.
+    ///
+    /// If memory for the fill runs out, what was there stays. If the device fails at the torn write, the range is as the device leaves it.
     pub fn torn(alloc: Global, disk: D, k: u64, fill: Fill<'static>) -> FuseDisk<D>
         requires { D.fault_count disk ≤ 2 ^ 63 }
         ensures inner { inner_of result ≡ disk }

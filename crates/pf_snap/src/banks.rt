@@ -21,13 +21,13 @@ pub struct Banks<D: Disk> {
     pub journal: Journal<D>,
     /// The first place of the bank that counts.
     pub at: usize,
-    /// That of the other one.
+    /// The first place of the other bank.
     pub other: usize,
-    /// Whether the other one's gate is open.
+    /// Whether the other bank's gate is open.
     pub other_is_open: bool,
-    /// Of the counting bank, 1 to 3.
+    /// The version of the counting bank's form: 1 to 3.
     pub version: u8,
-    /// Of the counting bank.
+    /// The counting bank's generation: below 2^63 when it was opened, and raised by one with each switch.
     pub generation: u64,
 }
 

@@ -7,9 +7,12 @@ use crate::state::Bound;
 /// What stands in place of a rule's or an anchor's number where there is none.
 pub const ALL_ONES: u32 = u32::MAX;
 
-/// Which rule a state is bound to that comes with the checksum of its rules, a rule's number and an anchor's number: the main rule of that
-/// number if the checksum is that of the main rules here, there is a number, no anchor is named and there is such a rule; else the default
-/// rule.
+/// Which rule a peer's state is bound to. `sum` is the MD5 checksum of the peer's main rules, `rule` the number of the state's rule there,
+/// from 0, and `anchor` the number of its anchor. Either number is `ALL_ONES` if there is none. `current` is the checksum of the main rules
+/// here, and `rule_count` their number.
+///
+/// It is the main rule with that number, if the two checksums are the same, a rule is named, no anchor is, and there is such a rule here.
+/// Otherwise it is the default rule.
 pub fn bind(sum: &[u8; 16], rule: u32, anchor: u32, current: &[u8; 16], rule_count: usize) -> Bound
     ensures { result ≡ bound sum.now rule anchor current.now rule_count }
 {
@@ -24,8 +27,8 @@ pub fn bind(sum: &[u8; 16], rule: u32, anchor: u32, current: &[u8; 16], rule_cou
     }
 }
 
-/// The number of a state's rule in an export, if the main rules have this checksum: that of the rule that it is bound to if it was bound by
-/// these rules, else all ones.
+/// The number of a state's rule in an export, where `current` is the MD5 checksum of the main rules. If the state was bound by rules with
+/// this checksum, it is the number of its rule, from 0. Otherwise it is `ALL_ONES`.
 pub fn exported(bound: &Bound, current: &[u8; 16]) -> u32
     ensures { result ≡ exported bound.now current.now }
 {

@@ -129,8 +129,9 @@ impl Tickets {
         Tickets::starting(alloc, epoch, 1)
     }
 
-    /// The tickets of an opening, none yet, the next of which has this count, from 1 to 4,294,967,295, so that the last counts can be
-    /// reached. With 1 it is `new`, and only then are the tickets what the mentions since the opening leave. It takes no memory.
+    /// The tickets of an opening: none yet. The first that is given has the count `next_count`, from 1 to 4,294,967,295. With 1 it is
+    /// `new`; with a greater one the last counts are reached sooner. What is said of the mentions since an opening is said of tickets that
+    /// began with 1. It takes no memory.
     pub fn starting(alloc: Global, epoch: u32, next_count: u32) -> Tickets
         requires { 0 < next_count }
         ensures { result ≡ tickets_with epoch next_count [] }

@@ -128,8 +128,8 @@ impl Durable {
         Durable::of(alloc, epoch, 0, Config::empty(), StateTable::empty())
     }
 
-    /// These rulesets and tables, and these states, of which none is due, at this tick in the opening with this epoch. `AllocError`: nothing
-    /// is made.
+    /// These rulesets and tables, and these states, at this tick. `opening` is the epoch of the opening. No state may be due at the tick.
+    /// `AllocError`: nothing is made.
     pub fn of(
         alloc: Global,
         opening: u32,
@@ -220,8 +220,8 @@ impl Durable {
         12 + self.config.byte_length() + states_length(&self.states) as u128
     }
 
-    /// Whether a version allows it: one before labels allows no rule that has one, and one before expiries no tick but 0 and no state with an
-    /// expiry. It looks at no rule and at no state, and takes no memory.
+    /// Whether a version allows it: one before labels allows no rule that has one, and one before expiries no tick but 0 and no state with
+    /// an expiry. It looks at no rule and at no state, and takes no memory.
     pub fn is_allowed_in(&self, version: u8) -> bool
         ensures { result ≡ allows version self.now }
     {

@@ -86,8 +86,8 @@ pub fn read_state<'a>(alloc: Global, version: u8, from: &mut Rest<'a>) -> Result
     Ok(State::new(alloc, name, held)?)
 }
 
-/// Appends a state to the bytes, as this version has it, which has to allow it; it fits its form. Fails only when out of memory, and then
-/// what was appended is unspecified.
+/// Appends a state to the bytes, in the form of this version. The version has to allow the state: one without expiries allows only an
+/// expiry of 0. Fails only when out of memory, and then what was appended is unspecified.
 #[tactic(auto, using(crate::proofs::Expiries::state_written, crate::proofs::Expiries::state_fits))]
 pub fn push_state(out: &mut Vec<u8>, version: u8, state: &State) -> Result<(), AllocError>
     requires { allows version state.now ≡ true }
