@@ -1,6 +1,6 @@
 //! Flows.
 ghost use Rattle.std.specs.Prelude.{◌≡◌, ◌<◌, ◌^◌, ◌==◌, ◌&&◌, cond, Some, None};
-ghost use Rattle.pf_state.specs.{FlowKeys.{flow_between, ends_of, inward, key_of}, Flows.{PlainFlow, IsFlow, flow_of, is_flow, turned, same_flow, other_way}};
+ghost use Rattle.pf_state.specs.{FlowKeys.{flow_between, ends_of, inward, key_of}, Flows.{PlainFlow, IsFlow, flow_of, is_flow, same_flow}};
 
 use crate::flow_key::{FlowEnds, FlowKey};
 use pf_addr::Addr;
@@ -32,15 +32,6 @@ impl Model for Flow {
     ghost inverse = { λ f. record { key = key_of f; direction = f.direction } };
 
     ghost inverse_ok = { λ f _. λ i. record { key = key_back f.direction f.key i; direction = f.direction } };
-}
-
-fn other_way(direction: Direction) -> Direction
-    ensures { result ≡ other_way direction }
-{
-    match direction {
-        Direction::In => Direction::Out,
-        Direction::Out => Direction::In,
-    }
 }
 
 // Turns the ends of a flow of this direction into those that incoming packets have, and back.
@@ -106,16 +97,6 @@ impl Flow {
             protocol: packet.protocol(),
         };
         Flow::between(packet.direction(), ends)
-    }
-
-    /// The same flow as the answers have it: the other direction, from the destination to the source.
-    pub fn turned(&self) -> Flow
-        ensures { result ≡ turned self.now }
-    {
-        Flow {
-            key: self.key,
-            direction: other_way(self.direction),
-        }
     }
 
     // The flow in this direction between these ends.
