@@ -229,13 +229,6 @@ impl Core {
         &self.durable
     }
 
-    /// What is kept, shared. `AllocError`: it can't have another owner, and nothing changes.
-    pub fn shared(&self) -> Result<Arc<Durable>, AllocError>
-        ensures { IfOk result (λ d. arc_value d ≡ self.now.durable) }
-    {
-        Arc::try_clone(&self.durable)
-    }
-
     /// The step of one command. If it wants a change, is left to whoever keeps the history, or is refused, the core is as before. A judge,
     /// a test, a sum and a rollback take no memory, and neither does a `track` that is answered without a change or whose tick has come, a
     /// kill of what isn't there or a tick that would go back.
