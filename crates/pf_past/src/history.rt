@@ -76,8 +76,8 @@ impl NewHistory {
     }
 }
 
-/// A front of some history, for a type that can't have the history's name. Contracts see which history it is a front of, and the front
-/// (`PlainTrace`).
+/// A front of a history, as a type without the history's name. Contracts see which history it is a front of, and the front: its changes,
+/// and how many of them were acknowledged (`PlainTrace`).
 #[derive(Drop)]
 pub struct Trace {
     seen: SeenEntries,

@@ -57,8 +57,9 @@ impl<J: Naming, R: Wait + Drop> Shower<J, R> {
         Shower { writer, rt }
     }
 
-    /// One more seer, at the copies that this shower publishes to, that was given all that is shown: each of its verdicts is by no less.
-    /// `None`: all places are in use. There are as many places as [`views`](crate::views) made seers, and a dropped seer frees its place.
+    /// One more seer of the copies that this shower publishes to. It begins with all the changes that are shown, and each of its verdicts
+    /// is by these or more. `None`: all places are in use. There are as many places as [`views`](crate::views) made seers. A dropped seer
+    /// frees its place.
     pub fn told_seer(&self) -> Option<Seer<J>>
         ensures seen { IfSome result (λ s. s.seen ≡ self.now.shown) }
         ensures learnt { IfSome result (λ s. s.learnt ≡ self.now.shown) }
