@@ -388,10 +388,12 @@ impl<D: Disk + Drop, J: Chapter, S: Publisher<J> + Drop> Book<D, J, S> {
     /// memory. The refusals, in this order: `Halted`, if the device failed in an earlier call and the command may change something; the
     /// core's own; `HistoryFull`, if the history has as many changes as it may have; `Full`, exactly if a bank has no room for the change's
     /// record after a snapshot of what was kept before, or fewer than 64 bytes left after a snapshot of what is kept then; `Fault`, if a
-    /// call of the device failed. `Memory` may come instead of any reply but those to a judge, a test, a sum, a rollback, a `log`, a
-    /// `track` that is answered without a change or whose tick has come, a kill of what isn't there and a tick that would go back; but once
-    /// the core has made what a change leaves, the two limits are tested before any more memory is taken. All memory but that for showing is
-    /// taken before the device is written.
+    /// call of the device failed.
+    ///
+    /// `Memory` may come in place of any other reply. It never answers a judge, a test, a sum, a rollback, a `log`, a kill of what isn't
+    /// there, a tick that would go back, or a `track` that is answered without a change or whose tick has come. Once the core has made what
+    /// a change leaves, the two limits are tested before any more memory is taken. All memory but that for showing is taken before the
+    /// device is written.
     ///
     /// An answer makes no call of the device. After every refusal but `Fault` all is as before. After `Fault` the change is in the history,
     /// not acknowledged, all else is as before, and each later command that may change something is `Halted`.
@@ -445,8 +447,8 @@ impl<D: Disk + Drop, J: Chapter, S: Publisher<J> + Drop> Book<D, J, S> {
         let _ = &self.core;
     }
 
-    /// What happens to a packet, by what is kept. It is the call that asks for this, made without its command and its reply, which are long
-    /// to move. It changes nothing, and never runs out of memory.
+    /// What happens to a packet, by what is kept: what `run` answers to a judge of it. The Book stands for the world with that call at its
+    /// end. No command and no reply are made for it, since these take long to move. It changes nothing, and never runs out of memory.
     pub fn judge(&self, packet: &Packet) -> Verdict
         ensures worlds { (first : PlainDurable) (world : List Event) → StandsFor first (world_book self.now) world →
             StandsFor first (world_book self.now) (world ++ called (judging packet.now result) (upshot self.now.shown false) ∷ []) }

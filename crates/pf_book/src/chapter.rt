@@ -7,7 +7,7 @@ use std::marker::Brand;
 pub trait Chapter: Naming {
     ghost use Rattle.pf_core.specs.Worlds.{Setting};
 
-    /// The limits that the opening keeps within.
+    /// The limits of the opening: how many changes its history may have, and when its device is full.
     ghost setting: { Setting };
 }
 

@@ -22,7 +22,8 @@
 //! later history ([`Shared::run`], [`Shared::group`], [`Book::confirm`]), and so does what a seer saw and learnt ([`Book::covers`]); after
 //! `Applied` a worker that has the receipt judges by that change and all before it ([`judge_after`]); and an opening of any image that a
 //! crash leaves goes on with the same world ([`Opening::open`], `laws::crashes_are_opened`). Not proved is that no run meets
-//! `OpenFault::Places` or `Gone`. The crate has no tests: nothing here is only tested.
+//! `OpenFault::Places` or `Gone`. The crate has no tests. Only tests of other crates show that memory runs out only if a growth was
+//! refused.
 //!
 //! What its users need of the devices and of the store is exported again: [`MemDisk`], [`FileDisk`], [`FuseDisk`], [`format`], and
 //! [`Store`] for its `peek`.

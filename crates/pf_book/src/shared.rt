@@ -117,9 +117,9 @@ impl<D: Disk + Drop, J: Chapter, S: Publisher<J> + Drop> Shared<D, J, S> {
         self.locked.lock(rt).group(commands, last)
     }
 
-    /// The Book, once all callers have ended. It confirms each receipt of this opening, and each image of its device holds what a crash
-    /// leaves of the opening, as after each call of `Book::run`: with the next generation at most, and with room for an opening if what the
-    /// last one gave leaves it.
+    /// The Book, once all callers have ended. It confirms each receipt of this opening. As after each call of `Book::run`, each image of
+    /// its device holds what a crash leaves of the opening. That image has the next generation at most, and room for another opening if
+    /// what the last one gave leaves it.
     pub fn close(self) -> Book<D, J, S>
         ensures reached { IsReached J.base J.setting (world_book result) }
         ensures images { (h : CurrentOpening) → IsAt h (world_book result) → (c : List ℕ)

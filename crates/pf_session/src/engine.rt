@@ -45,8 +45,8 @@ impl<D: Disk + Drop, J: Chapter, H: Wait + Drop> AnswerLine for Book<D, J, H> {
 /// Answers the lines of a reader, each with at most one reply, until the reader is at its end.
 ///
 /// The writer is flushed before each read and at the end. A read that was interrupted is made again; there are fewer
-/// than 2^62 reads. The line buffer is allocated before anything is read. A line or a command for which there is no memory
-/// gets that as its reply. What the Book's opening keeps within stays.
+/// than 2^62 reads. The line buffer is allocated before anything is read. If there is no memory for a line or for its command, its reply
+/// says so. The limits of the Book's opening stay as they are.
 ///
 /// `Err(Read)`: a read failed, or there were too many; the whole lines before are answered. `Err(Write)`: a write or a flush failed; some
 /// front of the last reply may be out. `Err(Memory)`: no memory for the line buffer, and nothing was read or written.

@@ -15,6 +15,6 @@ pub const OPENING_RECORD: usize = OPENING_PAYLOAD + AROUND;
 /// Bytes that a bank has left after a snapshot of what is kept, as room for openings' records.
 pub const ROOM_TO_OPEN: usize = 64;
 
-/// Bytes that a bank has left of these at any time. They are eight fewer once a full bank of a version without expiries was switched from,
-/// since a snapshot is eight bytes shorter there.
+/// Bytes that a bank has left after a snapshot of what is kept in the newest version, if a save in any version left [`ROOM_TO_OPEN`]. They
+/// are eight fewer than these, since a snapshot in a version without expiries is eight bytes shorter than one in the newest.
 pub const ROOM_KEPT: usize = ROOM_TO_OPEN - 8;

@@ -167,11 +167,12 @@ fn explain<W: Write, F: Write>(error: &Error, writer: &mut W, faults: &mut F) ->
 
 /// The program, with its words as `env::args` gives them, the program's own name first, and the files that it opens.
 ///
-/// `pfd run [--size N] [--history N]` serves the reader's lines to the writer from a fresh Book, whose history may have so many changes,
-/// 65,536 if the words don't say, over a fresh disk in memory of so many bytes, 1,048,576 if they don't. `pfd run --disk FILE` opens the
-/// disk on the file instead, whose length has to be the size if one is said. It waits by the machine's handle. `pfd format --disk FILE
-/// --size N` makes the file so many bytes long, and a disk that holds nothing. `pfd show --disk FILE` writes what the disk on the file
-/// holds, and leaves the file as it is.
+/// `pfd run [--size N] [--history N]` answers the reader's lines to the writer, from a fresh Book over a fresh disk in memory. `--history`
+/// is how many changes the Book's history may have: 65,536 if the words don't say. `--size` is how many bytes the disk has: 1,048,576 if
+/// they don't. `pfd run --disk FILE` opens the disk on the file instead. The file's length has to be the size, if one is said.
+///
+/// `pfd format --disk FILE --size N` makes the file so many bytes long, and a disk that holds nothing. `pfd show --disk FILE` writes what
+/// the disk on the file holds, and leaves the file as it is.
 ///
 /// `pfd serve --listen ADDR --disk FILE --size N [--workers N] [--history N] [--sessions N]` opens the disk on the file, whose length has
 /// to be the size, listens on the address, and writes `listening ADDR`, with the address that it got, once it can be connected to. It

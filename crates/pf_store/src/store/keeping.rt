@@ -47,7 +47,7 @@ impl<D: Disk> Model for Store<D> {
 impl<D: Disk> Store<D> {
     /// Whether changes that leave `after` find room as one group. They don't if the store is halted. It takes no memory.
     ///
-    /// For 1 to 64 changes that commands can want that is exactly whether their payload has room: if it has room, it has bytes.
+    /// For 1 to 64 changes that commands can want the answer is exactly whether the payload of their record has room.
     pub fn has_room<C: AsChange>(&self, before: &Durable, changes: &[C], after: &Durable) -> bool
         ensures found { IsTrue result ↔ ((self.now.halted ≡ false)
             × FindsRoom self.now.size before.now after.now (map C.as_plain changes.now)) }

@@ -18,10 +18,10 @@ pub fn held_state_is_found()
         → IsUnopened fault image → ¬ SaysNone fault }
 {}
 
-/// If the epoch isn't the last one, and an opening's record has room here or in the other bank, a state that is held by a generation below
-/// 2^63 fails to open only when out of memory or by a fault of the device. There is room if a bank has 56 bytes left after a snapshot of
-/// that state in the newest version. It has if 64 are left after one in the version of the bank that holds the state, which may be an older
-/// one. A snapshot with the next epoch is no longer.
+/// A state that is held by a generation below 2^63 fails to open only when out of memory or by a fault of the device, if its epoch isn't
+/// the last one and an opening's record has room in this bank or in the other. There is room if a bank has 56 bytes left after a snapshot
+/// of the state in the newest version. A bank has 56 left if it has 64 left after a snapshot in the version of the bank that holds the
+/// state, which may be older. A state with the next epoch leaves as much room.
 pub fn state_with_room_is_refused_by_chance_alone()
     ensures chance { (image : List ℕ) (fault : OpenFault) (d : PlainDurable) (held : Holds image d) → generation_of image d held < 2 ^ 63
         → d.epoch < last_epoch → ¬ IsFull image d → IsUnopened fault image → (fault ≡ Memory) ⊎ (fault ≡ Fault) }
