@@ -165,8 +165,8 @@ fn explain<W: Write, F: Write>(error: &Error, writer: &mut W, faults: &mut F) ->
     }
 }
 
-/// The program, with its words as `env::args` gives them, the program's own name first, and the files that it opens. By the machine's handle
-/// it waits, starts threads and opens sockets.
+/// The program, with its words as `env::args` gives them, the program's own name first, and the files that it opens. By the machine's
+/// handle it waits, starts threads and opens sockets.
 ///
 /// `pfd run [--size N] [--history N]` answers the reader's lines to the writer, from a fresh Book over a fresh disk in memory. `--history`
 /// is how many changes the Book's history may have: 65,536 if the words don't say. `--size` is how many bytes the disk has: 1,048,576 if
