@@ -4,6 +4,8 @@ pub mod TablesAt
 pub mod Evaluations
 pub mod PlainRules
 pub mod Turns
+pub mod GivenAt
+pub mod EachKnown
 pub mod AnchorRules
 pub mod Deciding
 pub mod Unreached

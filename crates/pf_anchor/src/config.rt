@@ -2,7 +2,7 @@
 ghost use Rattle.std.specs.{Prelude.{◌≡◌, ◌<◌, ◌^◌, ℕ, true, [], ◌∷◌, length, IfOk, nat_lt}, Option.{MatchOption, option_map}};
 ghost use Rattle.pf_rule.specs.Sum.Layouts.{has_labels};
 ghost use Rattle.pf_anchor.specs.{Forms.{allows_config, config_length, configured}, Tables.{placed_table, table_found, tables_at, named_table, IsTableMap}, Rulesets.{ruled, rules_at, children, IsMap}, Configurations.{nothing, with_rulesets, with_tables}, Limits.{ruleset_refusal, table_refusal}};
-ghost use Rattle.pf_addr.specs.Refusing.{Refuses};
+ghost use Rattle.pf_addr.specs.{Refusing.{Refuses}, Path.Paths.{main}};
 ghost use Rattle.pf_anchor.specs.declared.fault.ConfigFault.TheVariants.{Memory};
 
 use crate::fault::ConfigFault;
@@ -10,7 +10,7 @@ use crate::limits::{RULESET_LIMIT, TABLE_COUNT_LIMIT};
 use crate::rule_list::RuleList;
 use crate::rulesets::{EachRuleset, Placed, Rulesets, in_columns};
 use crate::tables::{EachTable, Place, PlacedTable, Tables};
-use pf_addr::path::{Path, TableName};
+use pf_addr::path::{Path, PathBytes, TableName};
 use pf_key::Sought;
 use pf_map::PagedMap;
 use pf_table::Table;
@@ -222,6 +222,18 @@ impl Config {
         ensures map { IsMap self.now.rulesets }
     {
         self.rulesets.get(path)
+    }
+
+    /// The main ruleset, if it has rules. It comes before all others, so it isn't searched for.
+    pub(crate) fn main_ruleset(&self) -> Option<&Placed>
+        ensures { MatchOption result (rules_at main self.now.rulesets ≡ []) (λ p. p.now ≡ ruled main (rules_at main self.now.rulesets)) }
+    {
+        if let Some(first) = self.each_ruleset().next() {
+            if first.key().as_bytes().is_empty() {
+                return Some(first);
+            }
+        }
+        self.placed_at(&PathBytes { bytes: &[] })
     }
 
     /// How many bytes the rulesets and the tables take where they are kept, with the numbers before them, in each version that has labels.

@@ -1,37 +1,30 @@
 //! Evaluation of rulesets that lead to one another, with tables as their rules name them.
-ghost use Rattle.std.specs.Prelude.{◌≡◌, ◌<◌, ◌≤◌, ◌*◌, ℕ, filter, length, IfSome};
+ghost use Rattle.std.specs.Prelude.{◌≡◌, ◌<◌, ◌≤◌, ◌*◌, ℕ, true, None, filter, length, IfSome, MatchOption};
 ghost use Rattle.pf_addr.specs.Path.Nested.{is_child};
 ghost use Rattle.pf_lanes.specs.{Masks.is_set, Answered.{block_match, eight_from}, Probes.{PlainProbe, asked}};
-ghost use Rattle.pf_anchor.specs.{Rulesets.targets, Tables.tables_say, Blocks.{AreStops, GivesLast, NoneBetween}, Evaluation.{evaluation, effected, in_turn, judged, matching, rules_at_path}};
+ghost use Rattle.pf_anchor.specs.{Rulesets.targets, Tables.tables_say, Blocks.{AreStops, GivesLast, NoneBetween}, Evaluation.{effected, in_turn, matching, rules_at_path}, Known.{IsEnoughFor, ruleset_gives}};
 
 use crate::config::Config;
 use crate::evaluated::{Evaluated, Match};
+use crate::known::{Known, given_for};
 use crate::named_tables::NamedTables;
 use crate::rulesets::Placed;
-use crate::verdict::RuleVerdict;
-use pf_addr::path::{Path, PathBytes, Reference};
+use crate::work::Work;
+use pf_addr::path::{Path, Reference};
 use pf_lanes::{LANES, Probe, eight_of, first_and_last, is_set, match_one_by_one};
 use pf_rule::{Effect, Packet, Rule};
 
-impl Config {
-    /// The verdict of the rules on a packet: the rule that decides by the main ruleset's evaluation (pf.conf(5), PACKET FILTERING and
-    /// ANCHORS), with its ruleset's path and its number there, or the default pass. It takes no memory.
-    #[tactic(auto, using(crate::proofs::Evaluations::default_judged))]
-    pub fn judge(&self, packet: &Packet) -> RuleVerdict
-        ensures { result ≡ judged self.now packet.now }
-    {
-        let Some(main) = self.placed_at(&PathBytes { bytes: &[] }) else {
-            return RuleVerdict::Default;
-        };
-        match evaluate(self, main, packet).last() {
-            Some(found) => RuleVerdict::Rule {
-                path: found.placed.key().copied(),
-                number: found.number,
-                action: found.action,
-            },
-            None => RuleVerdict::Default,
-        }
-    }
+/// What is evaluated, and how what anchor rules lead to is found.
+#[derive(Clone, Copy)]
+pub(crate) struct Question<'k, 'a> {
+    /// The rulesets and the tables.
+    pub config: &'a Config,
+    /// The packet.
+    pub packet: &'k Packet,
+    /// What the rulesets that the rules lead to give, if it is known. If not, they are evaluated.
+    pub known: Option<&'k [Known<'a>]>,
+    /// Whether it ends without an answer once the work that is allowed is done.
+    pub is_bounded: bool,
 }
 
 // Which rules of a block match, with tables as the rules of their ruleset name them.
@@ -114,51 +107,58 @@ fn last_match<'a>(placed: &'a Placed, block: usize, mask: u8) -> Option<Match<'a
 }
 
 /// What a ruleset gives for a packet: its rules in order, and in place of each anchor rule that matches what it leads to (pf.conf(5),
-/// PACKET FILTERING and ANCHORS). It takes no memory, and recurses no deeper than a path has components.
+/// PACKET FILTERING and ANCHORS). It takes no memory, and recurses no deeper than a path has components; if what the rules lead to is
+/// known, it doesn't recurse. None: it is bounded, and the work that is allowed doesn't suffice.
 ///
 /// Eight rules are looked at together, and blocks in which none can match are skipped. The last rule that matches stands, and those before
 /// it are looked at only if a quick or an anchor rule is among them.
 #[cycle(evaluate)]
 #[tactic(auto, using(crate::proofs::Evaluations::none_and_then))]
 pub(crate) fn evaluate<'a>(
-    config: &'a Config,
+    question: &Question<'_, 'a>,
     placed: &'a Placed,
-    packet: &Packet,
-) -> Evaluated<Match<'a>>
-    ensures { result ≡ evaluation config.now.rulesets (matching config.now.tables packet.now) placed.now }
+    work: &mut Work,
+) -> Option<Evaluated<Match<'a>>>
+    requires { IfSome question.now.known (λ ks. IsEnoughFor question.now.config.now question.now.packet.now placed.now.0 ks.now) }
+    ensures { MatchOption result (question.now.is_bounded ≡ true)
+        (λ r. r ≡ ruleset_gives question.now.config.now question.now.packet.now placed.now) }
 {
-    let probe = prepared(placed, packet);
+    let probe = prepared(placed, question.packet);
     let blocks = placed.value().as_slice().len().div_ceil(LANES);
     let mut last = None;
     let mut block = next_near(&probe, 0);
     while block < blocks {
-        let mask = matching_in(config, placed, &probe, packet, block);
+        let mask = matching_in(question.config, placed, &probe, question.packet, block);
         if stopping(placed, block, mask) == 0 {
             last = last_match(placed, block, mask).or(last);
         } else {
-            match each_match(config, placed, packet, block, mask) {
-                Evaluated::Open(latest) => last = latest.or(last),
-                Evaluated::Ended(end) => return Evaluated::Ended(end),
+            match each_match(question, placed, block, mask, work)? {
+                Evaluated::Open(Some(latest)) => last = Some(latest),
+                Evaluated::Open(None) => {}
+                Evaluated::Ended(end) => return Some(Evaluated::Ended(end)),
             }
         }
         block = next_near(&probe, block + 1);
     }
-    Evaluated::Open(last)
+    Some(Evaluated::Open(last))
 }
 
 // What the matching rules of a block give, in order.
 #[cycle(evaluate)]
 #[tactic(auto, using(crate::proofs::Evaluations::none_and_then))]
 fn each_match<'a>(
-    config: &'a Config,
+    question: &Question<'_, 'a>,
     placed: &'a Placed,
-    packet: &Packet,
     block: usize,
     mask: u8,
-) -> Evaluated<Match<'a>>
-    requires { (i : ℕ) → i < 8 → is_set mask i ≡ block_match (tables_say config.now.tables placed.now.0) placed.now.1 packet.now block i }
-    ensures { result ≡ rules_at_path (evaluation config.now.rulesets (matching config.now.tables packet.now)) config.now.rulesets
-        (matching config.now.tables packet.now) placed.now.0 (8 * block) (eight_from (8 * block) placed.now.1) }
+    work: &mut Work,
+) -> Option<Evaluated<Match<'a>>>
+    requires enough { IfSome question.now.known (λ ks. IsEnoughFor question.now.config.now question.now.packet.now placed.now.0 ks.now) }
+    requires mask { (i : ℕ) → i < 8 → is_set mask i
+        ≡ block_match (tables_say question.now.config.now.tables placed.now.0) placed.now.1 question.now.packet.now block i }
+    ensures { MatchOption result (question.now.is_bounded ≡ true)
+        (λ r. r ≡ rules_at_path (ruleset_gives question.now.config.now question.now.packet.now) question.now.config.now.rulesets
+        (matching question.now.config.now.tables question.now.packet.now) placed.now.0 (8 * block) (eight_from (8 * block) placed.now.1)) }
 {
     let mut last = None;
     for (lane, rule) in eight_of(placed.value().as_slice(), block)
@@ -167,100 +167,171 @@ fn each_match<'a>(
     {
         if is_set(mask, lane) {
             let number = (LANES * block + lane) as u32;
-            match effected(config, placed, number, rule, packet).settled(rule.is_quick()) {
-                Evaluated::Open(latest) => last = latest.or(last),
-                Evaluated::Ended(end) => return Evaluated::Ended(end),
+            match effected(question, placed, number, rule, work)? {
+                Evaluated::Open(Some(latest)) => {
+                    if rule.is_quick() {
+                        return Some(Evaluated::Ended(latest));
+                    }
+                    last = Some(latest);
+                }
+                Evaluated::Open(None) => {}
+                Evaluated::Ended(end) => return Some(Evaluated::Ended(end)),
             }
         }
     }
-    Evaluated::Open(last)
+    Some(Evaluated::Open(last))
 }
 
 // What a rule of a ruleset does if it matches.
 #[cycle(evaluate)]
 fn effected<'a>(
-    config: &'a Config,
+    question: &Question<'_, 'a>,
     placed: &'a Placed,
     number: u32,
     rule: &Rule,
-    packet: &Packet,
-) -> Evaluated<Match<'a>>
-    ensures { result ≡ effected (evaluation config.now.rulesets (matching config.now.tables packet.now))
-        config.now.rulesets placed.now.0 number rule.now.effect }
+    work: &mut Work,
+) -> Option<Evaluated<Match<'a>>>
+    requires { IfSome question.now.known (λ ks. IsEnoughFor question.now.config.now question.now.packet.now placed.now.0 ks.now) }
+    ensures { MatchOption result (question.now.is_bounded ≡ true)
+        (λ r. r ≡ effected (ruleset_gives question.now.config.now question.now.packet.now) question.now.config.now.rulesets
+        placed.now.0 number rule.now.effect) }
 {
     match rule.effect() {
-        Effect::Decide(action) => Evaluated::Open(Some(Match {
+        Effect::Decide(action) => Some(Evaluated::Open(Some(Match {
             placed,
             number,
             action,
-        })),
-        Effect::Evaluate(reference) => {
-            evaluate_targets(config, placed.key(), &reference, packet)
-        }
+        }))),
+        Effect::Evaluate(reference) => match question.known {
+            Some(known) => Some(given_for(known, placed.key(), &reference)),
+            None => evaluate_targets(question, placed.key(), &reference, work),
+        },
     }
+}
+
+// Whether the work that is allowed is done once so many rules more are looked at.
+#[inline(always)]
+fn is_past(question: &Question<'_, '_>, rules: usize, work: &mut Work) -> bool
+    ensures { result ≡ true → question.now.is_bounded ≡ true }
+{
+    question.is_bounded && !work.takes(question.config, rules)
+}
+
+// A ruleset that a rule leads to, as far as the work that is allowed suffices.
+#[cycle(evaluate)]
+#[inline(always)]
+fn evaluate_further<'a>(
+    question: &Question<'_, 'a>,
+    placed: &'a Placed,
+    work: &mut Work,
+) -> Option<Evaluated<Match<'a>>>
+    requires { question.now.known ≡ None }
+    ensures { MatchOption result (question.now.is_bounded ≡ true)
+        (λ r. r ≡ ruleset_gives question.now.config.now question.now.packet.now placed.now) }
+{
+    let rules = placed.value().as_slice().len();
+    if is_past(question, rules.saturating_add(1), work) {
+        return None;
+    }
+    evaluate(question, placed, work)
 }
 
 // The rulesets that a rule of the ruleset at a path leads to, in turn.
 #[cycle(evaluate)]
 fn evaluate_targets<'a>(
-    config: &'a Config,
+    question: &Question<'_, 'a>,
     path: &Path,
     reference: &Reference,
-    packet: &Packet,
-) -> Evaluated<Match<'a>>
-    ensures { result ≡ in_turn (evaluation config.now.rulesets (matching config.now.tables packet.now))
-        (targets config.now.rulesets path.now reference.now) }
+    work: &mut Work,
+) -> Option<Evaluated<Match<'a>>>
+    requires { question.now.known ≡ None }
+    ensures { MatchOption result (question.now.is_bounded ≡ true)
+        (λ r. r ≡ in_turn (ruleset_gives question.now.config.now question.now.packet.now)
+        (targets question.now.config.now.rulesets path.now reference.now)) }
 {
     if !path.as_bytes().is_empty() || reference.is_wildcard() {
-        return evaluate_joined(config, path, reference, packet);
+        return evaluate_joined(question, path, reference, work);
     }
     // the names are the path's bytes; no path is made, since one is long to copy
-    match config.placed_at(&reference.path_from_main()) {
-        Some(placed) => evaluate(config, placed, packet),
-        None => Evaluated::Open(None),
+    match question.config.placed_at(&reference.path_from_main()) {
+        Some(placed) => evaluate_further(question, placed, work),
+        None => Some(Evaluated::Open(None)),
     }
 }
 
 // The same, by a path that is made of the ruleset's and the names.
 #[cycle(evaluate)]
 fn evaluate_joined<'a>(
-    config: &'a Config,
+    question: &Question<'_, 'a>,
     path: &Path,
     reference: &Reference,
-    packet: &Packet,
-) -> Evaluated<Match<'a>>
-    ensures { result ≡ in_turn (evaluation config.now.rulesets (matching config.now.tables packet.now))
-        (targets config.now.rulesets path.now reference.now) }
+    work: &mut Work,
+) -> Option<Evaluated<Match<'a>>>
+    requires { question.now.known ≡ None }
+    ensures { MatchOption result (question.now.is_bounded ≡ true)
+        (λ r. r ≡ in_turn (ruleset_gives question.now.config.now question.now.packet.now)
+        (targets question.now.config.now.rulesets path.now reference.now)) }
 {
     // borrowed, since a path is long to move
     let reached = path.joined(reference.names());
     let Some(base) = &reached else {
-        return Evaluated::Open(None);
+        return Some(Evaluated::Open(None));
     };
     if reference.is_wildcard() {
-        return evaluate_children(config, base, packet);
+        return evaluate_children(question, base, work);
     }
-    match config.placed_at(base) {
-        Some(placed) => evaluate(config, placed, packet),
-        None => Evaluated::Open(None),
+    match question.config.placed_at(base) {
+        Some(placed) => evaluate_further(question, placed, work),
+        None => Some(Evaluated::Open(None)),
     }
 }
 
-// The children of a path, in turn.
+// The children of a path, in turn. It looks at each ruleset's path.
 #[cycle(evaluate)]
 #[tactic(auto, using(crate::proofs::Evaluations::none_and_then))]
-fn evaluate_children<'a>(config: &'a Config, path: &Path, packet: &Packet) -> Evaluated<Match<'a>>
-    ensures { result ≡ in_turn (evaluation config.now.rulesets (matching config.now.tables packet.now))
-        (filter (λ e. is_child path.now e.0) config.now.rulesets) }
+fn evaluate_children<'a>(
+    question: &Question<'_, 'a>,
+    path: &Path,
+    work: &mut Work,
+) -> Option<Evaluated<Match<'a>>>
+    requires { question.now.known ≡ None }
+    ensures { MatchOption result (question.now.is_bounded ≡ true)
+        (λ r. r ≡ in_turn (ruleset_gives question.now.config.now question.now.packet.now)
+        (filter (λ e. is_child path.now e.0) question.now.config.now.rulesets)) }
 {
+    if is_past(question, question.config.ruleset_count(), work) {
+        return None;
+    }
     let mut last = None;
-    for placed in config.each_ruleset() {
+    for placed in question.config.each_ruleset() {
         if placed.key().is_child_of(path) {
-            match evaluate(config, placed, packet) {
-                Evaluated::Open(found) => last = found.or(last),
-                Evaluated::Ended(end) => return Evaluated::Ended(end),
+            match evaluate_further(question, placed, work)? {
+                Evaluated::Open(Some(found)) => last = Some(found),
+                Evaluated::Open(None) => {}
+                Evaluated::Ended(end) => return Some(Evaluated::Ended(end)),
             }
         }
     }
-    Evaluated::Open(last)
+    Some(Evaluated::Open(last))
+}
+
+/// What a ruleset gives for a packet where it is known what all gives that its rules lead to. It doesn't recurse, and so takes no work.
+pub(crate) fn evaluate_known<'k, 'a>(
+    config: &'a Config,
+    packet: &'k Packet,
+    placed: &'a Placed,
+    known: &'k [Known<'a>],
+) -> Evaluated<Match<'a>>
+    requires { IsEnoughFor config.now packet.now placed.now.0 known.now }
+    ensures { result ≡ ruleset_gives config.now packet.now placed.now }
+{
+    let known = Some(known);
+    let question = Question {
+        config,
+        packet,
+        known,
+        is_bounded: false,
+    };
+    let mut work = Work::none();
+    evaluate(&question, placed, &mut work).unwrap()
 }

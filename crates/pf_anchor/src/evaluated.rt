@@ -1,6 +1,6 @@
 //! What an evaluation has found.
 ghost use Rattle.std.specs.Prelude.{◌≡◌};
-ghost use Rattle.pf_anchor.specs.Evaluation.{settled, last_of};
+ghost use Rattle.pf_anchor.specs.Evaluation.{last_of};
 
 use crate::rulesets::Placed;
 use pf_rule::Action;
@@ -26,6 +26,19 @@ impl<'a> Model for Match<'a> {
     ghost view = { λ m. found m.placed.now.0 m.number m.action };
 }
 
+impl<'a> Match<'a> {
+    /// The same match.
+    pub(crate) fn copied(&self) -> Match<'a>
+        ensures { result ≡ self.now }
+    {
+        Match {
+            placed: self.placed,
+            number: self.number,
+            action: self.action,
+        }
+    }
+}
+
 /// What an evaluation has found: the last match so far, if any; or that it has ended, at a match.
 #[derive(Drop)]
 pub(crate) enum Evaluated<M> {
@@ -34,16 +47,6 @@ pub(crate) enum Evaluated<M> {
 }
 
 impl<M: Drop> Evaluated<M> {
-    /// The same, but ended if there is a match and the rule is quick.
-    pub(crate) fn settled(self, quick: bool) -> Evaluated<M>
-        ensures { result ≡ settled quick self }
-    {
-        match self {
-            Evaluated::Open(Some(found)) if quick => Evaluated::Ended(found),
-            other => other,
-        }
-    }
-
     /// The last match, if any.
     pub(crate) fn last(self) -> Option<M>
         ensures { result ≡ last_of self }
@@ -51,6 +54,19 @@ impl<M: Drop> Evaluated<M> {
         match self {
             Evaluated::Open(last) => last,
             Evaluated::Ended(found) => Some(found),
+        }
+    }
+}
+
+impl<'a> Evaluated<Match<'a>> {
+    /// The same, once more.
+    pub(crate) fn copied(&self) -> Evaluated<Match<'a>>
+        ensures { result ≡ self.now }
+    {
+        match self {
+            Evaluated::Open(None) => Evaluated::Open(None),
+            Evaluated::Open(Some(last)) => Evaluated::Open(Some(last.copied())),
+            Evaluated::Ended(end) => Evaluated::Ended(end.copied()),
         }
     }
 }

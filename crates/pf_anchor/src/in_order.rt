@@ -1,0 +1,95 @@
+//! Evaluation of all rulesets, each of them once.
+ghost use Rattle.std.specs.{Prelude.{◌≡◌, ◌<◌, ◌≤◌, [], length, take, filter, MatchOption}};
+ghost use Rattle.pf_addr.specs.Path.Paths.{same_path};
+ghost use Rattle.pf_anchor.specs.{Rulesets.IsMap, Evaluation.in_turn, Known.{known_by, placed_of, ruleset_gives}};
+
+use crate::config::Config;
+use crate::evaluate::evaluate_known;
+use crate::evaluated::{Evaluated, Match};
+use crate::known::{Known, given_at};
+use crate::limits::RULESET_LIMIT;
+use crate::rulesets::Placed;
+use pf_addr::path::Path;
+use pf_rule::Packet;
+use std::array;
+
+// Puts the rulesets at the front of a table, in the order of their paths: how many there are. None: there are too many.
+fn listed<'a>(config: &'a Config, table: &mut [Known<'a>]) -> Option<usize>
+    ensures { MatchOption result (length table.old < length config.now.rulesets)
+        (λ n. (n ≤ length table.new) × (placed_of (take n table.new) ≡ config.now.rulesets)) }
+{
+    let mut count = 0;
+    for placed in config.each_ruleset() {
+        if count == table.len() {
+            return None;
+        }
+        table[count] = Known {
+            placed,
+            gives: Evaluated::Open(None),
+        };
+        count += 1;
+    }
+    Some(count)
+}
+
+// Finds what each ruleset of a table gives, from the last to the first: what its rules lead to has a longer path that begins with its own,
+// and so comes later and is known by then. Each ruleset is evaluated once, without recursion.
+fn evaluate_each<'a>(config: &'a Config, packet: &Packet, table: &mut [Known<'a>])
+    requires map { IsMap config.now.rulesets }
+    requires listed { placed_of table.old ≡ config.now.rulesets }
+    ensures { table.new ≡ known_by (ruleset_gives config.now packet.now) config.now.rulesets }
+{
+    let mut left = table.len();
+    while left > 0 {
+        let number = left - 1;
+        let all = &*table;
+        let next = &all[number];
+        let placed = next.placed;
+        let gives = evaluate_known(config, packet, placed, &all[left..]);
+        table[number] = Known { placed, gives };
+        left = number;
+    }
+}
+
+// A table filled with any ruleset.
+fn filled<'a>(any: &'a Placed) -> [Known<'a>; RULESET_LIMIT]
+    ensures { length result ≡ RULESET_LIMIT }
+{
+    array::from_fn(|_| Known {
+        placed: any,
+        gives: Evaluated::Open(None),
+    })
+}
+
+// What the main ruleset gives for a packet, by a table that has room for all rulesets. None: it doesn't.
+fn evaluate_in<'a>(
+    config: &'a Config,
+    packet: &Packet,
+    table: &mut [Known<'a>],
+) -> Option<Evaluated<Match<'a>>>
+    requires { IsMap config.now.rulesets }
+    ensures { MatchOption result (length table.old < length config.now.rulesets)
+        (λ r. r ≡ in_turn (ruleset_gives config.now packet.now) (filter (λ e. same_path [] e.0) config.now.rulesets)) }
+{
+    let count = listed(config, table)?;
+    let rulesets = &mut table[..count];
+    evaluate_each(config, packet, rulesets);
+    Some(given_at(rulesets, &Path::main()))
+}
+
+/// What the main ruleset gives for a packet, by evaluating each ruleset once. It takes no memory, and some 120 kilobytes of the stack. None:
+/// there are more rulesets than there may be.
+#[cold]
+#[inline(never)]
+pub(crate) fn evaluate_in_order<'a>(
+    config: &'a Config,
+    any: &'a Placed,
+    packet: &Packet,
+) -> Option<Evaluated<Match<'a>>>
+    requires { IsMap config.now.rulesets }
+    ensures { MatchOption result (RULESET_LIMIT < length config.now.rulesets)
+        (λ r. r ≡ in_turn (ruleset_gives config.now packet.now) (filter (λ e. same_path [] e.0) config.now.rulesets)) }
+{
+    let mut table = filled(any);
+    evaluate_in(config, packet, &mut table)
+}

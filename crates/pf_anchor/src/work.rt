@@ -1,0 +1,60 @@
+//! How much a packet's evaluation may do before each ruleset is evaluated once instead.
+use crate::config::Config;
+
+// How many rules a packet may look at in any configuration. Few packets need more, so that only these pay for counting all rules.
+const AT_FIRST: usize = 1024;
+
+/// How many rules a packet may still look at by going from ruleset to ruleset: first 1,024, and then once as many as there are in all. It
+/// decides nothing of what an evaluation gives.
+#[derive(Drop)]
+pub(crate) struct Work {
+    left: usize,
+    counts_all: bool,
+}
+
+impl Work {
+    /// What each packet may do.
+    pub(crate) fn allowed() -> Work {
+        Work {
+            left: AT_FIRST,
+            counts_all: false,
+        }
+    }
+
+    /// Nothing.
+    pub(crate) fn none() -> Work {
+        Work {
+            left: 0,
+            counts_all: true,
+        }
+    }
+
+    /// Takes so many from what is left. If there are fewer, it is false.
+    #[inline(always)]
+    pub(crate) fn takes(&mut self, config: &Config, rules: usize) -> bool {
+        if self.left < rules {
+            self.count_all(config);
+        }
+        match self.left.checked_sub(rules) {
+            Some(left) => {
+                self.left = left;
+                true
+            }
+            None => false,
+        }
+    }
+
+    // Once, as many more as all rulesets have rules, and one for each of them.
+    #[cold]
+    #[inline(never)]
+    fn count_all(&mut self, config: &Config) {
+        if self.counts_all {
+            return;
+        }
+        self.counts_all = true;
+        for placed in config.each_ruleset() {
+            let rules = placed.value().as_slice().len();
+            self.left = self.left.saturating_add(rules).saturating_add(1);
+        }
+    }
+}
