@@ -17,7 +17,7 @@ use Rattle.pf_store.proofs.InOrder.{in_order_of, sorted_of}
 use Rattle.pf_store.specs.declared.snapshots.{rulesets.StoredRuleset.StoredRuleset, tables.StoredPlaced.StoredPlaced}
 use Rattle.pf_anchor.specs.Forms.{at_most, RulesShape, rules_form, named_form, entries_form, has_some, ruleset_before, are_rulesets, rulesets_form, plain_ruled, PlacedShape, placed_before, are_tables, placed_form, kept_tables_form, plain_tabled, ruled_in, tabled_in, configured}
 use Rattle.pf_core.specs.Durable.Forms.{DurableShape, tick_form, none_is_due, durable_form, plain_durable, durable_in}
-use Rattle.pf_store.specs.{Durables.{durable_has_form, IsDurable, example_kept, example_rest, example_bytes}, Snapshots.{zeros_of, empty_form, EndsInSnapshot}}
+use Rattle.pf_store.specs.{Durables.{durable_has_form, IsDurable, example_kept, example_rest, example_bytes}, Snapshots.{kept_form, zeros_of, empty_form, EndsInSnapshot, KeptShape}}
 use Rattle.pf_store.proofs.RecordedForms.{entries_told}
 
 -- ---- lists
@@ -259,17 +259,14 @@ one_durable version d e bytes a b = a.told ∙ ap durable_in (one_value (durable
 
 -- the form of the parts, by whether there is a tick
 abbrev parts : ℕ → Bool → Form DurableShape
-parts version has = pair (number 4) (pair (tick_form has) (pair (rulesets_form version) (pair kept_tables_form (states_form version))))
+parts version has = pair (number 4) (pair (tick_form has) (kept_form version))
 
-parts_read : (version : ℕ) (has : Bool) (b0 b1 b2 b3 b4 rest : List ℕ) (epoch tick : ℕ) (rs : List (Value RulesShape)) (ts : List (Value PlacedShape)) (ss : List (Value StateShape))
-    → reads (number 4) b0 ≡ Ok (epoch, b1) → reads (tick_form has) b1 ≡ Ok (tick, b2) → reads (rulesets_form version) b2 ≡ Ok (rs, b3)
-    → reads kept_tables_form b3 ≡ Ok (ts, b4) → reads (states_form version) b4 ≡ Ok (ss, rest)
-    → reads (parts version has) b0 ≡ Ok ((epoch, (tick, (rs, (ts, ss)))), rest)
-parts_read version has b0 b1 b2 b3 b4 rest epoch tick rs ts ss first second third fourth fifth =
-    let tables = pair_read kept_tables_form (states_form version) b3 b4 rest ts ss fourth fifth in
-    let rulesets = pair_read (rulesets_form version) (pair kept_tables_form (states_form version)) b2 b3 rest rs (ts, ss) third tables in
-    let ticks = pair_read (tick_form has) (pair (rulesets_form version) (pair kept_tables_form (states_form version))) b1 b2 rest tick (rs, (ts, ss)) second rulesets in
-    pair_read (number 4) (pair (tick_form has) (pair (rulesets_form version) (pair kept_tables_form (states_form version)))) b0 b1 rest epoch (tick, (rs, (ts, ss))) first ticks
+parts_read : (version : ℕ) (has : Bool) (b0 b1 b2 rest : List ℕ) (epoch tick : ℕ) (kept : Value KeptShape)
+    → reads (number 4) b0 ≡ Ok (epoch, b1) → reads (tick_form has) b1 ≡ Ok (tick, b2) → reads (kept_form version) b2 ≡ Ok (kept, rest)
+    → reads (parts version has) b0 ≡ Ok ((epoch, (tick, kept)), rest)
+parts_read version has b0 b1 b2 rest epoch tick kept first second third =
+    pair_read (number 4) (pair (tick_form has) (kept_form version)) b0 b1 rest epoch (tick, kept) first
+    (pair_read (tick_form has) (kept_form version) b1 b2 rest tick kept second third)
 
 -- none of the states is due at a tick exactly if none is as their data say
 pub none_due : (tick : ℕ) (es : List PlainState) → list_all (λ s. stands tick (state_in s).1) (plain_states es) ≡ all_stand tick es
@@ -277,12 +274,11 @@ none_due tick [] = refl
 none_due tick (e ∷ es) = ap (λ (b : Bool). stands tick e.1 && b) (none_due tick es)
 
 -- they are a snapshot if none of the states is due, and otherwise they go wrong at its first byte
-module _ (version : ℕ) (b0 b1 b2 b3 b4 rest : List ℕ) (epoch tick : ℕ) (rs : List PlainPlaced) (ts : List PlainPlacedTable) (ss : List PlainState)
+module _ (version : ℕ) (b0 b1 b2 rest : List ℕ) (epoch tick : ℕ) (rs : List PlainPlaced) (ts : List PlainPlacedTable) (ss : List PlainState)
     (first : reads (number 4) b0 ≡ Ok (epoch, b1)) (second : reads (tick_form (has_expiry version)) b1 ≡ Ok (tick, b2))
-    (third : reads (rulesets_form version) b2 ≡ Ok (map plain_ruled rs, b3)) (fourth : reads kept_tables_form b3 ≡ Ok (map plain_tabled ts, b4))
-    (fifth : reads (states_form version) b4 ≡ Ok (plain_states ss, rest)) where
+    (third : reads (kept_form version) b2 ≡ Ok ((map plain_ruled rs, (map plain_tabled ts, plain_states ss)), rest)) where
   read : reads (parts version (has_expiry version)) b0 ≡ Ok ((epoch, (tick, (map plain_ruled rs, (map plain_tabled ts, plain_states ss)))), rest)
-  read = parts_read version (has_expiry version) b0 b1 b2 b3 b4 rest epoch tick (map plain_ruled rs) (map plain_tabled ts) (plain_states ss) first second third fourth fifth
+  read = parts_read version (has_expiry version) b0 b1 b2 rest epoch tick (map plain_ruled rs, (map plain_tabled ts, plain_states ss)) first second third
 
   pub durable_read : all_stand tick ss ≡ true
       → reads (durable_form version) b0 ≡ Ok (plain_durable (record { epoch = epoch; tick = tick; config = configured rs ts; states = ss }), rest)

@@ -1,13 +1,11 @@
 //! Snapshots.
-ghost use Rattle.std.specs.{Prelude.{◌≡◌, ◌==◌, ◌||◌, ℕ, true, false, T, List, length, IfOk, IfErr, OnOk}, FinMap.is_sorted, List.list_all};
-ghost use Rattle.pf_addr.specs.Path.Paths.{path_order};
+ghost use Rattle.std.specs.Prelude.{◌≡◌, ◌==◌, ◌||◌, ℕ, true, false, List, length, map, IfOk, IfErr, OnOk};
 ghost use Rattle.pf_form.specs.{Bytes.Forms.{onto, Fits}, Bytes.Readers.Reads};
-ghost use Rattle.pf_state.specs.Layouts.States.{has_expiry};
-ghost use Rattle.pf_anchor.specs.Tables.{table_order};
+ghost use Rattle.pf_state.specs.{Layouts.States.{has_expiry, plain_states}, States.all_stand};
 ghost use Rattle.pf_core.specs.Durable.Changes.{PlainDurable};
-ghost use Rattle.pf_anchor.specs.Forms.{has_some, configured};
+ghost use Rattle.pf_anchor.specs.Forms.{configured, plain_ruled, plain_tabled};
 ghost use Rattle.pf_core.specs.Durable.Forms.{allows, durable_length, tick_form, durable_form, plain_durable};
-ghost use Rattle.pf_store.specs.{Durables.{durable_has_form, durable_has_form_in, IsDurable}, Lengths.snapshot_length, Snapshots.{has_least, EndsInSnapshot}};
+ghost use Rattle.pf_store.specs.{Durables.{durable_has_form, durable_has_form_in, IsDurable}, Lengths.snapshot_length, Snapshots.{has_least, kept_form, AreInOrder, EndsInSnapshot, KeptShape}};
 
 use crate::groups::{GroupFault, unread};
 use crate::limits::EMPTY_LENGTH;
@@ -19,6 +17,7 @@ use pf_core::Durable;
 use pf_form::bytes::{
     Fault, Layout, Rest, Undecoded, decode, push_u32, push_u64, read_u32, read_u64,
 };
+use pf_state::StateTable;
 use pf_state::layouts::{EXPIRY_FROM, push_states, read_states};
 use std::alloc::{AllocError, Global};
 
@@ -45,16 +44,12 @@ impl Layout for Snapshot {
         let left = from.len();
         let epoch = read_u32(from)?;
         let tick = read_tick(version, from)?;
-        let rulesets = read_rulesets(alloc, version, from)?;
-        let tables = read_tables(alloc, version, from)?;
-        let states = read_states(alloc, version, from)?;
-        if !states.all_stand(tick) {
+        let kept = read_kept(alloc, version, from)?;
+        if !kept.states.all_stand(tick) {
             return Err(Undecoded::Fault(Fault::Bad(left)));
         }
-        let config = config_of(alloc, &rulesets, &tables)?;
-        Ok(Snapshot {
-            durable: Durable::of(alloc, epoch, tick, config, states)?,
-        })
+        let durable = durable_of(alloc, epoch, tick, kept)?;
+        Ok(Snapshot { durable })
     }
 
     #[tactic(auto, using(crate::proofs::Durables::durable_formed, crate::proofs::Allowing::snapshot_allowed))]
@@ -62,6 +57,46 @@ impl Layout for Snapshot {
         durable_is_its_data(&self.durable);
         push_durable(out, version, &self.durable)
     }
+}
+
+// What a snapshot has behind its tick.
+#[derive(Drop)]
+struct StoredKept {
+    rulesets: Vec<Placed>,
+    tables: Vec<PlacedTable>,
+    states: StateTable,
+}
+
+// Reads what is behind the tick.
+fn read_kept<'a>(alloc: Global, version: u8, from: &mut Rest<'a>) -> Result<StoredKept, Undecoded>
+    ensures read { Reads {a = KeptShape} (λ k. (map plain_ruled k.rulesets.items, (map plain_tabled k.tables.items, plain_states k.states)))
+        (kept_form version) result from.old.now from.new.now }
+    ensures in_order { IfOk result (λ k. AreInOrder k.rulesets.items k.tables.items) }
+{
+    let rulesets = read_rulesets(alloc, version, from)?;
+    let tables = read_tables(alloc, version, from)?;
+    let states = read_states(alloc, version, from)?;
+    Ok(StoredKept {
+        rulesets,
+        tables,
+        states,
+    })
+}
+
+// What is kept in this opening, at this tick.
+fn durable_of(
+    alloc: Global,
+    opening: u32,
+    tick: u64,
+    kept: StoredKept,
+) -> Result<Durable, AllocError>
+    requires in_order { AreInOrder kept.rulesets.items kept.tables.items }
+    requires standing { all_stand tick kept.states ≡ true }
+    ensures { IfOk result (λ d. d ≡ record
+        { epoch = opening; tick = tick; config = configured kept.rulesets.items kept.tables.items; states = kept.states }) }
+{
+    let config = config_of(alloc, &kept.rulesets, &kept.tables)?;
+    Durable::of(alloc, opening, tick, config, kept.states)
 }
 
 // A tick; none, for 0, in a version without expiries.
@@ -94,10 +129,7 @@ fn config_of(
     rulesets: &[Placed],
     tables: &[PlacedTable],
 ) -> Result<Config, AllocError>
-    requires rulesets { T (is_sorted path_order rulesets.now) }
-    requires rules { list_all (λ r. has_some r.1) rulesets.now ≡ true }
-    requires tables { T (is_sorted table_order tables.now) }
-    requires entries { list_all (λ t. has_some t.1) tables.now ≡ true }
+    requires { AreInOrder rulesets.now tables.now }
     ensures { IfOk result (λ c. c ≡ configured rulesets.now tables.now) }
 {
     Config::of(alloc, rulesets, tables)

@@ -1,9 +1,9 @@
-use Rattle.std.proofs.Common.{◌≡◌, ◌+◌, ◌-◌, ◌<◌, ◌≤◌, ◌∙◌, ℕ, true, false, length, map, sym, ap, subst, inl, inr, arith}
+use Rattle.std.proofs.Common.{◌≡◌, ◌+◌, ◌-◌, ◌<◌, ◌≤◌, ◌∙◌, ℕ, Err, true, false, length, map, sym, ap, subst, inl, inr, arith}
 use Rattle.std.specs.Prelude.{◌⊎◌}
 use Rattle.pf_disk.specs.Disk.{EachMoment}
 use Rattle.pf_core.specs.Durable.Changes.{PlainDurable}
-use Rattle.pf_snap.specs.{Banks.bank_size, declared.header.TheConstants.NEWEST}
-use Rattle.pf_store.specs.{Groups.{allows_group, made_all, IsRecordOf}, Lengths.payload_length, Openings.{IsNoLaterThan, LeavesRoom}, Stores.{FindsRoom, Holds, HoldsEither, IsRoomy, left_by_all}, StoreKept.PlainStore}
+use Rattle.pf_snap.specs.{Banks.bank_size, declared.{banks.Banks.Banks, header.TheConstants.NEWEST}}
+use Rattle.pf_store.specs.{Groups.{allows_group, made_all, IsRecordOf}, Lengths.payload_length, Openings.{IsNoLaterThan, LeavesRoom}, Stores.{FindsRoom, Holds, HoldsEither, IsRoomy, left_by_all}, StoreKept.{PlainStore, store_with}}
 use Rattle.pf_store.proofs.{Allowing.{allowed_there, elsewhere}, Sized.{spare_roomy}}
 use Rattle.pf_store.proofs.Saving.{before, have_held, held_synced, run_roomy, store_has, stores, unmoved, unmoved_generations, unmoved_roomy}
 use Rattle.pf_store.proofs.store.keeping.Store.save.Goals as goal
@@ -229,3 +229,56 @@ returns-in-Ok-add_to-clause-there g c =
     (λ other. c.in-Ok-add_to.ensures.there
     (elsewhere c.goes_here-here.result (allows_group c.self.inside.banks.version (made_all es)) (payload_length (made_all es) + 6) c.room.result c.goes_here-here.ensures.0
     (same_room c.self.inside.banks.journal.gate c.room.result c.self.inside.banks.journal.end (payload_length (made_all es) + 6) c.room.ensures other)))
+
+pub returns-in-Ok-add_to-clause-generations : goal.returns-in-Ok-add_to-clause-generations
+returns-in-Ok-add_to-clause-generations g c going =
+    let d = g.D.Disk in
+    subst (λ (v : PlainStore g.row.D.Denot). EachMoment d.moment d.left_since v.disk c.add_to.new.banks.journal.disk (IsNoLaterThan (v.generation + 1))) c.self.view_is c.add_to.ensures.generations
+
+pub returns-in-Err-Memory-clause-generations : goal.returns-in-Err-Memory-clause-generations
+returns-in-Err-Memory-clause-generations g c going =
+    let d = g.D.Disk in
+    subst (λ (v : PlainStore g.row.D.Denot). EachMoment d.moment d.left_since v.disk c.add_to.new.banks.journal.disk (IsNoLaterThan (v.generation + 1))) c.self.view_is c.add_to.ensures.generations
+
+pub returns-in-Err-Full-clause-generations : goal.returns-in-Err-Full-clause-generations
+returns-in-Err-Full-clause-generations g c going =
+    let d = g.D.Disk in
+    subst (λ (v : PlainStore g.row.D.Denot). EachMoment d.moment d.left_since v.disk c.add_to.new.banks.journal.disk (IsNoLaterThan (v.generation + 1))) c.self.view_is c.add_to.ensures.generations
+
+pub returns-clause-generations : goal.returns-clause-generations
+returns-clause-generations g c going =
+    let d = g.D.Disk in
+    subst (λ (v : PlainStore g.row.D.Denot). EachMoment d.moment d.left_since v.disk c.add_to.new.banks.journal.disk (IsNoLaterThan (v.generation + 1))) c.self.view_is c.add_to.ensures.generations
+
+pub returns-in-Err-Full-clause-any_moment : goal.returns-in-Err-Full-clause-any_moment
+returns-in-Err-Full-clause-any_moment g c going =
+    let d = g.D.Disk in
+    let b = c.self.inside.banks in
+    let es = map g.C.AsChange.as_plain c.args.changes.now in
+    let before = c.args.before.now in
+    let is = subst (λ (v : ℕ). IsRecordOf v (made_all es) c.in-Ok.record) c.version_for-version.ensures c.in-Ok.ensures.made in
+    let run = c.add_to.ensures.any_moment (made_all es) is c.requires.fit in
+    subst (λ (v : PlainStore g.row.D.Denot). EachMoment d.moment d.left_since v.disk c.add_to.new.banks.journal.disk (HoldsEither before c.args.after.now)) c.self.view_is
+    (subst (λ (k : PlainDurable). EachMoment d.moment d.left_since b.journal.disk c.add_to.new.banks.journal.disk (HoldsEither before k)) (sym c.requires.leads) run)
+
+pub returns-in-Err-Memory-clause-unchanged : goal.returns-in-Err-Memory-clause-unchanged
+returns-in-Err-Memory-clause-unchanged g c other =
+    let same = c.in-Err-Memory.ensures.unchanged_without_memory (ap Err c.in-Err-Memory.field-0-is) in
+    ap (λ (b : Banks g.row.D.Denot). store_with g.D.Disk.seen b c.self.inside.halted) same ∙ c.self.view_is
+
+pub returns-in-Err-Full-clause-unchanged : goal.returns-in-Err-Full-clause-unchanged
+returns-in-Err-Full-clause-unchanged g c other =
+    let same = c.in-Err-Full.ensures.unchanged_where_full (ap Err c.in-Err-Full.field-0-is) in
+    ap (λ (b : Banks g.row.D.Denot). store_with g.D.Disk.seen b c.self.inside.halted) same ∙ c.self.view_is
+
+pub returns-in-Ok-add_to-clause-room : goal.returns-in-Ok-add_to-clause-room
+returns-in-Ok-add_to-clause-room g c = (c.has_room.ensures.found.0 c.if-not-has_room.false).1
+
+pub returns-in-Err-Memory-clause-room : goal.returns-in-Err-Memory-clause-room
+returns-in-Err-Memory-clause-room g c = (c.has_room.ensures.found.0 c.if-not-has_room.false).1
+
+pub returns-clause-room : goal.returns-clause-room
+returns-clause-room g c = (c.has_room.ensures.found.0 c.if-not-has_room.false).1
+
+pub returns-in-Err-clause-room : goal.returns-in-Err-clause-room
+returns-in-Err-clause-room g c = (c.has_room.ensures.found.0 c.if-not-has_room.false).1
