@@ -1,5 +1,5 @@
 -- One call of a Book, for each way that it can end.
-use Rattle.std.proofs.{Common.{◌≡◌, inl, inr, ℕ, ◌+◌, ◌<◌, ◌≤◌, min, Bool, true, false, cond, List, [], ◌∷◌, ◌++◌, length, take, Result, Ok, Err, refl, sym, ap, ◌∙◌, subst, append-nil, arith}, Math.Bool.and-false, lemmas.Bool.Decides.nat_tests, lemmas.List.{length-append, take_all, take_min, take-append-le}, lemmas.List.Sums.fold_push}
+use Rattle.std.proofs.{Common.{◌≡◌, ◌⊎◌, inl, inr, ℕ, ◌+◌, ◌<◌, ◌≤◌, min, Bool, true, false, cond, List, [], ◌∷◌, ◌++◌, length, take, Result, Ok, Err, refl, sym, ap, ◌∙◌, subst, append-nil, arith}, Math.Bool.and-false, lemmas.Bool.Decides.nat_tests, lemmas.List.{length-append, take_all, take_min, take-append-le}, lemmas.List.Sums.fold_push}
 use Rattle.std.specs.Prelude.{nat_lt, flat_map, ◌&&◌}
 use Rattle.pf_rule.specs.Packets.{PlainPacket}
 use Rattle.pf_ticket.specs.{Tickets.PlainTickets, Mentions.{after as moved_by, switches}}
@@ -11,7 +11,7 @@ use Rattle.pf_store.specs.Stores.{Holds, HoldsEither}
 use Rattle.pf_disk.specs.Disk.{EachMoment, IsImage}
 use Rattle.pf_disk.proofs.Moments.{started, weakened}
 use Rattle.pf_book.proofs.{HistoryGroups.halted-is, Steps.never-fault}
-use Rattle.pf_book.specs.Books.{BookParts, PlainBook, world_book, world_book_of, StaysUnlessKept, judging, log_in, HasRoom, HoldsFront, HoldsLeft, IsMore, IsKept, IsPending, IsUnkept, IsMade, IsTold, is_fault_reply, shows_all}
+use Rattle.pf_book.specs.Books.{BookParts, PlainBook, IsJudged, IsNumbered, KeepsOpening, world_book, world_book_of, StaysUnlessKept, judging, log_in, HasRoom, HoldsFront, HoldsLeft, IsMore, IsKept, IsPending, IsUnkept, IsMade, IsTold, is_fault_reply, shows_all}
 
 -- a world book with another core
 abbrev pub with_core : WorldBook → PlainCore → WorldBook
@@ -370,6 +370,52 @@ pub told-stays : {D : Type 0} (x : HistoryCommand) (r : Reply) (now new : PlainB
 told-stays Log r now new told device = subst (λ (y : Reply). StaysUnlessKept y now new) (sym told.1) device
 told-stays Publish r now new (inl told) device = subst (λ (y : Reply). StaysUnlessKept y now new) (sym told.0) device
 told-stays Publish r now new (inr told) device = subst (λ (y : Reply). StaysUnlessKept y now new) (sym told.0) (record { same = λ is. (told.1, device); pending = λ is. absurd (cc (is)) })
+
+-- a packet that is asked about is judged
+pub judged-by : (d : PlainDurable) (c : Command) (r : Reply) → ((packet : PlainPacket) → c ≡ Ask (Judge packet) → r ≡ Answered (answer.Judged (verdict d packet))) → IsJudged d c r
+judged-by d (Ask (Judge packet)) r is = is packet refl
+judged-by d c r is = tt
+
+-- a change that was kept is numbered
+pub made-numbered : (r : Reply) (o : Outcome) (e : PlainChange) (old new : WorldBook) → IsMade r o e old new → IsNumbered r new
+made-numbered (Answered a) o e old new made = absurd made
+made-numbered (Applied n p) o e old new (same, kept, was, all) = was.number ∙ ap (λ (b : WorldBook). length (flat b.acked)) (sym all)
+made-numbered (Stored n p) o e old new (same, was) = was.number
+made-numbered (Refused why) o e old new made = tt
+
+pub told-numbered : (x : HistoryCommand) (r : Reply) (old new : WorldBook) → IsTold x r old new → IsNumbered r new
+told-numbered Log r old new told = subst (λ (y : Reply). IsNumbered y new) (sym told.1) tt
+told-numbered Publish r old new (inl told) = subst (λ (y : Reply). IsNumbered y new) (sym told.0) tt
+told-numbered Publish r old new (inr told) = subst (λ (y : Reply). IsNumbered y new) (sym told.0) tt
+
+-- an answer about the history is no fault
+pub told-calm : (x : HistoryCommand) (r : Reply) (old new : WorldBook) → IsTold x r old new → is_fault_reply r ≡ false
+told-calm Log r old new told = ap is_fault_reply told.1
+told-calm Publish r old new (inl told) = ap is_fault_reply told.0
+told-calm Publish r old new (inr told) = ap is_fault_reply told.0
+
+-- it is still the same opening
+by-world : {D : Type 0} (old new : PlainBook D) (b : WorldBook) → world_book new ≡ b → b.base ≡ old.base → b.setting ≡ (world_book old).setting → KeepsOpening old new
+by-world old new b is base setting = record { base = ap (λ (w : WorldBook). w.base) is ∙ base; setting = ap (λ (w : WorldBook). w.setting) is ∙ setting }
+
+pub unkept-opening : {D : Type 0} (old new : PlainBook D) (why : Refusal) (es : List PlainChange) → IsUnkept why (world_book old) (world_book new) es → KeepsOpening old new
+unkept-opening old new Fault es made = by-world old new (record (world_book old) { pending = grouped es }) made.same refl refl
+unkept-opening old new why es made = by-world old new (world_book old) made.0 refl refl
+
+pub kept-opening : {D : Type 0} (old new : PlainBook D) (kept : WorldBook) (es : List PlainChange) → IsMore (world_book old) kept es → (world_book new ≡ shows_all kept) ⊎ (world_book new ≡ kept) → KeepsOpening old new
+kept-opening old new kept es more (inl is) = by-world old new (shows_all kept) is more.base more.setting
+kept-opening old new kept es more (inr is) = by-world old new kept is more.base more.setting
+
+pub made-opening : {D : Type 0} (old new : PlainBook D) (r : Reply) (o : Outcome) (e : PlainChange) → IsMade r o e (world_book old) (world_book new) → KeepsOpening old new
+made-opening old new (Answered a) o e made = absurd made
+made-opening old new (Applied n p) o e (same, kept, was, all) = by-world old new (shows_all kept) all was.more.base was.more.setting
+made-opening old new (Stored n p) o e (same, was) = record { base = was.more.base; setting = was.more.setting }
+made-opening old new (Refused why) o e made = unkept-opening old new why (e ∷ []) made
+
+pub told-opening : {D : Type 0} (x : HistoryCommand) (r : Reply) (old new : PlainBook D) → IsTold x r (world_book old) (world_book new) → KeepsOpening old new
+told-opening Log r old new told = by-world old new (world_book old) told.0 refl refl
+told-opening Publish r old new (inl told) = by-world old new (shows_all (world_book old)) told.1 refl refl
+told-opening Publish r old new (inr told) = by-world old new (world_book old) told.1 refl refl
 
 module _ {D : Type 0} (seen : D → List ℕ) (unsynced : D → ℕ → Bool) (moment : D → ℕ) (left_since : D → ℕ → List ℕ → Type 0) where
   abbrev OnlyNow : D → Type 0

@@ -10,8 +10,8 @@ use Rattle.pf_core.proofs.{Courses.{not-halted, durable-amid, length-with, log-a
 use Rattle.pf_store.specs.Stores.{Holds, HoldsEither}
 use Rattle.pf_disk.specs.Disk.{EachMoment, IsImage}
 use Rattle.pf_disk.proofs.Moments.{weakened}
-use Rattle.pf_book.specs.{Books.{PlainBook, world_book, HasRoom, HoldsFront, HoldsLeft, IsMore, IsPending, AreMade, AreNumbered, StaysUnlessAnyKept, is_fault_result, replied, shows_all}, Courses.IsCalm}
-use Rattle.pf_book.proofs.{Calling.{durable-is, log-acked, front-left, still-left, own}, HistoryGroups.{grouped-some}}
+use Rattle.pf_book.specs.{Books.{PlainBook, world_book, HasRoom, HoldsFront, HoldsLeft, IsMore, KeepsOpening, IsPending, AreMade, AreNumbered, StaysUnlessAnyKept, is_fault_result, replied, shows_all}, Courses.IsCalm}
+use Rattle.pf_book.proofs.{Calling.{durable-is, log-acked, front-left, still-left, kept-opening, own, unkept-opening}, HistoryGroups.{grouped-some}}
 
 -- ---- a calm opening
 
@@ -299,6 +299,12 @@ all-made-stay now new (Err Memory) due es some made device = record { same = λ 
 all-made-stay now new (Err HistoryFull) due es some made device = record { same = λ is. (made.0, device HistoryFull refl refl); pending = λ is. absurd (cc (is)) }
 all-made-stay now new (Err Full) due es some made device = record { same = λ is. (made.0, device Full refl refl); pending = λ is. absurd (cc (is)) }
 all-made-stay now new (Err why) due es some made device = absurd made.1
+
+-- it is still the same opening
+pub all-made-opening : {D : Type 0} (now new : PlainBook D) (result : Result (List Reply) Refusal) (due : List Reply) (es : List PlainChange) → AreMade result due es (world_book now) (world_book new) → KeepsOpening now new
+all-made-opening now new (Ok replies) _ es (kept, more, inl how) = kept-opening now new kept es more (inl how.1)
+all-made-opening now new (Ok replies) _ es (kept, more, inr how) = kept-opening now new kept es more (inr how.1)
+all-made-opening now new (Err why) _ es made = unkept-opening now new why es made
 
 module _ {D : Type 0} (seen : D → List ℕ) (unsynced : D → ℕ → Bool) (moment : D → ℕ) (left_since : D → ℕ → List ℕ → Type 0) where
   -- at each moment an image holds what some crash within the group leaves

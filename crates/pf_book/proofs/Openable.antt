@@ -1,5 +1,5 @@
 -- What a later opening needs, and how calls keep it.
-use Rattle.std.proofs.Common.{◌≡◌, ◌⊎◌, inl, inr, ℕ, ◌+◌, ◌^◌, ◌<◌, ◌≤◌, Bool, List, length, refl, sym, ap, ◌∙◌, subst, arith}
+use Rattle.std.proofs.Common.{◌≡◌, ◌⊎◌, inl, inr, ℕ, ◌+◌, ◌^◌, ◌<◌, ◌≤◌, Bool, false, List, length, refl, sym, ap, ◌∙◌, subst, arith}
 use Rattle.pf_disk.specs.Disk.{EachMoment, IsImage}
 use Rattle.pf_disk.proofs.Moments.{started}
 use Rattle.pf_core.specs.{Durable.Changes.PlainDurable, Worlds.last_epoch}
@@ -7,7 +7,7 @@ use Rattle.pf_store.specs.Banks.{bank_size}
 use Rattle.pf_store.specs.{Openings.{IsNoLaterThan, IsUnopened, LeavesRoom}, Stores.{Holds, IsRoomy}}
 use Rattle.pf_store.specs.declared.store.fault.{OpenFault.OpenFault, OpenFault.TheVariants.{BadSize, NoBank, Corrupt, Memory, Fault, EpochsExhausted, Full, Places}}
 use Rattle.pf_store.proofs.Refusing.{held_is_found, roomy_is_not_full}
-use Rattle.pf_book.specs.Books.{PlainBook, StaysOpenable}
+use Rattle.pf_book.specs.Books.{PlainBook, StaysOpenable, UsesDevice}
 
 pub later : (g h : ℕ) → g ≤ h → (c : List ℕ) → IsNoLaterThan g c → IsNoLaterThan h c
 later g h le c is d held = omega (arith, is d held, le)
@@ -65,4 +65,26 @@ module _ {D : Type 0} (seen : D → List ℕ) (unsynced : D → ℕ → Bool) (m
     size = size ∙ o.size;
     early = subst (λ (d : D). EachMoment moment left_since old.disk d (IsNoLaterThan (old.generation + 1))) (sym disk) o.early;
     roomy = λ base. subst (λ (d : D). EachMoment moment left_since old.disk d LeavesRoom) (sym disk) (o.roomy base);
+  }
+
+-- ---- what a call leaves of the device
+
+module _ {D : Type 0} (moment : D → ℕ) (left_since : D → ℕ → List ℕ → Type 0) (seen : D → List ℕ) (fault_count : D → ℕ) where
+  -- none was made
+  pub uses-none : (old new : PlainBook D) → StaysOpenable moment left_since old new → new.disk ≡ old.disk → UsesDevice moment left_since seen fault_count false old new
+  uses-none old new openable disk = record {
+    openable = openable;
+    moments = omega (arith, ap moment disk);
+    same_size = ap (λ (d : D). length (seen d)) disk;
+    faults = omega (arith, ap fault_count disk);
+  }
+
+  -- nor was any after another call
+  pub uses-then : (failed : Bool) (old mid new : PlainBook D) → UsesDevice moment left_since seen fault_count failed old mid → new.disk ≡ mid.disk → new.generation ≡ mid.generation → new.size ≡ mid.size
+      → UsesDevice moment left_since seen fault_count failed old new
+  uses-then failed old mid new uses disk generation size = record {
+    openable = then-still seen (λ d n. false) moment left_since old mid new uses.openable disk generation size;
+    moments = omega (arith, ap moment disk, uses.moments);
+    same_size = ap (λ (d : D). length (seen d)) disk ∙ uses.same_size;
+    faults = ap fault_count disk ∙ uses.faults;
   }

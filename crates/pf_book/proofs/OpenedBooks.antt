@@ -8,8 +8,8 @@ use Rattle.pf_store.specs.{Stores.HoldsEither, StoreKept.PlainStore}
 use Rattle.pf_past.specs.Pasts.{PlainFront, Begins, front_of}
 use Rattle.pf_past.proofs.Prefixes.{prefix_trans}
 use Rattle.pf_book.specs.Receipts.{ShownFits, token_of}
-use Rattle.pf_book.specs.Books.{BookParts, PlainBook, cut, book_of, world_book, world_book_of, HasRoom, HoldsFront, HoldsLeft, IsBook, StaysOpenable, left_together, log_in}
-use Rattle.pf_book.proofs.{Calling.{front-left, still-either, still-left}, LockedCalls.token-is, Openable.still-openable, HistoryGroups.{acked-is, all-acked, counted-acked, goes-on, take_begins, whole-log}}
+use Rattle.pf_book.specs.Books.{BookParts, PlainBook, cut, book_of, world_book, world_book_of, HasRoom, HoldsFront, HoldsLeft, IsBook, KeepsOpening, StaysOpenable, UsesDevice, left_together, log_in}
+use Rattle.pf_book.proofs.{Calling.{front-left, still-either, still-left}, LockedCalls.token-is, Openable.{still-openable, uses-none}, HistoryGroups.{acked-is, all-acked, counted-acked, goes-on, take_begins, whole-log}}
 
 -- the parts of a Book with this invariant
 abbrev pub parts : {D : Type 0} {seen : D → List ℕ} {unsynced : D → ℕ → Bool} {p : BookParts D} → IsBook seen unsynced p → BookParts D
@@ -35,6 +35,10 @@ module _ {D : Type 0} {seen : D → List ℕ} {unsynced : D → ℕ → Bool} {p
   -- with a core that is as before
   pub core-of : (whole : PlainCore) → whole ≡ p.whole → book_of (record p { whole = whole }) ≡ now
   core-of whole same = ap (λ (w : PlainCore). book_of (record p { whole = w })) same ∙ is
+
+  -- which is of the same opening
+  pub opening-of : (whole : PlainCore) → KeepsOpening now (book_of (record p { whole = whole }))
+  opening-of whole = record { base = ap (λ (b : PlainBook D). b.base) is; setting = ap (λ (b : PlainBook D). (world_book b).setting) is }
 
   -- it begins with a front of its tip, of which no more is acknowledged
   pub begins-of : (past : PlainFront) → Begins past (front_of p.tip) → IsPrefix past.front (log_in (world_book now))
@@ -83,6 +87,12 @@ module _ {D : Type 0} {seen : D → List ℕ} {unsynced : D → ℕ → Bool} {p
 
     pub stays-of : StaysOpenable moment left_since now now
     stays-of = subst (λ (b : PlainBook D). StaysOpenable moment left_since now b) is (openable-of (book_of p) refl refl refl)
+
+    pub quiet-of : (fault_count : D → ℕ) (new : PlainBook D) → new.disk ≡ p.store.disk → new.generation ≡ p.store.generation → new.size ≡ p.store.size → UsesDevice moment left_since seen fault_count false now new
+    quiet-of fault_count new disk generation size = uses-none moment left_since seen fault_count now new (openable-of new disk generation size) (disk ∙ sym disk-of)
+
+    pub rests-of : (fault_count : D → ℕ) → UsesDevice moment left_since seen fault_count false now now
+    rests-of fault_count = uses-none moment left_since seen fault_count now now stays-of refl
 
   -- nothing is pending
   module _ (free : now.pending ≡ []) where

@@ -1,5 +1,5 @@
 -- What contracts see of an opened device and of a Book, and what an image of its device holds.
-use Rattle.std.specs.Prelude.{◌≡◌, ◌⊎◌, ℕ, zero, suc, ◌+◌, ◌<◌, ◌≤◌, ◌^◌, Bool, true, false, nat_lt, List, [], ◌∷◌, ◌++◌, length, slice_get, sum, take, drop, map, flat_map, Vec, ⊤, Option, None, Result, Ok, Err}
+use Rattle.std.specs.Prelude.{◌≡◌, ◌⊎◌, ℕ, zero, suc, ◌+◌, ◌<◌, ◌≤◌, ◌^◌, Bool, true, false, nat_lt, if◌then◌else◌, List, [], ◌∷◌, ◌++◌, length, slice_get, sum, take, drop, map, flat_map, Vec, ⊤, Option, None, Result, Ok, Err}
 use Rattle.std.specs.declared.alloc.Global.{Global}
 use mathlib.Core.List.{IsPrefix}
 use Rattle.logbook.specs.Pages.{Book}
@@ -301,6 +301,19 @@ pub record StaysOpenable {D : Type 0} (moment : D → ℕ) (left_since : D → �
   pub size : new.size ≡ old.size
   pub early : EachMoment moment left_since old.disk new.disk (IsNoLaterThan (old.generation + 1))
   pub roomy : IsRoomy old.size old.base → EachMoment moment left_since old.disk new.disk LeavesRoom
+
+-- What a call leaves of the device, which failed in it or didn't: what a later opening needs; at most ten moments later, and as long.
+pub record UsesDevice {D : Type 0} (moment : D → ℕ) (left_since : D → ℕ → List ℕ → Type 0) (seen : D → List ℕ) (fault_count : D → ℕ)
+    (failed : Bool) (old new : PlainBook D) : Type 0 where
+  pub openable : StaysOpenable moment left_since old new
+  pub moments : moment new.disk ≤ moment old.disk + 10
+  pub same_size : length (seen new.disk) ≡ length (seen old.disk)
+  pub faults : fault_count new.disk ≡ fault_count old.disk + (if failed then 1 else 0)
+
+-- a Book of the same opening, with the same limits
+pub record KeepsOpening {D : Type 0} (old new : PlainBook D) : Type 0 where
+  pub base : new.base ≡ old.base
+  pub setting : (world_book new).setting ≡ (world_book old).setting
 
 -- Each image of the device has the next generation at the latest, and leaves room for an opening if what the last one gave does.
 pub record IsOpenable {D : Type 0} (seen : D → List ℕ) (unsynced : D → ℕ → Bool) (b : PlainBook D) : Type 0 where

@@ -1,8 +1,9 @@
 -- What the commands of a group come to, one after the other, before anything is kept.
-use Rattle.std.specs.Prelude.{◌≡◌, ℕ, List, [], ◌∷◌, length, Option, None, Some, Result, Ok, Err}
-use Rattle.pf_core.specs.declared.{reply.Refusal.Refusal, step.ReadyStep.ReadyStep}
+use Rattle.std.specs.{Prelude.{◌≡◌, ◌≢◌, ℕ, ◌+◌, ◌≤◌, List, [], ◌∷◌, ◌++◌, length, true, Option, None, Some, Result, Ok, Err}, List.list_all}
+use Rattle.pf_core.specs.declared.{command.Command.Command, reply.Refusal.Refusal, reply.Refusal.TheVariants.Memory, reply.Reply.Reply, step.ReadyStep.ReadyStep}
 use Rattle.pf_core.specs.declared.step.ReadyStep.TheVariants as made
-use Rattle.pf_core.specs.{Durable.Changes.{PlainDurable, PlainChange}, Nexts.{PlainNext, next_with}, Cores.PlainCore, Worlds.{CurrentOpening, flat, durable_of}}
+use Rattle.pf_core.specs.{Durable.Changes.{PlainDurable, PlainChange}, Nexts.{PlainNext, next_with}, Cores.{PlainCore, plain}, Worlds.{CurrentOpening, changes_due, changes_of, durable_of, flat, log_of, replies_due, reply_to}}
+use Rattle.pf_store.specs.{Groups.{can_be_wanted, made_all}, Stores.FollowInTurn}
 use Rattle.pf_book.specs.Books.{left_together}
 
 -- in this opening nothing is pending, the core is `w`, and `acked` changes were acknowledged
@@ -26,3 +27,21 @@ found_by d (Some n) = n
 abbrev pub left_to : Result ReadyStep Refusal → Option PlainNext → Option PlainNext
 left_to (Ok (made.Wants e n o)) before = Some n
 left_to step before = before
+
+-- A step was taken after these replies and changes, of which the last left `left`: its reply was told, its change noted, and what all leave
+-- is known.
+pub record HasTaken (acked : ℕ) (step : Result ReadyStep Refusal) (told told' : List Reply) (noted noted' : List PlainChange) (left left' : Option PlainNext) : Type 0 where
+  pub replies : (h : CurrentOpening) → length (log_of h) ≡ acked + length noted → told' ≡ told ++ reply_to h (plain step) ∷ []
+  pub changes : noted' ≡ noted ++ changes_of (plain step)
+  pub next : left' ≡ left_to step left
+  pub known : plain step ≢ Err Memory
+
+-- What the commands come to in a calm opening: the replies and the changes that are due, and what these leave. The changes can be kept as one
+-- group.
+pub record IsCourseOf (w : PlainCore) (acked : ℕ) (commands : List Command) (due : List Reply) (es : List PlainChange) (left : Option PlainNext) : Type 0 where
+  pub replies : (h : CurrentOpening) → IsCalm h w acked → due ≡ replies_due h [] commands
+  pub changes : (h : CurrentOpening) → IsCalm h w acked → es ≡ changes_due h [] commands
+  pub next : left ≡ ready_of w.durable es
+  pub fit : FollowInTurn w.durable (made_all es)
+  pub wanted : list_all can_be_wanted es ≡ true
+  pub few : length es ≤ length commands

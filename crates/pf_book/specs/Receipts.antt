@@ -5,7 +5,7 @@ use Rattle.pf_core.specs.declared.{command.Command.Command, reply.Reply.Reply, r
 use Rattle.pf_core.specs.{Calls.call, Durable.Changes.{PlainDurable, PlainChange}, WorldBooks.{WorldBook, StandsFor}, Worlds.{Setting, CurrentOpening, Upshot, Event, up, down, called, flat, log_of, group_in, heard, state_after, IsWorld}}
 use Rattle.pf_past.specs.Pasts.{PlainFront}
 use Rattle.pf_view.specs.Seers.{PlainSeer, learns}
-use Rattle.pf_book.specs.Books.{change_in}
+use Rattle.pf_book.specs.Books.{change_in, log_in}
 
 -- ---- receipts
 
@@ -69,6 +69,14 @@ ShownFits (Applied seq outcome) shown all = shown ≡ all
 ShownFits (Stored seq outcome) shown all = ⊤
 ShownFits (Refused e) shown all = ⊤
 
+-- what the receipt of a reply says of the Book after it
+pub record IsReceiptOf (r : Reply) (slip : PlainReceipt) (old new : WorldBook) : Type 0 where
+  pub front : slip.front ≡ log_in new
+  pub acked : slip.acked ≡ length (flat new.acked)
+  pub shown : slip.shown ≡ new.shown
+  pub given : IsGiven r slip.change old new
+  pub token : slip.token ≡ token_of r (log_in new)
+
 -- The history begins with the front of the receipt that was handed in, if any. What was acknowledged at its reply still is, and so is the
 -- receipt's change, if it has one.
 abbrev pub Follows : Option PlainReceipt → List PlainChange → ℕ → Type 0
@@ -77,6 +85,11 @@ Follows last log acked = ForSome last (λ l. IsPrefix l.front log × (l.acked �
 -- Where the receipt is handed in, if there is one, so many changes are shown, which are no fewer than at its reply.
 abbrev pub ShowsNoLess : Option PlainReceipt → ℕ → Type 0
 ShowsNoLess last shown = ForSome last (λ l. l.shown ≤ shown)
+
+-- what a Book finds that is handed a receipt, or none
+pub record TakesUp (last : Option PlainReceipt) (b : WorldBook) : Type 0 where
+  pub follows : Follows last (log_in b) (length (flat b.acked))
+  pub shows : ShowsNoLess last b.shown
 
 -- One receipt comes after another: its front begins with that of the other, and is longer if the receipt has a change. No fewer changes
 -- were acknowledged and shown at its reply.

@@ -8,7 +8,7 @@ ghost use Rattle.pf_store.specs.declared.store.fault.OpenFault.TheVariants as op
 ghost use Rattle.pf_store.specs.{Groups.{can_be_wanted, is_group, made_all}, Stores.{FindsRoom, FollowInTurn, HoldsEither}};
 ghost use Rattle.pf_view.specs.Seers.{IsNewSeer, IsNewShower, JudgesBy};
 ghost use Rattle.pf_book.specs.Receipts.{IsGiven, IsReached};
-ghost use Rattle.pf_book.specs.Books.{world_book, HoldsLeft, HasRoom, HasNoRoom, left_together, IsMore, IsUnkept, IsUnshown, IsMade, IsTold, Stays, IsOpenable, StaysOpenable, StaysUnlessKept, shows_all, change_in, log_in, is_fault_reply, is_fault_result, IsNumbered, IsJudged, IsNamed, setting_of, judging};
+ghost use Rattle.pf_book.specs.Books.{world_book, HoldsLeft, HasRoom, HasNoRoom, left_together, IsMore, IsUnkept, IsUnshown, IsMade, IsTold, Stays, IsOpenable, KeepsOpening, StaysOpenable, StaysUnlessKept, UsesDevice, shows_all, change_in, log_in, is_fault_reply, is_fault_result, IsNumbered, IsJudged, IsNamed, setting_of, judging};
 
 mod groups;
 mod receipts;
@@ -222,10 +222,7 @@ impl<D: Disk + Drop, J: Chapter, S: Publisher<J> + Drop> Book<D, J, S> {
         ensures any_moment { EachMoment D.moment D.left_since self.old.disk self.new.disk
             (HoldsEither self.old.whole.durable (applied self.old.whole.durable change)) }
         ensures still { IfErr result (λ e. is_fault e ≡ false → self.new.disk ≡ self.old.disk) }
-        ensures openable { StaysOpenable D.moment D.left_since self.old self.new }
-        ensures moments { D.moment self.new.disk ≤ D.moment self.old.disk + 10 }
-        ensures same_size { length (D.seen self.new.disk) ≡ length (D.seen self.old.disk) }
-        ensures faults { D.fault_count self.new.disk ≡ D.fault_count self.old.disk + (if is_fault_result result then 1 else 0) }
+        ensures device { UsesDevice D.moment D.left_since D.seen D.fault_count (is_fault_result result) self.old self.new }
     {
         self.find_room(from_ref(&change), &next)?;
         let change = share(self.alloc, change)?;
@@ -245,10 +242,7 @@ impl<D: Disk + Drop, J: Chapter, S: Publisher<J> + Drop> Book<D, J, S> {
         ensures any_moment { EachMoment D.moment D.left_since self.old.disk self.new.disk
             (HoldsEither self.old.whole.durable (after self.old.whole.durable (map arc_value changes.now))) }
         ensures still { IfErr result (λ e. is_fault e ≡ false → self.new.disk ≡ self.old.disk) }
-        ensures openable { StaysOpenable D.moment D.left_since self.old self.new }
-        ensures moments { D.moment self.new.disk ≤ D.moment self.old.disk + 10 }
-        ensures same_size { length (D.seen self.new.disk) ≡ length (D.seen self.old.disk) }
-        ensures faults { D.fault_count self.new.disk ≡ D.fault_count self.old.disk + (if is_fault_result result then 1 else 0) }
+        ensures device { UsesDevice D.moment D.left_since D.seen D.fault_count (is_fault_result result) self.old self.new }
     {
         let Copies {
             logged,
@@ -313,10 +307,7 @@ impl<D: Disk + Drop, J: Chapter, S: Publisher<J> + Drop> Book<D, J, S> {
         ensures any_moment { EachMoment D.moment D.left_since self.old.disk self.new.disk
             (HoldsEither self.old.whole.durable (applied self.old.whole.durable change)) }
         ensures still { (e : Refusal) → result.0 ≡ Reply.Refused e → is_fault e ≡ false → self.new.disk ≡ self.old.disk }
-        ensures openable { StaysOpenable D.moment D.left_since self.old self.new }
-        ensures moments { D.moment self.new.disk ≤ D.moment self.old.disk + 10 }
-        ensures same_size { length (D.seen self.new.disk) ≡ length (D.seen self.old.disk) }
-        ensures faults { D.fault_count self.new.disk ≡ D.fault_count self.old.disk + (if is_fault_reply result.0 then 1 else 0) }
+        ensures device { UsesDevice D.moment D.left_since D.seen D.fault_count (is_fault_reply result.0) self.old self.new }
     {
         match self.keep(change, next) {
             Ok(given) => {
@@ -363,12 +354,8 @@ impl<D: Disk + Drop, J: Chapter, S: Publisher<J> + Drop> Book<D, J, S> {
         ensures given { IsGiven result.0 (option_map arc_value result.1) (world_book self.old) (world_book self.new) }
         ensures numbered { IsNumbered result.0 (world_book self.new) }
         ensures judged { IsJudged self.old.whole.durable command.now result.0 }
-        ensures openable { StaysOpenable D.moment D.left_since self.old self.new }
-        ensures moments { D.moment self.new.disk ≤ D.moment self.old.disk + 10 }
-        ensures same_size { length (D.seen self.new.disk) ≡ length (D.seen self.old.disk) }
-        ensures faults { D.fault_count self.new.disk ≡ D.fault_count self.old.disk + (if is_fault_reply result.0 then 1 else 0) }
-        ensures base { self.new.base ≡ self.old.base }
-        ensures setting { (world_book self.new).setting ≡ (world_book self.old).setting }
+        ensures device { UsesDevice D.moment D.left_since D.seen D.fault_count (is_fault_reply result.0) self.old self.new }
+        ensures opening { KeepsOpening self.old self.new }
         ensures stays { StaysUnlessKept result.0 self.old self.new }
     {
         if self.acked < self.log.len() && may_change(command) {

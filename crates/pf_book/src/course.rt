@@ -1,11 +1,10 @@
 //! What the commands of a group come to, one after the other, before anything is kept.
-ghost use Rattle.std.specs.{Prelude.{◌≡◌, ◌≢◌, ◌≤◌, ◌<◌, ◌+◌, ◌^◌, ◌++◌, ◌∷◌, [], List, IfOk, OnOk, Ok, Err, true, length, map}, List.{AllByRecursion, list_all}};
+ghost use Rattle.std.specs.{Prelude.{◌≡◌, ◌≢◌, ◌<◌, ◌^◌, IfOk, OnOk, Ok, Err, true, length, map}, List.AllByRecursion};
 ghost use Rattle.pf_ticket.specs.{Laws.Tickets.IsWithin as AreTicketsWithin, Mentions.{after as moved_by, switches}};
 ghost use Rattle.pf_core.specs.declared.reply.Refusal.TheVariants as told;
 ghost use Rattle.pf_core.specs.declared.{command.HistoryCommand.HistoryCommand, step.Step.TheVariants.OfHistory};
-ghost use Rattle.pf_core.specs.{Commands.{may_be_grouped, step_by}, Cores.{plain, IsMadeFrom}, Worlds.{CurrentOpening, log_of, as_stored, changes_of, changes_due, replies_due, reply_to}};
-ghost use Rattle.pf_store.specs.{Groups.{can_be_wanted, made_all}, Stores.FollowInTurn};
-ghost use Rattle.pf_book.specs.Courses.{IsCalm, ready_of, found_by, left_to};
+ghost use Rattle.pf_core.specs.{Commands.{may_be_grouped, step_by}, Cores.{plain, IsMadeFrom}, Worlds.as_stored};
+ghost use Rattle.pf_book.specs.Courses.{HasTaken, IsCourseOf, found_by};
 
 use pf_core::{Change, Command, Core, Next, ReadyStep, Refusal, Reply};
 use std::alloc::{AllocError, Global};
@@ -39,11 +38,8 @@ impl Course {
     fn take(&mut self, acked: usize, step: Result<ReadyStep, Refusal>) -> Result<(), AllocError>
         requires few { (acked < 2 ^ 62) × (length self.old.changes.items < 2 ^ 62) }
         requires own { (x : HistoryCommand) → plain step ≢ Ok (OfHistory x) }
-        ensures replies { OnOk result ((h : CurrentOpening) → length (log_of h) ≡ acked + length self.old.changes.items
-            → self.new.replies.items ≡ self.old.replies.items ++ reply_to h (plain step) ∷ []) }
-        ensures changes { OnOk result (self.new.changes.items ≡ self.old.changes.items ++ changes_of (plain step)) }
-        ensures next { OnOk result (self.new.next ≡ left_to step self.old.next) }
-        ensures known { OnOk result (plain step ≢ Err told.Memory) }
+        ensures { OnOk result (HasTaken acked step self.old.replies.items self.new.replies.items self.old.changes.items self.new.changes.items
+            self.old.next self.new.next) }
     {
         match step {
             Ok(ReadyStep::Done(answer)) => self.replies.push(Reply::Answer(answer))?,
@@ -71,12 +67,7 @@ pub(crate) fn course_of(
     requires may { AllByRecursion (λ c. may_be_grouped c ≡ true) commands.now }
     requires few { (acked < 2 ^ 62) × (length commands.now < 2 ^ 62) }
     requires tickets { AreTicketsWithin core.old.tickets }
-    ensures replies { IfOk result (λ r. (h : CurrentOpening) → IsCalm h core.old acked → r.replies.items ≡ replies_due h [] commands.now) }
-    ensures changes { IfOk result (λ r. (h : CurrentOpening) → IsCalm h core.old acked → r.changes.items ≡ changes_due h [] commands.now) }
-    ensures next { IfOk result (λ r. r.next ≡ ready_of core.old.durable r.changes.items) }
-    ensures fit { IfOk result (λ r. FollowInTurn core.old.durable (made_all r.changes.items)) }
-    ensures wanted { IfOk result (λ r. list_all can_be_wanted r.changes.items ≡ true) }
-    ensures few { IfOk result (λ r. length r.changes.items ≤ length commands.now) }
+    ensures course { IfOk result (λ r. IsCourseOf core.old acked commands.now r.replies.items r.changes.items r.next) }
     ensures same { core.new ≡ core.old }
 {
     let mut course = Course {

@@ -5,7 +5,7 @@ ghost use Rattle.pf_core.specs.Refusing.{and_then, unless};
 ghost use Rattle.pf_core.specs.declared.reply.Refusal.TheVariants as told;
 ghost use Rattle.pf_core.specs.{Calls.replies_in, Commands.group_words, Durable.Changes.{PlainDurable, after}, WorldBooks.{IsAt, StandsFor, LeadsGroup}, Worlds.{CurrentOpening, idle, grouping, upshot, Event, called_group, changes_due, is_fault, is_halted, flat, LegalReplies, shown_by}};
 ghost use Rattle.pf_store.specs.{Groups.{can_be_wanted, is_group, made_all}, Stores.{FollowInTurn, HoldsEither}};
-ghost use Rattle.pf_book.specs.Books.{world_book, HoldsLeft, left_together, listed, replied, IsMore, IsUnkept, AreMade, AreNumbered, StaysOpenable, StaysUnlessAnyKept, is_fault_result};
+ghost use Rattle.pf_book.specs.Books.{world_book, HoldsLeft, left_together, listed, replied, IsMore, IsUnkept, AreMade, AreNumbered, KeepsOpening, StaysOpenable, StaysUnlessAnyKept, UsesDevice, is_fault_result};
 
 use crate::book::Book;
 use crate::chapter::Chapter;
@@ -40,10 +40,7 @@ impl<D: Disk + Drop, J: Chapter, S: Publisher<J> + Drop> Book<D, J, S> {
         ensures any_moment { EachMoment D.moment D.left_since self.old.disk self.new.disk
             (HoldsEither self.old.whole.durable (after self.old.whole.durable changes.items)) }
         ensures still { IfErr result (λ e. is_fault e ≡ false → self.new.disk ≡ self.old.disk) }
-        ensures openable { StaysOpenable D.moment D.left_since self.old self.new }
-        ensures moments { D.moment self.new.disk ≤ D.moment self.old.disk + 10 }
-        ensures same_size { length (D.seen self.new.disk) ≡ length (D.seen self.old.disk) }
-        ensures faults { D.fault_count self.new.disk ≡ D.fault_count self.old.disk + (if is_fault_result result then 1 else 0) }
+        ensures device { UsesDevice D.moment D.left_since D.seen D.fault_count (is_fault_result result) self.old self.new }
     {
         self.find_room(changes.as_slice(), &next)?;
         let changes = share_all(self.alloc, changes)?;
@@ -68,10 +65,7 @@ impl<D: Disk + Drop, J: Chapter, S: Publisher<J> + Drop> Book<D, J, S> {
         ensures any_moment { EachMoment D.moment D.left_since self.old.disk self.new.disk
             (HoldsEither self.old.whole.durable (after self.old.whole.durable changes.items)) }
         ensures still { IfErr result (λ e. is_fault e ≡ false → self.new.disk ≡ self.old.disk) }
-        ensures openable { StaysOpenable D.moment D.left_since self.old self.new }
-        ensures moments { D.moment self.new.disk ≤ D.moment self.old.disk + 10 }
-        ensures same_size { length (D.seen self.new.disk) ≡ length (D.seen self.old.disk) }
-        ensures faults { D.fault_count self.new.disk ≡ D.fault_count self.old.disk + (if is_fault_result result then 1 else 0) }
+        ensures device { UsesDevice D.moment D.left_since D.seen D.fault_count (is_fault_result result) self.old self.new }
     {
         match self.keep_all(changes, next) {
             Ok(given) => {
@@ -106,12 +100,8 @@ impl<D: Disk + Drop, J: Chapter, S: Publisher<J> + Drop> Book<D, J, S> {
         ensures any_moment { (h : CurrentOpening) → IsAt h (world_book self.old)
             → EachMoment D.moment D.left_since self.old.disk self.new.disk (HoldsLeft h (grouping commands.now)) }
         ensures given { IfOk result (λ r. (h : CurrentOpening) → IsAt h (world_book self.old) → map arc_value r.1.items ≡ changes_due h [] commands.now) }
-        ensures openable { StaysOpenable D.moment D.left_since self.old self.new }
-        ensures moments { D.moment self.new.disk ≤ D.moment self.old.disk + 10 }
-        ensures same_size { length (D.seen self.new.disk) ≡ length (D.seen self.old.disk) }
-        ensures faults { D.fault_count self.new.disk ≡ D.fault_count self.old.disk + (if is_fault_result result then 1 else 0) }
-        ensures base { self.new.base ≡ self.old.base }
-        ensures setting { (world_book self.new).setting ≡ (world_book self.old).setting }
+        ensures device { UsesDevice D.moment D.left_since D.seen D.fault_count (is_fault_result result) self.old self.new }
+        ensures opening { KeepsOpening self.old self.new }
         ensures stays { StaysUnlessAnyKept (replied result) self.old self.new }
     {
         self.check_all(commands)?;

@@ -4,7 +4,7 @@ ghost use Rattle.pf_disk.specs.Disk.{EachMoment};
 ghost use Rattle.std.specs.{Arc.arc_value, List.AllByRecursion, Option.{ForSome, option_copied, option_map}, Vec.Iter.into_iter_items};
 ghost use mathlib.Core.List.{IsPrefix};
 ghost use Rattle.pf_core.specs.{Calls.call, WorldBooks.{IsAt, Leads, LeadsGroup}, Worlds.{CurrentOpening, calling, grouping, flat, upshot}};
-ghost use Rattle.pf_book.specs.{Groups.{told, replies_of, HasReceipts, HaveShown}, Pairs.{behind, is_kept, given_to, kept_count, left_behind, paired, slip_at}, Books.{StaysUnlessAnyKept, HoldsLeft, StaysOpenable, StaysUnlessKept, world_book, log_in}, Receipts.{token_of, Confirms, EndsIn, Follows, IsGiven, ShownFits, ShowsNoLess}};
+ghost use Rattle.pf_book.specs.{Groups.{told, replies_of, HasReceipts, HaveShown}, Pairs.{behind, is_kept, given_to, kept_count, left_behind, paired, slip_at}, Books.{KeepsOpening, StaysUnlessAnyKept, HoldsLeft, StaysOpenable, StaysUnlessKept, world_book, log_in}, Receipts.{token_of, Confirms, EndsIn, TakesUp, IsReceiptOf, ShownFits}};
 
 use crate::book::Book;
 use crate::chapter::Chapter;
@@ -64,16 +64,10 @@ impl<D: Disk + Drop, J: Chapter, S: Publisher<J> + Drop> Book<D, J, S> {
         ensures any_moment { (h : CurrentOpening) → IsAt h (world_book self.old)
             → EachMoment D.moment D.left_since self.old.disk self.new.disk (HoldsLeft h (calling command.now)) }
         ensures openable { StaysOpenable D.moment D.left_since self.old self.new }
-        ensures front { result.1.front ≡ log_in (world_book self.new) }
-        ensures acked { result.1.acked ≡ length (flat self.new.acked) }
-        ensures shown { result.1.shown ≡ self.new.shown }
-        ensures given { IsGiven result.0 result.1.change (world_book self.old) (world_book self.new) }
-        ensures token { result.1.token ≡ token_of result.0 (log_in (world_book self.new)) }
+        ensures receipt { IsReceiptOf result.0 result.1 (world_book self.old) (world_book self.new) }
         ensures stays { StaysUnlessKept result.0 self.old self.new }
-        ensures follows { Follows (option_copied last.entry) (log_in (world_book self.old)) (length (flat self.old.acked)) }
-        ensures shows { ShowsNoLess (option_copied last.entry) self.old.shown }
-        ensures base { self.new.base ≡ self.old.base }
-        ensures setting { (world_book self.new).setting ≡ (world_book self.old).setting }
+        ensures last { TakesUp (option_copied last.entry) (world_book self.old) }
+        ensures opening { KeepsOpening self.old self.new }
     {
         self.look_at(last);
         let (reply, change) = self.call(command);
@@ -95,10 +89,8 @@ impl<D: Disk + Drop, J: Chapter, S: Publisher<J> + Drop> Book<D, J, S> {
         ensures shown { HaveShown self.new.shown (told result) }
         ensures openable { StaysOpenable D.moment D.left_since self.old self.new }
         ensures stays { StaysUnlessAnyKept (replies_of (told result)) self.old self.new }
-        ensures follows { Follows (option_copied last.entry) (log_in (world_book self.old)) (length (flat self.old.acked)) }
-        ensures shows { ShowsNoLess (option_copied last.entry) self.old.shown }
-        ensures base { self.new.base ≡ self.old.base }
-        ensures setting { (world_book self.new).setting ≡ (world_book self.old).setting }
+        ensures last { TakesUp (option_copied last.entry) (world_book self.old) }
+        ensures opening { KeepsOpening self.old self.new }
     {
         self.look_at(last);
         self.answer_each(commands)
@@ -114,8 +106,7 @@ impl<D: Disk + Drop, J: Chapter, S: Publisher<J> + Drop> Book<D, J, S> {
         ensures shown { HaveShown self.new.shown (told result) }
         ensures openable { StaysOpenable D.moment D.left_since self.old self.new }
         ensures stays { StaysUnlessAnyKept (replies_of (told result)) self.old self.new }
-        ensures base { self.new.base ≡ self.old.base }
-        ensures setting { (world_book self.new).setting ≡ (world_book self.old).setting }
+        ensures opening { KeepsOpening self.old self.new }
     {
         self.check_all(commands)?;
         let answers = Vec::with_capacity(self.alloc, commands.len())?;
@@ -129,8 +120,7 @@ impl<D: Disk + Drop, J: Chapter, S: Publisher<J> + Drop> Book<D, J, S> {
     // What the receipt that was handed in, if any, says of the history.
     fn look_at(&mut self, last: Option<&Receipt<J>>)
         ensures same { self.new ≡ self.old }
-        ensures follows { Follows (option_copied last.entry) (log_in (world_book self.old)) (length (flat self.old.acked)) }
-        ensures shows { ShowsNoLess (option_copied last.entry) self.old.shown }
+        ensures last { TakesUp (option_copied last.entry) (world_book self.old) }
     {
         if let Some(last) = last {
             self.begins_with(last);

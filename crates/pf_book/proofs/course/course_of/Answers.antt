@@ -1,4 +1,4 @@
-use Rattle.std.proofs.{Common.{◌≡◌, ◌≢◌, ◌+◌, ◌<◌, ◌≤◌, ℕ, [], List, ◌∷◌, ◌++◌, drop, length, Ok, Err, Option, Result, refl, sym, ap, ◌∙◌, subst, arith}, lemmas.List.drop_more}
+use Rattle.std.proofs.{Common.{◌≡◌, ◌≢◌, ◌+◌, ◌<◌, ◌≤◌, ℕ, [], List, ◌∷◌, ◌++◌, drop, length, Ok, Err, Option, Result, refl, sym, ap, ◌∙◌, subst, arith}, lemmas.{List.drop_more, Result.err_from_is_err_and}}
 use Rattle.std.specs.Prelude.{flat_map}
 use Rattle.pf_ticket.proofs.TicketLimits.{keeps_the_limits}
 use Rattle.pf_core.specs.declared.{command.Command.Command, reply.Refusal.Refusal, reply.Refusal.TheVariants.Memory, reply.Reply.Reply, step.Step.Step}
@@ -36,3 +36,21 @@ loop-command-preserved c =
       wanted = wanted-on (tickets_there w changes) (after w.durable changes) changes new.changes.items k s (keeps_the_limits.commit w.tickets (flat_map voided_by changes) c.requires.tickets) is wants inv.wanted;
       few = omega (arith, few-on changes new.changes.items s wants, inv.few);
     }
+
+pub loop-command-init : goal.loop-command-init
+loop-command-init c =
+    let none : c.in_ok-with_capacity.field-0.items ≡ [] = c.in_ok-with_capacity.ensures.items in
+    let empty : c.new.result.items ≡ [] = c.new.ensures.items in
+    rw (none, empty) (record { core = refl; next = refl; replies = λ h calm. refl; changes = λ h calm. refl; fit = tt; wanted = refl; few = omega arith })
+
+pub returns-in_err-with_capacity-clause-course : goal.returns-in_err-with_capacity-clause-course
+returns-in_err-with_capacity-clause-course c = let p = err_from_is_err_and c.from_residual.result c.from_residual.ensures.1 in rw (p.1) tt
+
+pub returns-in_err-with_capacity-clause-same : goal.returns-in_err-with_capacity-clause-same
+returns-in_err-with_capacity-clause-same c = refl
+
+pub returns-in_err-take-clause-course : goal.returns-in_err-take-clause-course
+returns-in_err-take-clause-course c = let p = err_from_is_err_and c.from_residual-in_err-take.result c.from_residual-in_err-take.ensures.1 in rw (p.1) tt
+
+pub returns-in_err-take-clause-same : goal.returns-in_err-take-clause-same
+returns-in_err-take-clause-same c = c.step-step.ensures.same ∙ c.loop-command.invariant.core

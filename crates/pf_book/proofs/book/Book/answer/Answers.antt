@@ -1,10 +1,10 @@
-use Rattle.std.proofs.Common.{subst}
+use Rattle.std.proofs.Common.{Option, sym, subst}
 use Rattle.std.specs.Prelude.{nat_lt}
 use Rattle.std.specs.Option.{option_map}
 use Rattle.std.specs.Arc.{arc_value}
 use Rattle.pf_disk.specs.Disk.{EachMoment}
-use Rattle.pf_core.specs.{Calls.call, WorldBooks.{IsAt, Leads}, Worlds.{CurrentOpening, calling, upshot}}
-use Rattle.pf_book.specs.Books.{HoldsLeft, PlainBook, StaysOpenable, world_book}
+use Rattle.pf_core.specs.{Calls.call, Durable.Changes.PlainChange, WorldBooks.{IsAt, Leads}, Worlds.{CurrentOpening, calling, upshot}}
+use Rattle.pf_book.specs.{Books.{HoldsLeft, KeepsOpening, PlainBook, StaysOpenable, StaysUnlessKept, world_book}, Receipts.IsGiven}
 use Rattle.pf_book.proofs.{LockedCalls.{given-last, shown-fits}, Calling.{own, own-at}}
 use Rattle.pf_book.proofs.book.Book.answer.Goals as goal
 
@@ -30,4 +30,22 @@ returns-clause-any_moment g c =
     c.look_at.ensures.same c.call-reply.ensures.any_moment
 
 pub returns-clause-openable : goal.returns-clause-openable
-returns-clause-openable g c = subst (λ (l : PlainBook g.row.D.Denot). StaysOpenable g.D.Disk.moment g.D.Disk.left_since l c.call-reply.new.self) c.look_at.ensures.same c.call-reply.ensures.openable
+returns-clause-openable g c = subst (λ (l : PlainBook g.row.D.Denot). StaysOpenable g.D.Disk.moment g.D.Disk.left_since l c.call-reply.new.self) c.look_at.ensures.same c.call-reply.ensures.device.openable
+
+pub returns-clause-receipt : goal.returns-clause-receipt
+returns-clause-receipt g c =
+    let new = c.call-reply.new.self in
+    let slip = c.receipt-receipt.ensures in
+    let given : IsGiven c.call-reply.result.0 c.receipt-receipt.result.change (world_book c.args.self.now) (world_book new) =
+    subst (λ (l : PlainBook g.row.D.Denot). IsGiven c.call-reply.result.0 c.receipt-receipt.result.change (world_book l) (world_book new)) c.look_at.ensures.same
+    (subst (λ (change : Option PlainChange). IsGiven c.call-reply.result.0 change (world_book c.look_at.new.self) (world_book new)) (sym slip.change) c.call-reply.ensures.given) in
+    record { front = slip.front; acked = slip.acked; shown = slip.shown; given = given; token = slip.token }
+
+pub returns-clause-last : goal.returns-clause-last
+returns-clause-last g c = c.look_at.ensures.last
+
+pub returns-clause-stays : goal.returns-clause-stays
+returns-clause-stays g c = subst (λ (l : PlainBook g.row.D.Denot). StaysUnlessKept c.call-reply.result.0 l c.call-reply.new.self) c.look_at.ensures.same c.call-reply.ensures.stays
+
+pub returns-clause-opening : goal.returns-clause-opening
+returns-clause-opening g c = subst (λ (l : PlainBook g.row.D.Denot). KeepsOpening l c.call-reply.new.self) c.look_at.ensures.same c.call-reply.ensures.opening

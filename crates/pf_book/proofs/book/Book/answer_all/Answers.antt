@@ -2,7 +2,7 @@ use Rattle.std.proofs.Common.{subst}
 use Rattle.std.specs.Prelude.{nat_lt}
 use Rattle.pf_disk.specs.Disk.{EachMoment}
 use Rattle.pf_core.specs.{WorldBooks.{IsAt, LeadsGroup}, Worlds.{CurrentOpening, grouping, upshot}}
-use Rattle.pf_book.specs.{Books.{HoldsLeft, PlainBook, StaysOpenable, StaysUnlessAnyKept, world_book, log_in}, Groups.{HasReceipts, replies_of, told}}
+use Rattle.pf_book.specs.{Books.{HoldsLeft, KeepsOpening, PlainBook, StaysOpenable, StaysUnlessAnyKept, world_book, log_in}, Groups.{HasReceipts, replies_of, told}}
 use Rattle.pf_book.proofs.book.Book.answer_all.Goals as goal
 
 pub returns-clause-leads : goal.returns-clause-leads
@@ -24,3 +24,12 @@ returns-clause-openable g c = subst (λ (l : PlainBook g.row.D.Denot). StaysOpen
 
 pub returns-clause-stays : goal.returns-clause-stays
 returns-clause-stays g c = subst (λ (l : PlainBook g.row.D.Denot). StaysUnlessAnyKept (replies_of (told c.answer_each.result)) l c.answer_each.new.self) c.look_at.ensures.same c.answer_each.ensures.stays
+
+pub returns-clause-shown : goal.returns-clause-shown
+returns-clause-shown g c = c.answer_each.ensures.shown
+
+pub returns-clause-last : goal.returns-clause-last
+returns-clause-last g c = c.look_at.ensures.last
+
+pub returns-clause-opening : goal.returns-clause-opening
+returns-clause-opening g c = subst (λ (l : PlainBook g.row.D.Denot). KeepsOpening l c.answer_each.new.self) c.look_at.ensures.same c.answer_each.ensures.opening

@@ -150,3 +150,44 @@ pub returns-in_err-answers-clause-receipts : goal.returns-in_err-answers-clause-
 returns-in_err-answers-clause-receipts g c =
     let p = err_from_is_err_and c.from_residual-in_err-answers.result c.from_residual-in_err-answers.ensures.1 in
     λ h at. rw (p.1) tt
+
+pub returns-in_err-check_all-clause-shown : goal.returns-in_err-check_all-clause-shown
+returns-in_err-check_all-clause-shown g c = let p = err_from_is_err_and c.from_residual.result c.from_residual.ensures.1 in rw (p.1) tt
+
+pub returns-in_err-check_all-clause-opening : goal.returns-in_err-check_all-clause-opening
+returns-in_err-check_all-clause-opening g c = record { base = refl; setting = refl }
+
+pub returns-in_err-answers-clause-shown : goal.returns-in_err-answers-clause-shown
+returns-in_err-answers-clause-shown g c = let p = err_from_is_err_and c.from_residual-in_err-answers.result c.from_residual-in_err-answers.ensures.1 in rw (p.1) tt
+
+pub returns-in_err-answers-clause-stays : goal.returns-in_err-answers-clause-stays
+returns-in_err-answers-clause-stays g c =
+    let p = err_from_is_err_and c.from_residual-in_err-answers.result c.from_residual-in_err-answers.ensures.1 in
+    rw (p.1, p.2) (record { same = λ is. (refl, refl); pending = λ is. absurd (cc (is)) })
+
+pub returns-in_err-answers-clause-opening : goal.returns-in_err-answers-clause-opening
+returns-in_err-answers-clause-opening g c = record { base = refl; setting = refl }
+
+pub returns-in-Ok-clause-any_moment : goal.returns-in-Ok-clause-any_moment
+returns-in-Ok-clause-any_moment g c = c.call_all.ensures.any_moment
+
+pub returns-in-Ok-clause-openable : goal.returns-in-Ok-clause-openable
+returns-in-Ok-clause-openable g c = c.call_all.ensures.device.openable
+
+pub returns-in-Ok-clause-opening : goal.returns-in-Ok-clause-opening
+returns-in-Ok-clause-opening g c = c.call_all.ensures.opening
+
+pub returns-in-Err-clause-leads : goal.returns-in-Err-clause-leads
+returns-in-Err-clause-leads g c = c.in-Err.ensures.leads
+
+pub returns-in-Err-clause-any_moment : goal.returns-in-Err-clause-any_moment
+returns-in-Err-clause-any_moment g c = c.call_all.ensures.any_moment
+
+pub returns-in-Err-clause-openable : goal.returns-in-Err-clause-openable
+returns-in-Err-clause-openable g c = c.call_all.ensures.device.openable
+
+pub returns-in-Err-clause-stays : goal.returns-in-Err-clause-stays
+returns-in-Err-clause-stays g c = c.in-Err.ensures.stays
+
+pub returns-in-Err-clause-opening : goal.returns-in-Err-clause-opening
+returns-in-Err-clause-opening g c = c.call_all.ensures.opening

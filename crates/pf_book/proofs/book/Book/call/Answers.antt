@@ -2,14 +2,14 @@ use Rattle.std.proofs.{Common.{◌≡◌, ◌+◌, ℕ, Bool, false, cond, [], l
 use Rattle.std.specs.{Arc.arc_value, Option.option_map, Prelude.nat_lt}
 use Rattle.pf_disk.specs.Disk.{EachMoment}
 use Rattle.pf_core.specs.declared.reply.{Reply.TheVariants.{Answer, Refused}, Refusal.Refusal, Refusal.TheVariants.Halted}
-use Rattle.pf_core.specs.declared.step.Step.TheVariants.{Wants, OfHistory}
-use Rattle.pf_core.specs.{Calls.call, Commands.takes_memory, Durable.Changes.{applied, fits}, Laws.Wanted.wants_what_fits, WorldBooks.{WorldBook, IsAt, Leads}, Cores.{PlainCore, plain}, Worlds.{CurrentOpening, calling, is_fault, upshot}}
+use Rattle.pf_core.specs.declared.{reply.Answer.TheVariants.Judged, step.Step.TheVariants.{Wants, OfHistory}}
+use Rattle.pf_core.specs.{Calls.call, Commands.{may_change, takes_memory}, Durable.Changes.{applied, fits, verdict}, Laws.Wanted.wants_what_fits, WorldBooks.{WorldBook, IsAt, Leads}, Cores.{PlainCore, left_by, plain}, Worlds.{CurrentOpening, calling, is_fault, upshot}}
 use Rattle.pf_store.specs.Stores.{HoldsEither}
-use Rattle.pf_book.specs.{Books.{PlainBook, book_of, world_book, world_book_of, IsMade, IsTold, StaysOpenable, is_fault_reply}, Receipts.IsGiven}
+use Rattle.pf_book.specs.{Books.{PlainBook, book_of, world_book, world_book_of, IsBook, IsJudged, IsMade, IsTold, UsesDevice, is_fault_reply}, Receipts.IsGiven}
 use Rattle.pf_book.proofs.LockedCalls.{told-given}
-use Rattle.pf_book.proofs.Calling.{with_core, IsFree, Steps, unchanging, none-behind, no-fault, not-more, fault-flag, answer-leads, halted-leads, refusal-leads, told-stays, history-leads, made-leads, made-stays, made-moment, err-not-fault}
+use Rattle.pf_book.proofs.Calling.{with_core, IsFree, Steps, unchanging, none-behind, no-fault, not-more, fault-flag, answer-leads, halted-leads, refusal-leads, told-calm, told-numbered, told-opening, told-stays, history-leads, judged-by, made-leads, made-numbered, made-opening, made-stays, made-moment, err-not-fault, wants-free}
 use Rattle.pf_book.proofs.BookInvariant.{stepped-book}
-use Rattle.pf_book.proofs.OpenedBooks.{parts, disk-of, folded-of, fronts-of, core-of, moment-of, openable-of, stays-of, all-of}
+use Rattle.pf_book.proofs.OpenedBooks.{parts, disk-of, folded-of, fronts-of, core-of, moment-of, opening-of, quiet-of, rests-of, all-of}
 use Rattle.pf_book.proofs.Wanting.{wanted-can}
 use Rattle.pf_book.proofs.book.Book.call.Given.{Over}
 use Rattle.pf_book.proofs.book.Book.call.Goals.{else-self-len-via-then-self-len+else-may_change, else-self-len-via-else-self-len, After-step_ready, After-make, After-answer_history}
@@ -30,18 +30,31 @@ returns-then-may_change-clause-any_moment g c =
     let i = c.self.invariant in
     moment-of i c.self.view_is g.D.Disk.moment g.D.Disk.left_since (g.met.D.Disk.only_now c.self.inside.store.disk) (calling c.args.command.now) c.args.self.now.disk (disk-of i c.self.view_is)
 
-pub returns-then-may_change-clause-openable : goal.returns-then-may_change-clause-openable
-returns-then-may_change-clause-openable g c = stays-of c.self.invariant c.self.view_is g.D.Disk.moment g.D.Disk.left_since (g.met.D.Disk.only_now c.self.inside.store.disk)
+pub returns-then-may_change-clause-device : goal.returns-then-may_change-clause-device
+returns-then-may_change-clause-device g c = rests-of c.self.invariant c.self.view_is g.D.Disk.moment g.D.Disk.left_since (g.met.D.Disk.only_now c.self.inside.store.disk) g.D.Disk.fault_count
 
--- the step's result leaves the transactions within their limits
-pub invariant_of-self : goal.invariant_of-self
-invariant_of-self g c =
-    let core = c.self.inside.core in
-    let k = c.args.command.now in
-    stepped-book c.self.invariant c.step_ready.new.self k (takes_memory core.durable k) (plain c.step_ready.result) c.step_ready.ensures.reply c.step_ready.ensures.left
+pub returns-then-may_change-clause-opening : goal.returns-then-may_change-clause-opening
+returns-then-may_change-clause-opening g c = record { base = refl; setting = refl }
 
--- nothing is pending, or the command changes nothing
+pub returns-then-may_change-clause-given : goal.returns-then-may_change-clause-given
+returns-then-may_change-clause-given g c = refl
+
+pub returns-then-may_change-clause-judged : goal.returns-then-may_change-clause-judged
+returns-then-may_change-clause-judged g c =
+    judged-by c.args.self.now.whole.durable c.args.command.now (Refused Halted) (λ packet is. absurd (cc (ap may_change is, c.may_change.ensures, c.if-may_change.true)))
+
+pub returns-then-may_change-clause-stays : goal.returns-then-may_change-clause-stays
+returns-then-may_change-clause-stays g c = record { same = λ is. (refl, refl); pending = λ is. absurd (cc (is)) }
+
 module _ (g : Over) (c : After-step_ready g) where
+  -- the step's result leaves the transactions within their limits
+  stepped : IsBook g.D.Disk.seen g.D.Disk.unsynced (record (parts c.self.invariant) { whole = c.step_ready.new.self })
+  stepped =
+      let core = c.self.inside.core in
+      let k = c.args.command.now in
+      stepped-book c.self.invariant c.step_ready.new.self k (takes_memory core.durable k) (plain c.step_ready.result) c.step_ready.ensures.reply c.step_ready.ensures.left
+
+  -- nothing is pending, or the command changes nothing
   free-before : IsFree (world_book_of (parts c.self.invariant)) c.args.command.now
   free-before =
       let counted : c.len.result ≡ length (map arc_value c.self.inside.log.items) = grind (arith, common_steps, c.len.ensures) in
@@ -52,6 +65,18 @@ module _ (g : Over) (c : After-step_ready g) where
 
   free : IsFree (world_book c.args.self.now) c.args.command.now
   free = subst (λ (l : PlainBook g.row.D.Denot). IsFree (world_book l) c.args.command.now) c.self.view_is free-before
+
+pub invariant_of-self : goal.invariant_of-self
+invariant_of-self g c = stepped g (goal.at.invariant_of-self g c).After-step_ready
+
+pub invariant_of-self-in-Ok-Wants : goal.invariant_of-self-in-Ok-Wants
+invariant_of-self-in-Ok-Wants g c = stepped g (goal.at.invariant_of-self-in-Ok-Wants g c).After-step_ready
+
+pub invariant_of-self-in-Ok-OfHistory : goal.invariant_of-self-in-Ok-OfHistory
+invariant_of-self-in-Ok-OfHistory g c = stepped g (goal.at.invariant_of-self-in-Ok-OfHistory g c).After-step_ready
+
+pub invariant_of-self-in-Err : goal.invariant_of-self-in-Err
+invariant_of-self-in-Err g c = stepped g (goal.at.invariant_of-self-in-Err g c).After-step_ready
 
 pub returns-in-Ok-Done-clause-leads : goal.returns-in-Ok-Done-clause-leads
 returns-in-Ok-Done-clause-leads g c =
@@ -70,8 +95,25 @@ pub returns-in-Ok-Done-clause-any_moment : goal.returns-in-Ok-Done-clause-any_mo
 returns-in-Ok-Done-clause-any_moment g c =
     moment-of c.self.invariant c.self.view_is g.D.Disk.moment g.D.Disk.left_since (g.met.D.Disk.only_now c.self.inside.store.disk) (calling c.args.command.now) c.self.inside.store.disk refl
 
-pub returns-in-Ok-Done-clause-openable : goal.returns-in-Ok-Done-clause-openable
-returns-in-Ok-Done-clause-openable g c = openable-of c.self.invariant c.self.view_is g.D.Disk.moment g.D.Disk.left_since (g.met.D.Disk.only_now c.self.inside.store.disk) _ refl refl refl
+pub returns-in-Ok-Done-clause-device : goal.returns-in-Ok-Done-clause-device
+returns-in-Ok-Done-clause-device g c =
+    quiet-of c.self.invariant c.self.view_is g.D.Disk.moment g.D.Disk.left_since (g.met.D.Disk.only_now c.self.inside.store.disk) g.D.Disk.fault_count _ refl refl refl
+
+pub returns-in-Ok-Done-clause-opening : goal.returns-in-Ok-Done-clause-opening
+returns-in-Ok-Done-clause-opening g c = opening-of c.self.invariant c.self.view_is c.step_ready.new.self
+
+pub returns-in-Ok-Done-clause-given : goal.returns-in-Ok-Done-clause-given
+returns-in-Ok-Done-clause-given g c = refl
+
+pub returns-in-Ok-Done-clause-judged : goal.returns-in-Ok-Done-clause-judged
+returns-in-Ok-Done-clause-judged g c =
+    let r = Answer c.in-Ok-Done.answer in
+    let e = rw c.in-Ok-Done.field-0-is at c.in-Ok-Done.ensures in
+    subst (λ (l : PlainBook g.row.D.Denot). IsJudged l.whole.durable c.args.command.now r) c.self.view_is
+    (judged-by c.self.inside.core.durable c.args.command.now r (λ packet is. let same : c.in-Ok-Done.answer ≡ Judged (verdict c.self.inside.core.durable packet) = cc (e.judged packet is) in ap Answer same))
+
+pub returns-in-Ok-Done-clause-stays : goal.returns-in-Ok-Done-clause-stays
+returns-in-Ok-Done-clause-stays g c = sym (disk-of c.self.invariant c.self.view_is)
 
 pub make-requires-clause-fits : goal.make-requires-clause-fits
 make-requires-clause-fits g c =
@@ -108,7 +150,7 @@ returns-in-Ok-Wants-clause-leads g c h at =
     let n : ℕ = g.D.Disk.fault_count c.args.self.now.disk in
     let m : ℕ = g.D.Disk.fault_count c.make.new.self.disk in
     let failed : Bool = is_fault_reply c.make.result.0 in
-    let faults : m ≡ n + cond failed 1 0 = subst (λ (l : PlainBook g.row.D.Denot). m ≡ g.D.Disk.fault_count l.disk + cond failed 1 0) c.self.view_is c.make.ensures.faults in
+    let faults : m ≡ n + cond failed 1 0 = subst (λ (l : PlainBook g.row.D.Denot). m ≡ g.D.Disk.fault_count l.disk + cond failed 1 0) c.self.view_is c.make.ensures.device.faults in
     made-leads h (world_book c.args.self.now) c.args.command.now c.in-Ok-Wants.change c.in-Ok-Wants.outcome at (folded-of c.self.invariant c.self.view_is) before (steps g here) c.make.result.0 (world_book c.make.new.self) (nat_lt n m) (made g here) (fault-flag n m failed faults)
 
 pub returns-in-Ok-Wants-clause-any_moment : goal.returns-in-Ok-Wants-clause-any_moment
@@ -132,9 +174,32 @@ pub returns-in-Ok-Wants-clause-given : goal.returns-in-Ok-Wants-clause-given
 returns-in-Ok-Wants-clause-given g c =
     subst (λ (l : PlainBook g.row.D.Denot). IsGiven c.make.result.0 (option_map arc_value c.make.result.1) (world_book l) (world_book c.make.new.self)) (became g (goal.at.returns-in-Ok-Wants-clause-given g c).After-make) c.make.ensures.given
 
-pub returns-in-Ok-Wants-clause-openable : goal.returns-in-Ok-Wants-clause-openable
-returns-in-Ok-Wants-clause-openable g c =
-    subst (λ (l : PlainBook g.row.D.Denot). StaysOpenable g.D.Disk.moment g.D.Disk.left_since l c.make.new.self) (became g (goal.at.returns-in-Ok-Wants-clause-openable g c).After-make) c.make.ensures.openable
+pub returns-in-Ok-Wants-clause-device : goal.returns-in-Ok-Wants-clause-device
+returns-in-Ok-Wants-clause-device g c =
+    subst (λ (l : PlainBook g.row.D.Denot). UsesDevice g.D.Disk.moment g.D.Disk.left_since g.D.Disk.seen g.D.Disk.fault_count (is_fault_reply c.make.result.0) l c.make.new.self)
+    (became g (goal.at.returns-in-Ok-Wants-clause-device g c).After-make) c.make.ensures.device
+
+pub returns-in-Ok-Wants-clause-opening : goal.returns-in-Ok-Wants-clause-opening
+returns-in-Ok-Wants-clause-opening g c = made-opening c.args.self.now c.make.new.self c.make.result.0 c.in-Ok-Wants.outcome c.in-Ok-Wants.change (made g (goal.at.returns-in-Ok-Wants-clause-opening g c).After-make)
+
+pub returns-in-Ok-Wants-clause-numbered : goal.returns-in-Ok-Wants-clause-numbered
+returns-in-Ok-Wants-clause-numbered g c = made-numbered c.make.result.0 c.in-Ok-Wants.outcome c.in-Ok-Wants.change _ (world_book c.make.new.self) c.make.ensures.made
+
+pub returns-in-Ok-Wants-clause-judged : goal.returns-in-Ok-Wants-clause-judged
+returns-in-Ok-Wants-clause-judged g c =
+    let e = rw c.in-Ok-Wants.field-0-is at c.in-Ok-Wants.ensures in
+    subst (λ (l : PlainBook g.row.D.Denot). IsJudged l.whole.durable c.args.command.now c.make.result.0) c.self.view_is
+    (judged-by c.self.inside.core.durable c.args.command.now c.make.result.0 (λ packet is. absurd (cc (e.judged packet is))))
+
+pub make-requires-clause-made : goal.make-requires-clause-made
+make-requires-clause-made g c =
+    let e = rw c.in-Ok-Wants.field-0-is at c.in-Ok-Wants.ensures in
+    subst (λ (w : PlainCore). c.in-Ok-Wants.next ≡ left_by w.durable c.in-Ok-Wants.change) (sym e.left) e.made
+
+pub make-requires-clause-free : goal.make-requires-clause-free
+make-requires-clause-free g c =
+    let e = rw c.in-Ok-Wants.field-0-is at c.in-Ok-Wants.ensures in
+    wants-free (world_book_of (parts c.self.invariant)) c.args.command.now c.in-Ok-Wants.change c.in-Ok-Wants.outcome (free-before g (goal.at.make-requires-clause-free g c).After-step_ready) e.reply
 
 -- the history is asked
 told : (g : Over) (c : After-answer_history g) → IsTold c.in-Ok-OfHistory.command c.answer_history.result (world_book c.args.self.now) (world_book c.answer_history.new.self)
@@ -165,9 +230,24 @@ returns-in-Ok-OfHistory-clause-stays g c =
 pub returns-in-Ok-OfHistory-clause-given : goal.returns-in-Ok-OfHistory-clause-given
 returns-in-Ok-OfHistory-clause-given g c = told-given c.in-Ok-OfHistory.command c.answer_history.result _ _ (world_book c.args.self.now) (world_book c.answer_history.new.self) c.answer_history.ensures.told
 
-pub returns-in-Ok-OfHistory-clause-openable : goal.returns-in-Ok-OfHistory-clause-openable
-returns-in-Ok-OfHistory-clause-openable g c =
-    openable-of c.self.invariant c.self.view_is g.D.Disk.moment g.D.Disk.left_since (g.met.D.Disk.only_now c.self.inside.store.disk) c.answer_history.new.self c.answer_history.ensures.device c.answer_history.ensures.generation c.answer_history.ensures.size
+pub returns-in-Ok-OfHistory-clause-device : goal.returns-in-Ok-OfHistory-clause-device
+returns-in-Ok-OfHistory-clause-device g c =
+    let f = c.answer_history.ensures in
+    let new = c.answer_history.new.self in
+    subst (λ (failed : Bool). UsesDevice g.D.Disk.moment g.D.Disk.left_since g.D.Disk.seen g.D.Disk.fault_count failed c.args.self.now new) (sym (told-calm c.in-Ok-OfHistory.command c.answer_history.result _ (world_book new) f.told))
+    (quiet-of c.self.invariant c.self.view_is g.D.Disk.moment g.D.Disk.left_since (g.met.D.Disk.only_now c.self.inside.store.disk) g.D.Disk.fault_count new f.device f.generation f.size)
+
+pub returns-in-Ok-OfHistory-clause-opening : goal.returns-in-Ok-OfHistory-clause-opening
+returns-in-Ok-OfHistory-clause-opening g c = told-opening c.in-Ok-OfHistory.command c.answer_history.result c.args.self.now c.answer_history.new.self (told g (goal.at.returns-in-Ok-OfHistory-clause-opening g c).After-answer_history)
+
+pub returns-in-Ok-OfHistory-clause-numbered : goal.returns-in-Ok-OfHistory-clause-numbered
+returns-in-Ok-OfHistory-clause-numbered g c = told-numbered c.in-Ok-OfHistory.command c.answer_history.result _ (world_book c.answer_history.new.self) c.answer_history.ensures.told
+
+pub returns-in-Ok-OfHistory-clause-judged : goal.returns-in-Ok-OfHistory-clause-judged
+returns-in-Ok-OfHistory-clause-judged g c =
+    let e = rw c.in-Ok-OfHistory.field-0-is at c.in-Ok-OfHistory.ensures in
+    subst (λ (l : PlainBook g.row.D.Denot). IsJudged l.whole.durable c.args.command.now c.answer_history.result) c.self.view_is
+    (judged-by c.self.inside.core.durable c.args.command.now c.answer_history.result (λ packet is. absurd (cc (e.judged packet is))))
 
 pub returns-in-Err-clause-leads : goal.returns-in-Err-clause-leads
 returns-in-Err-clause-leads g c h at =
@@ -185,11 +265,22 @@ pub returns-in-Err-clause-any_moment : goal.returns-in-Err-clause-any_moment
 returns-in-Err-clause-any_moment g c =
     moment-of c.self.invariant c.self.view_is g.D.Disk.moment g.D.Disk.left_since (g.met.D.Disk.only_now c.self.inside.store.disk) (calling c.args.command.now) c.self.inside.store.disk refl
 
-pub returns-in-Err-clause-faults : goal.returns-in-Err-clause-faults
-returns-in-Err-clause-faults g c =
+pub returns-in-Err-clause-device : goal.returns-in-Err-clause-device
+returns-in-Err-clause-device g c =
     let quiet = err-not-fault (world_book_of (parts c.self.invariant)) c.args.command.now c.in-Err.refusal c.in-Err.ensures.reply in
-    let same : g.D.Disk.fault_count c.args.self.now.disk ≡ g.D.Disk.fault_count c.self.inside.store.disk = ap g.D.Disk.fault_count (disk-of c.self.invariant c.self.view_is) in
-    rw quiet (omega (arith, same))
+    rw quiet (quiet-of c.self.invariant c.self.view_is g.D.Disk.moment g.D.Disk.left_since (g.met.D.Disk.only_now c.self.inside.store.disk) g.D.Disk.fault_count _ refl refl refl)
+
+pub returns-in-Err-clause-opening : goal.returns-in-Err-clause-opening
+returns-in-Err-clause-opening g c = opening-of c.self.invariant c.self.view_is c.step_ready.new.self
+
+pub returns-in-Err-clause-given : goal.returns-in-Err-clause-given
+returns-in-Err-clause-given g c = refl
+
+pub returns-in-Err-clause-judged : goal.returns-in-Err-clause-judged
+returns-in-Err-clause-judged g c =
+    let r = Refused c.in-Err.refusal in
+    subst (λ (l : PlainBook g.row.D.Denot). IsJudged l.whole.durable c.args.command.now r) c.self.view_is
+    (judged-by c.self.inside.core.durable c.args.command.now r (λ packet is. absurd (cc (c.in-Err.ensures.judged packet is))))
 
 pub returns-in-Err-clause-stays : goal.returns-in-Err-clause-stays
 returns-in-Err-clause-stays g c =
@@ -199,6 +290,3 @@ returns-in-Err-clause-stays g c =
       same = λ is. (ap (λ (l : PlainBook g.row.D.Denot). world_book l) (core-of i c.self.view_is c.step_ready.new.self c.in-Err.ensures.left), sym (disk-of i c.self.view_is));
       pending = λ is. absurd (cc (is, quiet));
     }
-
-pub returns-in-Err-clause-openable : goal.returns-in-Err-clause-openable
-returns-in-Err-clause-openable g c = openable-of c.self.invariant c.self.view_is g.D.Disk.moment g.D.Disk.left_since (g.met.D.Disk.only_now c.self.inside.store.disk) _ refl refl refl

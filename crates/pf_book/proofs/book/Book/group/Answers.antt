@@ -41,4 +41,28 @@ returns-clause-stays g c = subst (λ (r : Result (List Reply) Refusal). StaysUnl
 
 pub returns-clause-faults : goal.returns-clause-faults
 returns-clause-faults g c =
-    subst (λ (b : Bool). g.D.Disk.fault_count c.call_all.new.self.disk ≡ g.D.Disk.fault_count c.args.self.now.disk + cond b 1 0) (sym (ap is_fault_result c.alone-result.ensures ∙ replied-fault c.call_all.result)) c.call_all.ensures.faults
+    subst (λ (b : Bool). g.D.Disk.fault_count c.call_all.new.self.disk ≡ g.D.Disk.fault_count c.args.self.now.disk + cond b 1 0) (sym (ap is_fault_result c.alone-result.ensures ∙ replied-fault c.call_all.result)) c.call_all.ensures.device.faults
+
+pub returns-clause-any_moment : goal.returns-clause-any_moment
+returns-clause-any_moment g c = c.call_all.ensures.any_moment
+
+pub returns-clause-fold : goal.returns-clause-fold
+returns-clause-fold g c = (folded-of c.self.invariant c.self.view_is).durable
+
+pub returns-clause-published : goal.returns-clause-published
+returns-clause-published g c = (folded-of c.self.invariant c.self.view_is).published
+
+pub returns-clause-base : goal.returns-clause-base
+returns-clause-base g c = c.call_all.ensures.opening.base
+
+pub returns-clause-setting : goal.returns-clause-setting
+returns-clause-setting g c = c.call_all.ensures.opening.setting
+
+pub returns-clause-openable : goal.returns-clause-openable
+returns-clause-openable g c = c.call_all.ensures.device.openable
+
+pub returns-clause-moments : goal.returns-clause-moments
+returns-clause-moments g c = c.call_all.ensures.device.moments
+
+pub returns-clause-same_size : goal.returns-clause-same_size
+returns-clause-same_size g c = c.call_all.ensures.device.same_size

@@ -4,7 +4,7 @@ use Rattle.pf_disk.specs.Disk.{EachMoment}
 use Rattle.pf_core.specs.{Durable.Changes.{PlainChange, after, applied, voided_by}, Nexts.{PlainNext, next_with}, WorldBooks.WorldBook}
 use Rattle.pf_store.specs.{Groups.{can_be_wanted, is_group, made_all}, Stores.{FindsRoom, FollowInTurn, HoldsEither}}
 use Rattle.pf_book.specs.Books.{HasRoom, HasNoRoom, IsMore, IsUnkept, left_together, world_book}
-use Rattle.pf_book.proofs.Finding.{unroomed, unroomed-calm}
+use Rattle.pf_book.proofs.{Finding.{unroomed, unroomed-calm}, Openable.uses-none}
 use Rattle.pf_book.proofs.book.Book.keep.Given.{Over}
 use Rattle.pf_book.proofs.book.Book.keep.Goals.{After-from_ref-2}
 use Rattle.pf_book.proofs.book.Book.keep.Goals as goal
@@ -30,12 +30,43 @@ returns-in_err-find_room-clause-any_moment g c =
     let l = c.args.self.now in
     subst (λ (es : List PlainChange). EachMoment g.D.Disk.moment g.D.Disk.left_since l.disk l.disk (HoldsEither l.whole.durable (after l.whole.durable es))) c.from_ref.ensures.value c.find_room.ensures.still
 
-pub returns-in_err-find_room-clause-faults : goal.returns-in_err-find_room-clause-faults
-returns-in_err-find_room-clause-faults g c =
+pub returns-in_err-find_room-clause-device : goal.returns-in_err-find_room-clause-device
+returns-in_err-find_room-clause-device g c =
     let b : WorldBook = world_book c.args.self.now in
     let p = err_from_is_err_and c.from_residual.result c.from_residual.ensures.1 in
     let none : HasNoRoom c.in_err-find_room.field-0.0 b (c.args.change ∷ []) = subst (HasNoRoom c.in_err-find_room.field-0.0 b) c.from_ref.ensures.value c.in_err-find_room.ensures.err in
-    rw (p.1, p.2, unroomed-calm c.in_err-find_room.field-0.0 b (c.args.change ∷ []) none) (omega arith)
+    let now = c.args.self.now in
+    rw (p.1, p.2, unroomed-calm c.in_err-find_room.field-0.0 b (c.args.change ∷ []) none) (uses-none g.D.Disk.moment g.D.Disk.left_since g.D.Disk.seen g.D.Disk.fault_count now now c.find_room.ensures.openable refl)
+
+pub returns-in_err-find_room-clause-ok : goal.returns-in_err-find_room-clause-ok
+returns-in_err-find_room-clause-ok g c = let p = err_from_is_err_and c.from_residual.result c.from_residual.ensures.1 in rw (p.1) tt
+
+pub returns-in_err-find_room-clause-given : goal.returns-in_err-find_room-clause-given
+returns-in_err-find_room-clause-given g c = let p = err_from_is_err_and c.from_residual.result c.from_residual.ensures.1 in rw (p.1) tt
+
+pub returns-in_err-find_room-clause-still : goal.returns-in_err-find_room-clause-still
+returns-in_err-find_room-clause-still g c = let p = err_from_is_err_and c.from_residual.result c.from_residual.ensures.1 in rw (p.1) (λ _. refl)
+
+pub returns-in_err-change-clause-device : goal.returns-in_err-change-clause-device
+returns-in_err-change-clause-device g c =
+    let p = err_from_is_err_and c.from_residual-in_err-change.result c.from_residual-in_err-change.ensures.1 in
+    let now = c.args.self.now in
+    rw (p.1, p.2) (uses-none g.D.Disk.moment g.D.Disk.left_since g.D.Disk.seen g.D.Disk.fault_count now now c.find_room.ensures.openable refl)
+
+pub returns-in_err-change-clause-ok : goal.returns-in_err-change-clause-ok
+returns-in_err-change-clause-ok g c = let p = err_from_is_err_and c.from_residual-in_err-change.result c.from_residual-in_err-change.ensures.1 in rw (p.1) tt
+
+pub returns-in_err-change-clause-given : goal.returns-in_err-change-clause-given
+returns-in_err-change-clause-given g c = let p = err_from_is_err_and c.from_residual-in_err-change.result c.from_residual-in_err-change.ensures.1 in rw (p.1) tt
+
+pub returns-in_err-change-clause-still : goal.returns-in_err-change-clause-still
+returns-in_err-change-clause-still g c = let p = err_from_is_err_and c.from_residual-in_err-change.result c.from_residual-in_err-change.ensures.1 in rw (p.1) (λ _. refl)
+
+pub find_room-requires-clause-free : goal.find_room-requires-clause-free
+find_room-requires-clause-free g c = c.requires.free
+
+pub save-requires-clause-free : goal.save-requires-clause-free
+save-requires-clause-free g c = c.requires.free
 
 pub returns-in_err-change-clause-err : goal.returns-in_err-change-clause-err
 returns-in_err-change-clause-err g c =
@@ -85,3 +116,21 @@ returns-in_err-save-clause-err g c =
 
 pub returns-clause-ok : goal.returns-clause-ok
 returns-clause-ok g c = subst (IsMore (world_book c.args.self.now) (world_book c.save.new.self)) (shared g (goal.at.returns-clause-ok g c).After-from_ref-2) c.in_ok-save.ensures.ok
+
+pub returns-in_err-save-clause-device : goal.returns-in_err-save-clause-device
+returns-in_err-save-clause-device g c = let p = err_from_is_err_and c.from_residual-in_err-save.result c.from_residual-in_err-save.ensures.1 in rw (p.1, p.2) c.in_err-save.ensures.device
+
+pub returns-in_err-save-clause-ok : goal.returns-in_err-save-clause-ok
+returns-in_err-save-clause-ok g c = let p = err_from_is_err_and c.from_residual-in_err-save.result c.from_residual-in_err-save.ensures.1 in rw (p.1) tt
+
+pub returns-in_err-save-clause-given : goal.returns-in_err-save-clause-given
+returns-in_err-save-clause-given g c = let p = err_from_is_err_and c.from_residual-in_err-save.result c.from_residual-in_err-save.ensures.1 in rw (p.1) tt
+
+pub returns-in_err-save-clause-still : goal.returns-in_err-save-clause-still
+returns-in_err-save-clause-still g c = let p = err_from_is_err_and c.from_residual-in_err-save.result c.from_residual-in_err-save.ensures.1 in rw (p.1, p.2) c.in_err-save.ensures.still
+
+pub returns-clause-device : goal.returns-clause-device
+returns-clause-device g c = c.in_ok-save.ensures.device
+
+pub returns-clause-given : goal.returns-clause-given
+returns-clause-given g c = c.in_ok-change.ensures

@@ -1,13 +1,13 @@
-use Rattle.std.proofs.{Common.{true, false, ◌≡◌, ◌+◌, ℕ, List, [], ◌∷◌, ◌++◌, length, map, refl, sym, ap, ◌∙◌, subst, arith}, lemmas.{Grind.common_steps, List.length-map, Result.err_from_is_err_and}}
-use Rattle.std.specs.Arc.{arc_value}
+use Rattle.std.proofs.{Common.{Bool, true, false, ◌≡◌, ◌+◌, ℕ, List, [], ◌∷◌, ◌++◌, length, map, refl, sym, ap, ◌∙◌, subst, arith}, lemmas.{Grind.common_steps, List.length-map, Result.err_from_is_err_and}}
+use Rattle.std.specs.{Arc.arc_value, Prelude.if◌then◌else◌}
 use Rattle.pf_disk.specs.Disk.{EachMoment, IsImage}
 use Rattle.pf_ticket.specs.{Laws.Tickets.IsWithin as AreTicketsWithin, Mentions.{after as moved_by, switches}}
 use Rattle.pf_ticket.proofs.TicketLimits.{keeps_the_limits}
 use Rattle.pf_core.specs.{Durable.Changes.{PlainDurable, PlainChange, after}, Nexts.PlainNext, WorldBooks.WorldBook, Cores.PlainCore}
 use Rattle.pf_store.specs.{Groups.made_all, Openings.{IsNoLaterThan, LeavesRoom}, Rooms.on_device, Stores.{FollowInTurn, Holds, HoldsEither, FindsRoom, IsRoomy}, StoreKept.{Stands, PlainStore}}
 use Rattle.pf_store.proofs.Leading.{left_by_made}
-use Rattle.pf_book.specs.Books.{PlainBook, cut, book_of, world_book, world_book_of, IsMore, IsPending, StaysOpenable}
-use Rattle.pf_book.proofs.{Finding.{same-room, few-formed, some-formed}, BookInvariant.{with-pending, more-book, fault-book}, OpenedBooks.{parts, left-of, room-of, same-of, openable-of, none-of, all-of, flat-of, going-of, either-of}, Openable.{itself, later, saved-openable, then-still}, HistoryGroups.{grouped-some, IsGrown, grown-acked, grown-pending}}
+use Rattle.pf_book.specs.Books.{PlainBook, cut, book_of, world_book, world_book_of, IsMore, IsPending, StaysOpenable, UsesDevice}
+use Rattle.pf_book.proofs.{Finding.{same-room, few-formed, some-formed}, BookInvariant.{with-pending, more-book, fault-book}, OpenedBooks.{parts, left-of, room-of, same-of, disk-of, quiet-of, none-of, all-of, flat-of, going-of, either-of}, Openable.{itself, later, saved-openable, then-still}, HistoryGroups.{grouped-some, IsGrown, grown-acked, grown-pending}}
 use Rattle.pf_book.proofs.book.Book.save.Given.{Over}
 use Rattle.pf_book.proofs.book.Book.save.Goals.{After-save, After-accept, In-Err-Halted}
 use Rattle.pf_book.proofs.book.Book.save.Goals as goal
@@ -41,8 +41,20 @@ returns-in_err-logged-clause-err g c =
     let same = same-of c.self.invariant c.self.view_is c.self.inside.store (map arc_value c.prepare.new.log.items) c.prepare.new.sizes.items refl (ap (map arc_value) c.prepare.ensures.log) c.prepare.ensures.sizes in
     rw (p.1, p.2) (same, c.requires.room)
 
-pub returns-in_err-logged-clause-openable : goal.returns-in_err-logged-clause-openable
-returns-in_err-logged-clause-openable g c = openable-of c.self.invariant c.self.view_is g.D.Disk.moment g.D.Disk.left_since (g.met.D.Disk.only_now c.self.inside.store.disk) _ refl refl refl
+pub returns-in_err-logged-clause-device : goal.returns-in_err-logged-clause-device
+returns-in_err-logged-clause-device g c =
+    let p = err_from_is_err_and c.from_residual.result c.from_residual.ensures.1 in
+    rw (p.1, p.2) (quiet-of c.self.invariant c.self.view_is g.D.Disk.moment g.D.Disk.left_since (g.met.D.Disk.only_now c.self.inside.store.disk) g.D.Disk.fault_count _ refl refl refl)
+
+pub returns-in_err-logged-clause-ok : goal.returns-in_err-logged-clause-ok
+returns-in_err-logged-clause-ok g c = let p = err_from_is_err_and c.from_residual.result c.from_residual.ensures.1 in rw (p.1) tt
+
+pub returns-in_err-logged-clause-still : goal.returns-in_err-logged-clause-still
+returns-in_err-logged-clause-still g c = let p = err_from_is_err_and c.from_residual.result c.from_residual.ensures.1 in rw (p.1) (λ _. sym (disk-of c.self.invariant c.self.view_is))
+
+-- the log and the sizes have the same items
+pub invariant_of-self : goal.invariant_of-self
+invariant_of-self g c = rw (c.prepare.ensures.log, c.prepare.ensures.sizes) c.self.invariant
 
 -- what the store's save leaves
 module _ (g : Over) (c : After-save g) where
@@ -86,6 +98,19 @@ module _ (g : Over) (c : After-save g) where
   openable : (new : PlainBook g.row.D.Denot) → new.disk ≡ c.save.new.self.disk → new.generation ≡ c.save.new.self.generation → new.size ≡ c.save.new.self.size → StaysOpenable g.D.Disk.moment g.D.Disk.left_since c.args.self.now new
   openable new = then-still g.D.Disk.seen g.D.Disk.unsynced g.D.Disk.moment g.D.Disk.left_since c.args.self.now (book_of (record (parts c.self.invariant) { store = c.save.new.self })) new
       (saved-openable g.D.Disk.seen g.D.Disk.unsynced g.D.Disk.moment g.D.Disk.left_since (book_of (parts c.self.invariant)) c.args.self.now _ c.self.view_is c.save.ensures.generation_stays c.save.ensures.generation c.save.ensures.size early leaves)
+
+  -- the device is as the store left it
+  device : (failed : Bool) (new : PlainBook g.row.D.Denot) → new.disk ≡ c.save.new.self.disk → new.generation ≡ c.save.new.self.generation → new.size ≡ c.save.new.self.size
+      → g.D.Disk.fault_count c.save.new.self.disk ≡ g.D.Disk.fault_count c.self.inside.store.disk + (if failed then 1 else 0)
+      → UsesDevice g.D.Disk.moment g.D.Disk.left_since g.D.Disk.seen g.D.Disk.fault_count failed c.args.self.now new
+  device failed new disk generation size faults =
+      let was : c.args.self.now.disk ≡ c.self.inside.store.disk = disk-of c.self.invariant c.self.view_is in
+      record {
+        openable = openable new disk generation size;
+        moments = omega (arith, c.save.ensures.moments, ap g.D.Disk.moment disk, ap g.D.Disk.moment was);
+        same_size = ap (λ d. length (g.D.Disk.seen d)) disk ∙ c.save.ensures.same_size ∙ sym (ap (λ d. length (g.D.Disk.seen d)) was);
+        faults = ap g.D.Disk.fault_count disk ∙ faults ∙ ap (λ d. g.D.Disk.fault_count d + (if failed then 1 else 0)) (sym was);
+      }
 
 -- the changes are one group more
 grown : (g : Over) (c : After-accept g) → IsGrown (parts c.self.invariant) (map arc_value c.put_all.new.log.items) c.push_reserved.new.self.items (c.self.inside.acked + length c.args.changes.now) (map arc_value c.args.changes.now)
@@ -142,8 +167,8 @@ returns-in-Ok-clause-ok g c =
 pub returns-in-Ok-clause-any_moment : goal.returns-in-Ok-clause-any_moment
 returns-in-Ok-clause-any_moment g c = any_moment g (goal.at.returns-in-Ok-clause-any_moment g c).After-save
 
-pub returns-in-Ok-clause-openable : goal.returns-in-Ok-clause-openable
-returns-in-Ok-clause-openable g c = openable g (goal.at.returns-in-Ok-clause-openable g c).After-save _ refl refl refl
+pub returns-in-Ok-clause-device : goal.returns-in-Ok-clause-device
+returns-in-Ok-clause-device g c = device g (goal.at.returns-in-Ok-clause-device g c).After-save false _ refl refl refl c.in-Ok.ensures.faults
 
 pub returns-in-Err-Memory-clause-any_moment : goal.returns-in-Err-Memory-clause-any_moment
 returns-in-Err-Memory-clause-any_moment g c =
@@ -157,8 +182,21 @@ returns-in-Err-Memory-clause-err g c =
     let unchanged : c.save.new.self ≡ c.self.inside.store = f.unchanged (λ x. cc (x)) in
     (same-of c.self.invariant c.self.view_is c.save.new.self (map arc_value c.prepare.new.log.items) c.prepare.new.sizes.items unchanged (ap (map arc_value) c.prepare.ensures.log) c.prepare.ensures.sizes, c.requires.room)
 
-pub returns-in-Err-Memory-clause-openable : goal.returns-in-Err-Memory-clause-openable
-returns-in-Err-Memory-clause-openable g c = openable g (goal.at.returns-in-Err-Memory-clause-openable g c).After-save _ refl refl refl
+pub returns-in-Err-Memory-clause-device : goal.returns-in-Err-Memory-clause-device
+returns-in-Err-Memory-clause-device g c =
+    let f = rw c.in-Err-Memory.field-0-is at c.in-Err-Memory.ensures in device g (goal.at.returns-in-Err-Memory-clause-device g c).After-save false _ refl refl refl f.faults
+
+pub invariant_of-self-in-Err-Memory : goal.invariant_of-self-in-Err-Memory
+invariant_of-self-in-Err-Memory g c =
+    let f = rw c.in-Err-Memory.field-0-is at c.in-Err-Memory.ensures in
+    let unchanged : c.save.new.self ≡ c.self.inside.store = f.unchanged (λ x. cc (x)) in
+    rw (unchanged, c.prepare.ensures.log, c.prepare.ensures.sizes) c.self.invariant
+
+pub returns-in-Err-Memory-clause-still : goal.returns-in-Err-Memory-clause-still
+returns-in-Err-Memory-clause-still g c =
+    let f = rw c.in-Err-Memory.field-0-is at c.in-Err-Memory.ensures in
+    let unchanged : c.save.new.self ≡ c.self.inside.store = f.unchanged (λ x. cc (x)) in
+    λ _. ap (λ (x : PlainStore g.row.D.Denot). x.disk) unchanged ∙ sym (disk-of c.self.invariant c.self.view_is)
 
 -- if the changes find room the store isn't full
 pub unreachable-requires : goal.unreachable-requires
@@ -200,8 +238,12 @@ returns-in-Err-Fault-clause-err g c =
 pub returns-in-Err-Fault-clause-any_moment : goal.returns-in-Err-Fault-clause-any_moment
 returns-in-Err-Fault-clause-any_moment g c = any_moment g (goal.at.returns-in-Err-Fault-clause-any_moment g c).After-save
 
-pub returns-in-Err-Fault-clause-openable : goal.returns-in-Err-Fault-clause-openable
-returns-in-Err-Fault-clause-openable g c = openable g (goal.at.returns-in-Err-Fault-clause-openable g c).After-save _ refl refl refl
+pub returns-in-Err-Fault-clause-device : goal.returns-in-Err-Fault-clause-device
+returns-in-Err-Fault-clause-device g c =
+    let f = rw c.in-Err-Fault.field-0-is at c.in-Err-Fault.ensures in device g (goal.at.returns-in-Err-Fault-clause-device g c).After-save true _ refl refl refl f.faults
+
+pub returns-in-Err-Fault-clause-still : goal.returns-in-Err-Fault-clause-still
+returns-in-Err-Fault-clause-still g c = λ is. absurd (cc (is))
 
 -- the store isn't halted if nothing is pending
 never : (g : Over) (c : In-Err-Halted g) → ⊥
@@ -217,5 +259,11 @@ returns-clause-err g c = absurd (never g (goal.at.returns-clause-err g c).In-Err
 pub returns-clause-any_moment : goal.returns-clause-any_moment
 returns-clause-any_moment g c = absurd (never g (goal.at.returns-clause-any_moment g c).In-Err-Halted)
 
-pub returns-clause-openable : goal.returns-clause-openable
-returns-clause-openable g c = absurd (never g (goal.at.returns-clause-openable g c).In-Err-Halted)
+pub returns-clause-device : goal.returns-clause-device
+returns-clause-device g c = absurd (never g (goal.at.returns-clause-device g c).In-Err-Halted)
+
+pub returns-clause-still : goal.returns-clause-still
+returns-clause-still g c = absurd (never g (goal.at.returns-clause-still g c).In-Err-Halted)
+
+pub invariant_of-self-in-Err-Halted : goal.invariant_of-self-in-Err-Halted
+invariant_of-self-in-Err-Halted g c = absurd (never g (goal.at.invariant_of-self-in-Err-Halted g c).In-Err-Halted)

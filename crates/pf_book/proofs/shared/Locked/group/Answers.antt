@@ -2,7 +2,7 @@ use Rattle.std.proofs.Common.{subst}
 use Rattle.std.specs.{Option.option_copied, Prelude.nat_lt}
 use Rattle.pf_disk.specs.Disk.{EachMoment}
 use Rattle.pf_core.specs.{WorldBooks.{IsAt, LeadsGroup}, Worlds.{CurrentOpening, Upshot, grouping, upshot}}
-use Rattle.pf_book.specs.{Books.{HoldsLeft, PlainBook, world_book}, Groups.{replies_of, told}}
+use Rattle.pf_book.specs.{Books.{HoldsLeft, PlainBook, StaysOpenable, StaysUnlessAnyKept, world_book}, Groups.{replies_of, told}}
 use Rattle.pf_book.proofs.LockedCalls.{group-answered, reached-behind}
 use Rattle.pf_book.proofs.shared.Locked.group.Goals as goal
 
@@ -12,7 +12,7 @@ invariant_of-self g c =
     let new = c.answer_all-answers.new.self in
     let t : Upshot = upshot new.shown (nat_lt (g.D.Disk.fault_count old.disk) (g.D.Disk.fault_count new.disk)) in
     let e = c.answer_all-answers.ensures in
-    reached-behind g.J.Naming.base g.J.Chapter.setting (world_book old) (world_book new) c.args.commands.now (told c.answer_all-answers.result) t c.self.invariant e.leads c.between_calls.ensures.folded e.base e.setting
+    reached-behind g.J.Naming.base g.J.Chapter.setting (world_book old) (world_book new) c.args.commands.now (told c.answer_all-answers.result) t c.self.invariant e.leads c.between_calls.ensures.folded e.opening.base e.opening.setting
 
 pub returns-clause-answered : goal.returns-clause-answered
 returns-clause-answered g c =
@@ -20,7 +20,7 @@ returns-clause-answered g c =
     let new = c.answer_all-answers.new.self in
     let t : Upshot = upshot new.shown (nat_lt (g.D.Disk.fault_count old.disk) (g.D.Disk.fault_count new.disk)) in
     let e = c.answer_all-answers.ensures in
-    group-answered g.J.Naming.base g.J.Chapter.setting (world_book old) (world_book new) c.args.commands.now (told c.answer_all-answers.result) t c.self.invariant e.leads c.between_calls.ensures.folded (option_copied c.args.last) e.receipts e.shown e.follows e.shows
+    group-answered g.J.Naming.base g.J.Chapter.setting (world_book old) (world_book new) c.args.commands.now (told c.answer_all-answers.result) t c.self.invariant e.leads c.between_calls.ensures.folded (option_copied c.args.last) e.receipts e.shown e.last.follows e.last.shows
 
 pub returns-clause-any_moment : goal.returns-clause-any_moment
 returns-clause-any_moment g c =
@@ -34,3 +34,9 @@ returns-clause-leads g c =
     let before : PlainBook g.row.D.Denot → Type 0 =
     λ l. (h : CurrentOpening) → IsAt h (world_book l) → LeadsGroup h (world_book new) c.args.commands.now (replies_of (told c.answer_all-answers.result)) (upshot new.shown (nat_lt (g.D.Disk.fault_count l.disk) (g.D.Disk.fault_count new.disk))) in
     subst before c.self.view_is c.answer_all-answers.ensures.leads
+
+pub returns-clause-openable : goal.returns-clause-openable
+returns-clause-openable g c = subst (λ (l : PlainBook g.row.D.Denot). StaysOpenable g.D.Disk.moment g.D.Disk.left_since l c.answer_all-answers.new.self) c.self.view_is c.answer_all-answers.ensures.openable
+
+pub returns-clause-stays : goal.returns-clause-stays
+returns-clause-stays g c = subst (λ (l : PlainBook g.row.D.Denot). StaysUnlessAnyKept (replies_of (told c.answer_all-answers.result)) l c.answer_all-answers.new.self) c.self.view_is c.answer_all-answers.ensures.stays
