@@ -13,7 +13,7 @@ use Rattle.pf_session.specs.declared.line_engine.fault.EngineFault.{EngineFault}
 use Rattle.pf_session.specs.declared.line_engine.fault.EngineFault.TheVariants as fault
 use Rattle.pf_session.specs.LineEngine.Sessions as sessions
 use Rattle.pf_session.specs.Server.Streams as streams
-use Rattle.pf_session.specs.{LineEngine.Chains.Chain, LineEngine.Sessions.{Answered, CutOff}, Server.{Sittings.{RunsBy, Sitting, TakesLine, at_next_line}, Streams.{CutShort, Item, Part, Taken, TakesPart, asked, last_receipt}}, Laws.Receipts.{AreWithin, ChainWithin, IsWithin, SitsWithin, TakesPartWithin, TakesWithin}}
+use Rattle.pf_session.specs.{LineEngine.Chains.Chain, LineEngine.Sessions.{Answered, CutOff}, Server.{Sittings.{RunsBy, Sitting, TakesLine, at_next_line}, Streams.{Part, TakesPart, asked, last_receipt}}, Laws.Receipts.{AreWithin, ChainWithin, IsWithin, SitsWithin, TakesPartWithin, TakesWithin}}
 use Rattle.pf_session.proofs.{Chains.chain-moves, Sitting.line-moves}
 
 -- ---- two receipts
@@ -93,23 +93,25 @@ module _ {S : Type 0} (receipt : S → Option PlainReceipt) (Serves : S → S �
 
 module _ {S : Type 0} (receipt : S → Option PlainReceipt) (Serves : S → S → List Part → List ℕ → Type 0) (Within : Option PlainReceipt → S → S → List Part → List ℕ → Type 0)
     (both : (last : Option PlainReceipt) (a b : S) (xs : List Part) (text : List ℕ) → IsWithin (receipt b) last → Serves a b xs text → IsWithin (receipt a) (receipt b) × Within last a b xs text) where
-  taken-within : {xs : List Item} {a b : S} {h i : Option (List ℕ)} → Taken Serves xs a b h i → IsWithin (receipt a) (receipt b) × Taken (Within (receipt b)) xs a b h i
-  taken-within p =
-      let (rise, answered) = all-within receipt Serves Within both p.answered in (rise, record { parts = p.parts; joined = p.joined; answered = answered })
+  end-within : (result : Result (Unit {0}) EngineFault) (left : Option (List ℕ)) (bytes : List ℕ) (unread : Option (List ℕ)) (a b : S) (h i : Option (List ℕ))
+      → streams.StreamEnds Serves result left bytes unread a b h i
+      → IsWithin (receipt a) (receipt b) × streams.StreamEnds (Within (receipt b)) result left bytes unread a b h i
+  end-within (Ok u) left bytes unread a b h i (none, end, all) = let (rise, within) = all-within receipt Serves Within both all in (rise, (none, end, within))
+  end-within (Err fault.Read) left bytes unread a b h i (none, going, all) = let (rise, within) = all-within receipt Serves Within both all in (rise, (none, going, within))
+  end-within (Err fault.Write) left bytes unread a b h i (inl (p, after, of, is, cut)) = let (rise, within) = cut_off-within receipt Serves Within both cut in (rise, inl (p, after, of, is, within))
+  end-within (Err fault.Write) left bytes unread a b h i (inr (none, inl cut)) = let (rise, within) = cut_off-within receipt Serves Within both cut in (rise, inr (none, inl within))
+  end-within (Err fault.Write) left bytes unread a b h i (inr (none, inr (end, cut))) =
+      let (rise, within) = cut_off-within receipt Serves Within both cut in (rise, inr (none, inr (end, within)))
+  end-within (Err fault.Memory) left bytes unread a b h i (few, going, all) = let (rise, within) = all-within receipt Serves Within both all in (rise, (few, going, within))
 
-  cut_short-within : {xs : List Item} {a b : S} {h i : Option (List ℕ)} → CutShort Serves xs a b h i → IsWithin (receipt a) (receipt b) × CutShort (Within (receipt b)) xs a b h i
-  cut_short-within p =
-      let (rise, cut) = cut_off-within receipt Serves Within both p.cut in (rise, record { parts = p.parts; joined = p.joined; cut = cut })
-
-  stream-within : (result : Result (Unit {0}) EngineFault) (input : List ℕ) (unread : Option (List ℕ)) (a b : S) (h i : Option (List ℕ))
-      → streams.StreamEnds Serves result input unread a b h i
-      → IsWithin (receipt a) (receipt b) × streams.StreamEnds (Within (receipt b)) result input unread a b h i
-  stream-within (Ok u) input unread a b h i (ms, e, reads, all, end) = let (rise, within) = taken-within all in (rise, (ms, e, reads, within, end))
-  stream-within (Err fault.Read) input unread a b h i (ms, rest, reads, all) = let (rise, within) = taken-within all in (rise, (ms, rest, reads, within))
-  stream-within (Err fault.Write) input unread a b h i (ms, e, reads, inl cut) = let (rise, within) = cut_short-within cut in (rise, (ms, e, reads, inl within))
-  stream-within (Err fault.Write) input unread a b h i (ms, e, reads, inr (cut, end)) = let (rise, within) = cut_short-within cut in (rise, (ms, e, reads, inr (within, end)))
-  stream-within (Err fault.Memory) input unread a b h i (before, piece, ms, rest, is, short, reads, all) =
-      let (rise, within) = taken-within all in (rise, (before, piece, ms, rest, is, short, reads, within))
+  stream-within : (result : Result (Unit {0}) EngineFault) (unread still_unread : Option (List ℕ)) (a b : S) (h i : Option (List ℕ)) → streams.IsStream Serves result unread still_unread a b h i
+      → IsWithin (receipt a) (receipt b) × streams.IsStream (Within (receipt b)) result unread still_unread a b h i
+  stream-within result unread still_unread a b h i s =
+      let (behind, ends) = end-within result s.left s.bytes still_unread s.mid b s.shown i s.ends in
+      let (front, answered) = answered-within receipt Serves Within both (receipt b) behind s.answered in (
+        within-then (receipt a) (receipt s.mid) (receipt b) front behind,
+        record { pieces = s.pieces; left = s.left; are = s.are; mid = s.mid; shown = s.shown; answered = answered; bytes = s.bytes; read = s.read; ends = ends },
+      )
 
 -- ---- a group
 
@@ -205,6 +207,5 @@ sits-within passed base setting result unread still_unread old new held held' s 
 
 pub takes-within : TakesWithin
 takes-within base setting result unread still_unread old new held held' s =
-    let (rise, ends) = stream-within (λ (slip : Option PlainReceipt). slip) (Chain (TakesPart base setting)) (λ (l : Option PlainReceipt). Chain (TakesPartWithin l base setting)) (parts-within base setting)
-    result s.input still_unread old new held held' s.ends in
-    (rise, record { input = s.input; read = s.read; ends = ends })
+    stream-within (λ (slip : Option PlainReceipt). slip) (Chain (TakesPart base setting)) (λ (l : Option PlainReceipt). Chain (TakesPartWithin l base setting)) (parts-within base setting)
+    result unread still_unread old new held held' s

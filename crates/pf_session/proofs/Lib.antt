@@ -6,6 +6,7 @@ pub mod LineReplies
 pub mod Sitting
 pub mod Replying
 pub mod Streaming
+pub mod Joining
 pub mod Grouping
 pub mod Learning
 pub mod Acknowledging

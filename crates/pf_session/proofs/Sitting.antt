@@ -7,36 +7,36 @@ use Rattle.pf_session.specs.declared.server.session.Session.{Session}
 use Rattle.pf_session.specs.{LineEngine.Chains.Chain, Telling.{IsToldBy, Says}, Server.Sittings.{Runs, RunsBy, TakesLines, Sitting, next_line, packet_in}, Server.SessionRuns.{IsSame, RunsInSession, TakesInSession, sitting}}
 use Rattle.pf_session.proofs.LineReplies.{told-moves}
 
-module _ {W D J H G : Type 0} where
-  pub same-still : (s : Session W D J H G) → IsSame s s
+module _ {C J G : Type 0} where
+  pub same-still : (s : Session C J G) → IsSame s s
   same-still s = record { seer = refl; last = refl; number = refl; gate = refl }
 
-  pub same-then : {a b c : Session W D J H G} → IsSame a b → IsSame b c → IsSame a c
+  pub same-then : {a b c : Session C J G} → IsSame a b → IsSame b c → IsSame a c
   same-then p q = record { seer = q.seer ∙ p.seer; last = q.last ∙ p.last; number = q.number ∙ p.number; gate = q.gate ∙ p.gate }
 
-  stays-same : (start a b : Session W D J H G) → b ≡ a → IsSame start a → IsSame start b
-  stays-same start a b is same = subst (λ (s : Session W D J H G). IsSame start s) (sym is) same
+  stays-same : (start a b : Session C J G) → b ≡ a → IsSame start a → IsSame start b
+  stays-same start a b is same = subst (λ (s : Session C J G). IsSame start s) (sym is) same
 
-  stays-sitting : (a b : Session W D J H G) → b ≡ a → sitting b ≡ sitting a
-  stays-sitting a b is = ap (λ (s : Session W D J H G). sitting s) is
+  stays-sitting : (a b : Session C J G) → b ≡ a → sitting b ≡ sitting a
+  stays-sitting a b is = ap (λ (s : Session C J G). sitting s) is
 
-module _ {W D J H G : Type 0} (base : PlainDurable) (setting : Setting) where
-  says-sitting : (meant : Result (Option Command) Refusal) (a b : Session W D J H G) (text : List ℕ) → Says (RunsInSession base setting) meant a b text
+module _ {C J G : Type 0} (base : PlainDurable) (setting : Setting) where
+  says-sitting : (meant : Result (Option Command) Refusal) (a b : Session C J G) (text : List ℕ) → Says (RunsInSession base setting) meant a b text
       → IsSame a b × Says (Runs base setting) meant (sitting a) (sitting b) text
   says-sitting (Ok None) a b text says = (stays-same a a b says.0 (same-still a), (stays-sitting a b says.0, says.1))
   says-sitting (Ok (Some c)) a b text says = (says.same, says.runs)
   says-sitting (Err e) a b text says = (stays-same a a b says.0 (same-still a), (stays-sitting a b says.0, says.1))
 
   -- the reply to a line, as far as the session moves on by it
-  told-sitting : (line : List ℕ) (a b : Session W D J H G) (text : List ℕ) → IsToldBy (RunsInSession base setting) line a b text
+  told-sitting : (line : List ℕ) (a b : Session C J G) (text : List ℕ) → IsToldBy (RunsInSession base setting) line a b text
       → IsSame a b × IsToldBy (Runs base setting) line (sitting a) (sitting b) text
   told-sitting line a b text (inl (meant, means, says)) = let (same, ran) = says-sitting meant a b text says in (same, inl (meant, means, ran))
   told-sitting line a b text (inr none) =
       (stays-same a a b none.same (same-still a), inr (record { speaks = none.speaks; same = stays-sitting a b none.same; told = none.told }))
 
-module _ {W D J H G : Type 0} (passed : G → ℕ → ℕ → Type 0) (base : PlainDurable) (setting : Setting) where
+module _ {C J G : Type 0} (passed : G → ℕ → ℕ → Type 0) (base : PlainDurable) (setting : Setting) where
   -- the line that comes next, which has this number
-  pub attends-one : (old new : Session W D J H G) (line text : List ℕ) (n : ℕ) → n ≡ next_line old.line → passed old.gate.now old.number n
+  pub attends-one : (old new : Session C J G) (line text : List ℕ) (n : ℕ) → n ≡ next_line old.line → passed old.gate.now old.number n
       → IsToldBy (RunsInSession base setting) line (record old { line = n }) new text → TakesInSession passed base setting line old new text
   attends-one old new line text n is gate told =
       let (same, by) = told-sitting base setting line (record old { line = n }) new text told in
@@ -49,7 +49,7 @@ module _ {W D J H G : Type 0} (passed : G → ℕ → ℕ → Type 0) (base : Pl
       }
 
   -- what it does is done by the session that it began as
-  pub sat : (start a b : Session W D J H G) (lines : List (List ℕ)) (text : List ℕ) → IsSame start a → Chain (TakesInSession passed base setting) a b lines text
+  pub sat : (start a b : Session C J G) (lines : List (List ℕ)) (text : List ℕ) → IsSame start a → Chain (TakesInSession passed base setting) a b lines text
       → TakesLines (passed start.gate.now start.number) base setting (sitting a) (sitting b) lines text × IsSame start b
   sat start a b [] text same (is, none) = ((stays-sitting a b is, none), stays-same start a b is same)
   sat start a b (line ∷ lines) text same (mid, first, rest, step, more, told) =

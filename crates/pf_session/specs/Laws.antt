@@ -5,3 +5,4 @@ pub mod Acknowledged
 pub mod Receipts
 pub mod Lines
 pub mod Takeover
+pub mod Streams

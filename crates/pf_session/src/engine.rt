@@ -4,11 +4,11 @@ ghost use Rattle.pf_book.specs.Books.{world_book};
 ghost use Rattle.pf_session.specs.{LineEngine.Sessions.IsSession, Serving.{CallsBook, Serves}, Telling.IsToldBy, Laws.Seeing.seen-told};
 
 use crate::line_engine::{AnswerLine, EngineFault, serve};
-use crate::telling::{RunCommands, answer};
+use crate::telling::{RunCommands, answer, tell};
 use pf_book::{Book, Chapter};
 use pf_core::Command;
 use pf_disk::Disk;
-use pf_line::{write_judged, write_reply};
+use pf_line::write_judged;
 use pf_rule::Packet;
 use std::alloc::Global;
 use std::io::{self, Read, Write};
@@ -19,7 +19,7 @@ impl<D: Disk + Drop, J: Chapter, H: Wait + Drop> RunCommands for Book<D, J, H> {
 
     fn run_command<W: Write>(&mut self, command: Command, writer: &mut W) -> io::Result<()> {
         let reply = self.run(command);
-        write_reply(writer, &reply)
+        tell(writer, reply)
     }
 
     fn judge_packet<W: Write>(&mut self, packet: &Packet, writer: &mut W) -> io::Result<()> {

@@ -1,6 +1,6 @@
 //! Laws of a Book and of sessions. Each function does nothing; its contract is the law.
 ghost use Rattle.std.specs.Prelude.{ℕ};
-ghost use Rattle.pf_session.specs.Laws.{Acknowledged.{AcknowledgesNoLess, AcknowledgesTold, FindsAcknowledged}, Receipts.{SitsWithin, TakesWithin}, Sittings.{LearnsNoLess, LearnsApplied}, Takeover.{TakesOver, FreshTakesOver}};
+ghost use Rattle.pf_session.specs.Laws.{Acknowledged.{AcknowledgesNoLess, AcknowledgesTold, FindsAcknowledged}, Receipts.{SitsWithin, TakesWithin}, Sittings.{LearnsNoLess, LearnsApplied}, Streams.AreOneStream, Takeover.{TakesOver, FreshTakesOver}};
 
 use crate::server::Gate;
 use pf_disk::Disk;
@@ -36,4 +36,10 @@ pub fn what_is_told_stays_acknowledged<G: Gate>()
 pub fn the_last_receipt_has_all<G: Gate>()
     ensures sessions { (gate : G) (session : ℕ) → SitsWithin (G.passed gate session) }
     ensures peers { TakesWithin }
+{}
+
+/// However reads cut a peer's stream, the messages of all its pieces, in their order, and its fault, if it has one, are what its bytes say
+/// as a whole.
+pub fn pieces_are_one_stream()
+    ensures { AreOneStream }
 {}

@@ -1,9 +1,11 @@
 //! The server: sessions and peers' streams over one Book that all of them share, for any reader and writer.
 //!
 //! - `gate`: what a session passes before each line.
+//! - `caller`: what a session and a stream call.
 //! - `session`: a session's lines, by the Book and the session's seer.
 //! - `stream`: a peer's messages in groups, by the Book.
 
+mod caller;
 mod gate;
 mod session;
 mod stream;

@@ -79,7 +79,14 @@ fn answer_any<A: RunCommands, W: Write>(
     }
 }
 
-/// Writes the reply of a refusal. Kept apart, since a function pays for the size of a reply wherever it goes.
+/// Writes a reply, and drops it. Kept apart, as a function's proof pays for the size of a reply wherever it goes.
+pub(crate) fn tell<W: Write>(writer: &mut W, reply: Reply) -> io::Result<()>
+    ensures { Writes result (W.contents writer.old) (W.contents writer.new) (reply_text reply) }
+{
+    write_reply(writer, &reply)
+}
+
+/// Writes the reply of a refusal. Kept apart for the same reason.
 pub(crate) fn refuse<W: Write>(writer: &mut W, refusal: Refusal) -> io::Result<()>
     ensures { Writes result (W.contents writer.old) (W.contents writer.new) (reply_text (Refused refusal)) }
 {

@@ -5,24 +5,24 @@ use Rattle.pf_core.specs.{Durable.Changes.PlainDurable, Worlds.Setting}
 use Rattle.pf_session.specs.declared.server.session.Session.{Session}
 use Rattle.pf_session.specs.Server.Sittings.{Runs, TakesLine, Sitting}
 
-abbrev pub sitting : {W D J H G : Type 0} → Session W D J H G → Sitting
+abbrev pub sitting : {C J G : Type 0} → Session C J G → Sitting
 sitting s = record { line = s.line; last = s.last.now; seer = s.seer.now }
 
 -- it is the same session: its seer, the place of its receipt, its number and its gate are
-pub record IsSame {W D J H G : Type 0} (old new : Session W D J H G) : Type 0 where
+pub record IsSame {C J G : Type 0} (old new : Session C J G) : Type 0 where
   pub seer : new.seer.ghost_name ≡ old.seer.ghost_name
   pub last : new.last.ghost_name ≡ old.last.ghost_name
   pub number : new.number ≡ old.number
   pub gate : new.gate ≡ old.gate
 
 -- this command took it from the one to the other
-pub record RunsInSession {W D J H G : Type 0} (base : PlainDurable) (setting : Setting) (c : Command)
-    (old new : Session W D J H G) (text : List ℕ) : Type 0 where
+pub record RunsInSession {C J G : Type 0} (base : PlainDurable) (setting : Setting) (c : Command)
+    (old new : Session C J G) (text : List ℕ) : Type 0 where
   pub same : IsSame old new
   pub runs : Runs base setting c (sitting old) (sitting new) text
 
 -- this line took it from the one to the other
-pub record TakesInSession {W D J H G : Type 0} (passed : G → ℕ → ℕ → Type 0) (base : PlainDurable) (setting : Setting) (line : List ℕ)
-    (old new : Session W D J H G) (text : List ℕ) : Type 0 where
+pub record TakesInSession {C J G : Type 0} (passed : G → ℕ → ℕ → Type 0) (base : PlainDurable) (setting : Setting) (line : List ℕ)
+    (old new : Session C J G) (text : List ℕ) : Type 0 where
   pub same : IsSame old new
   pub takes : TakesLine (passed old.gate.now old.number) base setting line (sitting old) (sitting new) text

@@ -1,38 +1,21 @@
--- A peer's stream over a Book that others use too: its messages are given to it in groups.
+-- A peer's stream over a Book that others use too: the messages that each read completes are given to it in groups.
 use Rattle.std.specs.{Prelude.{◌≡◌, ℕ, ◌<◌, ◌≤◌, length, List, [], ◌∷◌, ◌++◌, map, flat_map, fold, Option, Some, None, Result, Ok, Err, ◌⊎◌, ⊤}, Io.KnownBytes.{Appends, Consumes, IsAtEnd}}
 use Rattle.pf_addr.specs.Writing.{WritesFront}
 use Rattle.pf_state.specs.declared.{peer.fault.FeedError.FeedError, peer.fault.PeerFault.PeerFault, peer.fault.PeerFault.TheVariants.Ended, peer.message.Message.Message}
-use Rattle.pf_state.specs.Peer.{Outcomes.TakenAs, Streams.{Ending, Unfinished, Faulty, Reads}}
+use Rattle.pf_state.specs.Peer.Outcomes.{TakenAs}
 use Rattle.pf_core.specs.declared.{command.Command.Command, command.Command.TheVariants.States, command.StateCommand.TheVariants.Peer, group.TheConstants.GROUP_LIMIT, reply.Refusal.Refusal, reply.Refusal.TheVariants.BadPeer, reply.Reply.TheVariants.Refused}
 use Rattle.pf_core.specs.{Durable.Changes.PlainDurable, Worlds.Setting}
 use Rattle.pf_line.specs.Reply.Replies.{reply_text}
 use Rattle.pf_book.specs.{Groups.{Answered as Receipted, IsGroupAnswered}, Receipts.PlainReceipt}
 use Rattle.pf_session.specs.declared.{line_engine.fault.EngineFault.EngineFault, server.stream.Progress.Progress, server.stream.Progress.TheVariants.{On, Over}}
 use Rattle.pf_session.specs.declared.line_engine.fault.EngineFault.TheVariants as fault
-use Rattle.pf_session.specs.{LineEngine.Chains.Chain, LineEngine.Sessions.{Answered, CutOff}}
-
--- what comes in a stream: a message, or what is wrong after the last one
-abbrev pub Item : Type 0
-Item = Result Message PeerFault
-
--- what is wrong where the stream ends so: its fault, or that it ends within a message
-abbrev pub wrong : Ending → List Item
-wrong (Unfinished []) = []
-wrong (Unfinished (b ∷ bytes)) = Err Ended ∷ []
-wrong (Faulty f) = Err f ∷ []
-
-abbrev pub items : List Message → List Item
-items ms = map Ok ms
+use Rattle.pf_session.specs.{LineEngine.Chains.Chain, LineEngine.Pieces.Answers, LineEngine.Sessions.{Answered, CutOff}}
 
 -- ---- parts
 
 -- what is done at once: a group of messages is run, or a fault is written
 abbrev pub Part : Type 0
 Part = Result (List Message) PeerFault
-
-abbrev pub items_in : Part → List Item
-items_in (Ok ms) = items ms
-items_in (Err f) = Err f ∷ []
 
 -- what the Book is asked
 abbrev pub asked : List Message → List Command
@@ -66,57 +49,90 @@ TakesPart base setting (Err f) old new text = (new ≡ old) × (text ≡ reply_t
 abbrev pub Takes : PlainDurable → Setting → Option PlainReceipt → Option PlainReceipt → List Part → List ℕ → Type 0
 Takes base setting old new parts text = Chain (TakesPart base setting) old new parts text
 
--- All of this was taken, part by part, and all its text was written.
-pub record Taken {S : Type 0} (Serves : S → S → List Part → List ℕ → Type 0)
-    (all : List Item) (old new : S) (held held' : Option (List ℕ)) : Type 0 where
-  pub parts : List Part
-  pub joined : flat_map items_in parts ≡ all
-  pub answered : Answered Serves parts old new held held'
+-- ---- pieces
 
--- Some of it was taken, part by part from the front on, and then a write failed: all its text was written but that of the last part, and
--- some front of that was.
-pub record CutShort {S : Type 0} (Serves : S → S → List Part → List ℕ → Type 0)
-    (all : List Item) (old new : S) (held held' : Option (List ℕ)) : Type 0 where
-  pub parts : List Part
-  pub joined : flat_map items_in parts ≡ all
-  pub cut : CutOff Serves parts old new held held'
+-- What one read gives: its bytes; the messages that are whole with it, in groups; and the fault behind them, if there is one.
+pub record Piece : Type 0 where
+  pub bytes : List ℕ
+  pub groups : List (List Message)
+  pub fault : Option PeerFault
+
+-- Each group has 64 messages, and the last has what is left.
+abbrev pub AreGroups : List (List Message) → Type 0
+AreGroups [] = ⊤
+AreGroups (g ∷ []) = (0 < length g) × (length g ≤ GROUP_LIMIT)
+AreGroups (g ∷ h ∷ groups) = (length g ≡ GROUP_LIMIT) × AreGroups (h ∷ groups)
+
+abbrev pub messages_of : List (List Message) → List Message
+messages_of groups = flat_map (λ g. g) groups
+
+-- a fault, if there is one
+abbrev pub told : Option PeerFault → List Part
+told None = []
+told (Some f) = Err f ∷ []
+
+-- what is done at a piece: each of its groups is run, and then its fault is written
+abbrev pub parts_in : Piece → List Part
+parts_in p = map Ok p.groups ++ told p.fault
+
+-- A piece of a stream whose bytes so far are whole messages and these. It leaves those of the next message, and none after a fault, behind
+-- which there is no piece.
+pub record IsPiece (old : Option (List ℕ)) (p : Piece) (new : Option (List ℕ)) : Type 0 where
+  pub few : length p.bytes ≤ 131072
+  pub taken : TakenAs old p.bytes new (messages_of p.groups) p.fault
+  pub groups : AreGroups p.groups
+
+-- pieces, one after the other
+abbrev pub ArePieces : Option (List ℕ) → List Piece → Option (List ℕ) → Type 0
+ArePieces old [] new = new ≡ old
+ArePieces old (p ∷ pieces) new = (mid : Option (List ℕ)) × IsPiece old p mid × ArePieces mid pieces new
 
 -- ---- the stream
 
+-- no fault was found so far
+abbrev pub GoesOn : Option (List ℕ) → Type 0
+GoesOn left = (rest : List ℕ) × (left ≡ Some rest)
+
 -- the stream has a fault, or the reader is at its end
-abbrev pub HasEnded : Ending → Option (List ℕ) → Type 0
-HasEnded (Unfinished rest) unread = IsAtEnd unread
-HasEnded (Faulty f) unread = ⊤
+abbrev pub HasEnded : Option (List ℕ) → Option (List ℕ) → Type 0
+HasEnded None unread = ⊤
+HasEnded (Some rest) unread = IsAtEnd unread
 
--- What was done for this input. At its end, and at a fault, all its messages are run, and what is wrong is written; where no more could
--- be read all its messages are run. Where a write failed, some are, from the front on; some front of what is wrong may be out only where
--- all of it would be written. When out of memory, all are that were whole before the last piece of it, which is what one read may give.
+-- what is wrong where the stream ends so: that it ends within a message
+abbrev pub wrong : Option (List ℕ) → List Part
+wrong None = []
+wrong (Some []) = []
+wrong (Some (b ∷ bytes)) = Err Ended ∷ []
+
+-- What ends a stream behind pieces that were answered, and these further bytes. At its end, and at a fault, what is wrong is written. Where
+-- no more can be read nothing is, nor where there is no memory for a further piece. Where a write fails, groups of a further piece were run,
+-- from the front on; or some of what is wrong at the end may be out; or just a flush failed.
 abbrev pub StreamEnds : {S : Type 0} → (S → S → List Part → List ℕ → Type 0)
-    → Result (Unit {0}) EngineFault → List ℕ → Option (List ℕ) → S → S → Option (List ℕ) → Option (List ℕ) → Type 0
-StreamEnds Serves (Ok u) input unread old new held held' =
-    (ms : List Message) × (e : Ending) × Reads input ms e × Taken Serves (items ms ++ wrong e) old new held held' × HasEnded e unread
-StreamEnds Serves (Err fault.Read) input unread old new held held' =
-    (ms : List Message) × (rest : List ℕ) × Reads input ms (Unfinished rest) × Taken Serves (items ms) old new held held'
-StreamEnds Serves (Err fault.Write) input unread old new held held' =
-    (ms : List Message) × (e : Ending) × Reads input ms e
-    × (CutShort Serves (items ms) old new held held' ⊎ (CutShort Serves (items ms ++ wrong e) old new held held' × HasEnded e unread))
-StreamEnds Serves (Err fault.Memory) input unread old new held held' =
-    (before piece : List ℕ) × (ms : List Message) × (rest : List ℕ) × (input ≡ before ++ piece) × (length piece ≤ 131072)
-    × Reads before ms (Unfinished rest) × Taken Serves (items ms) old new held held'
+    → Result (Unit {0}) EngineFault → Option (List ℕ) → List ℕ → Option (List ℕ) → S → S → Option (List ℕ) → Option (List ℕ) → Type 0
+StreamEnds Serves (Ok u) left bytes unread old new held held' =
+    (bytes ≡ []) × HasEnded left unread × Answered Serves (wrong left) old new held held'
+StreamEnds Serves (Err fault.Read) left bytes unread old new held held' = (bytes ≡ []) × GoesOn left × Answered Serves [] old new held held'
+StreamEnds Serves (Err fault.Write) left bytes unread old new held held' =
+    ((p : Piece) × (after : Option (List ℕ)) × (p.bytes ≡ bytes) × IsPiece left p after × CutOff Serves (parts_in p) old new held held')
+    ⊎ (bytes ≡ []) × (CutOff Serves [] old new held held' ⊎ (IsAtEnd unread × CutOff Serves (wrong left) old new held held'))
+StreamEnds Serves (Err fault.Memory) left bytes unread old new held held' =
+    (length bytes ≤ 131072) × GoesOn left × Answered Serves [] old new held held'
 
--- What was read, and what was done for it.
+-- What was read, and what was done for it. All that is due to a piece is done, and all its replies are written, before another one is read:
+-- so whatever ends the stream, all its pieces but the last are answered whole.
 pub record IsStream {S : Type 0} (Serves : S → S → List Part → List ℕ → Type 0)
     (result : Result (Unit {0}) EngineFault) (unread still_unread : Option (List ℕ)) (old new : S) (held held' : Option (List ℕ)) : Type 0 where
-  pub input : List ℕ
-  pub read : Consumes unread still_unread input
-  pub ends : StreamEnds Serves result input still_unread old new held held'
+  pub pieces : List Piece
+  pub left : Option (List ℕ)
+  pub are : ArePieces (Some []) pieces left
+  pub mid : S
+  pub shown : Option (List ℕ)
+  pub answered : Answered Serves (flat_map parts_in pieces) old mid held shown
+  pub bytes : List ℕ
+  pub read : Consumes unread still_unread (flat_map (λ p. p.bytes) pieces ++ bytes)
+  pub ends : StreamEnds Serves result left bytes still_unread mid new shown held'
 
 -- ---- a piece
-
--- a fault, if there was one
-abbrev pub told : Option PeerFault → List Item
-told None = []
-told (Some f) = Err f ∷ []
 
 abbrev pub told_text : Option PeerFault → List ℕ
 told_text None = []
@@ -146,39 +162,49 @@ TellsEnd (Err fault.Read) end held held' = ⊥
 TellsEnd (Err fault.Write) end held held' = WritesFront held held' (end_text end)
 TellsEnd (Err fault.Memory) end held held' = ⊥
 
--- messages were run, or a failed write cut that short
-abbrev pub RunsAll : {S A E : Type 0} → (S → S → List Part → List ℕ → Type 0)
-    → Result A E → List Message → S → S → Option (List ℕ) → Option (List ℕ) → Type 0
-RunsAll Serves (Ok x) ms old new held held' = Taken Serves (items ms) old new held held'
-RunsAll Serves (Err e) ms old new held held' = CutShort Serves (items ms) old new held held'
+-- messages were run in groups, or a failed write cut that short
+pub record RunsAll {S A E : Type 0} (Serves : S → S → List Part → List ℕ → Type 0)
+    (result : Result A E) (ms : List Message) (old new : S) (held held' : Option (List ℕ)) : Type 0 where
+  pub groups : List (List Message)
+  pub are : AreGroups groups
+  pub of : messages_of groups ≡ ms
+  pub answers : Answers Serves result (map Ok groups) old new held held'
 
--- messages were run, and a fault was written after them, if there was one; or a failed write cut that short
-abbrev pub RunsFed : {S : Type 0} → (S → S → List Part → List ℕ → Type 0)
-    → Result Progress EngineFault → List Message → Option PeerFault → S → S → Option (List ℕ) → Option (List ℕ) → Type 0
-RunsFed Serves (Ok goes) ms fault old new held held' = IsGoing goes fault × Taken Serves (items ms ++ told fault) old new held held'
-RunsFed Serves (Err fault.Read) ms fault old new held held' = ⊥
-RunsFed Serves (Err fault.Write) ms fault old new held held' = CutShort Serves (items ms ++ told fault) old new held held'
-RunsFed Serves (Err fault.Memory) ms fault old new held held' = ⊥
+-- these parts were done, of which the last is this fault, if there is one; or a failed write cut that short
+abbrev pub RunsParts : {S : Type 0} → (S → S → List Part → List ℕ → Type 0)
+    → Result Progress EngineFault → List Part → Option PeerFault → S → S → Option (List ℕ) → Option (List ℕ) → Type 0
+RunsParts Serves (Ok goes) parts fault old new held held' = IsGoing goes fault × Answered Serves parts old new held held'
+RunsParts Serves (Err fault.Read) parts fault old new held held' = ⊥
+RunsParts Serves (Err fault.Write) parts fault old new held held' = CutOff Serves parts old new held held'
+RunsParts Serves (Err fault.Memory) parts fault old new held held' = ⊥
+
+-- messages were run in groups, and a fault was written after them, if there was one
+pub record RunsFed {S : Type 0} (Serves : S → S → List Part → List ℕ → Type 0)
+    (result : Result Progress EngineFault) (ms : List Message) (fault : Option PeerFault) (old new : S) (held held' : Option (List ℕ)) : Type 0 where
+  pub groups : List (List Message)
+  pub are : AreGroups groups
+  pub of : messages_of groups ≡ ms
+  pub ran : RunsParts Serves result (map Ok groups ++ told fault) fault old new held held'
 
 -- nothing was done
 pub record Waits {S : Type 0} (old new : S) (held held' : Option (List ℕ)) : Type 0 where
   pub state : new ≡ old
   pub bytes : held' ≡ held
 
--- what a piece brought was run; or there was no memory for it
+-- what is due to a piece of these bytes was done; or there was no memory for it
 abbrev pub TakesPiece : {S : Type 0} → (S → S → List Part → List ℕ → Type 0)
     → Result Progress EngineFault → List ℕ → Option (List ℕ) → Option (List ℕ) → S → S → Option (List ℕ) → Option (List ℕ) → Type 0
-TakesPiece Serves result piece kept kept' old new held held' =
-    ((ms : List Message) × (fault : Option PeerFault) × TakenAs kept piece kept' ms fault × RunsFed Serves result ms fault old new held held')
+TakesPiece Serves result bytes left left' old new held held' =
+    ((p : Piece) × (p.bytes ≡ bytes) × IsPiece left p left' × RunsParts Serves result (parts_in p) p.fault old new held held')
     ⊎ ((result ≡ Err fault.Memory) × Waits old new held held')
 
 -- ---- so far
 
--- the messages of the input were run, and the reader keeps the rest
+-- these pieces were answered, and the stream goes on with these bytes of the next message
 pub record StreamSoFar {S : Type 0} (Serves : S → S → List Part → List ℕ → Type 0)
-    (input : List ℕ) (kept : Option (List ℕ)) (old new : S) (held held' : Option (List ℕ)) : Type 0 where
-  pub messages : List Message
-  pub rest : List ℕ
-  pub reads : Reads input messages (Unfinished rest)
-  pub kept_is : kept ≡ Some rest
-  pub taken : Taken Serves (items messages) old new held held'
+    (unread still_unread left : Option (List ℕ)) (old new : S) (held held' : Option (List ℕ)) : Type 0 where
+  pub pieces : List Piece
+  pub are : ArePieces (Some []) pieces left
+  pub going : GoesOn left
+  pub read : Consumes unread still_unread (flat_map (λ p. p.bytes) pieces)
+  pub answered : Answered Serves (flat_map parts_in pieces) old new held held'

@@ -6,12 +6,13 @@ ghost use Rattle.pf_book.specs.Receipts.{PlainReceipt};
 ghost use Rattle.pf_session.specs.{LineEngine.Sessions.IsSession, Server.{Sittings.{HasJudged, IsJudged, IsCommandRun, IsSharedSession, Runs, TakesLines, packet_in}, SessionRuns.{IsSame, RunsInSession, TakesInSession, sitting}}, Laws.Server.attends-seen};
 
 use crate::line_engine::{self, AnswerLine, EngineFault};
+use crate::server::caller::{CallBook, Caller};
 use crate::server::gate::Gate;
-use crate::telling::{RunCommands, answer};
+use crate::telling::{RunCommands, answer, tell};
 use pf_addr::write_text;
 use pf_book::{Chapter, Disk, Gone, Receipt, Seer, Shared, learn_from};
 use pf_core::{Command, Question, Reply};
-use pf_line::{write_judged, write_reply};
+use pf_line::write_judged;
 use pf_rule::Packet;
 use std::alloc::Global;
 use std::io::{self, Read, Write};
@@ -19,9 +20,8 @@ use std::sync::Wait;
 
 /// A session: what it works with, how many lines it had, and the receipt of its last call.
 #[derive(Drop)]
-pub(crate) struct Session<'a, W: Wait, D: Disk + Drop, J: Chapter, H: Wait + Drop, G: Gate> {
-    rt: &'a W,
-    shared: &'a Shared<D, J, H>,
+pub(crate) struct Session<'a, C: CallBook<J>, J: Chapter, G: Gate> {
+    book: &'a C,
     seer: &'a mut Seer<J>,
     gate: &'a G,
     number: u32,
@@ -56,13 +56,13 @@ fn write_verdict<J: Chapter, O: Write>(
     }
 }
 
-impl<'a, W: Wait, D: Disk + Drop, J: Chapter, H: Wait + Drop, G: Gate> Session<'a, W, D, J, H, G> {
+impl<'a, C: CallBook<J>, J: Chapter, G: Gate> Session<'a, C, J, G> {
     // Runs a command by the Book.
     fn run(&mut self, command: Command) -> Reply
         ensures same { IsSame self.old self.new }
         ensures run { IsCommandRun J.base J.setting command (sitting self.old) (sitting self.new) (reply_text result) }
     {
-        let (reply, receipt) = self.shared.run(self.rt, command, self.last.as_ref());
+        let (reply, receipt) = self.book.call(command, self.last.as_ref());
         learn_from(self.seer, &receipt);
         *self.last = Some(receipt);
         reply
@@ -87,12 +87,11 @@ impl<'a, W: Wait, D: Disk + Drop, J: Chapter, H: Wait + Drop, G: Gate> Session<'
             return self.judge(packet, writer);
         }
         let reply = self.run(command);
-        write_reply(writer, &reply)
+        tell(writer, reply)
     }
 }
 
-impl<'a, W: Wait, D: Disk + Drop, J: Chapter, H: Wait + Drop, G: Gate> RunCommands
-    for Session<'a, W, D, J, H, G> {
+impl<'a, C: CallBook<J>, J: Chapter, G: Gate> RunCommands for Session<'a, C, J, G> {
     ghost Runs = { RunsInSession J.base J.setting };
 
     fn run_command<O: Write>(&mut self, command: Command, writer: &mut O) -> io::Result<()> {
@@ -104,8 +103,7 @@ impl<'a, W: Wait, D: Disk + Drop, J: Chapter, H: Wait + Drop, G: Gate> RunComman
     }
 }
 
-impl<'a, W: Wait, D: Disk + Drop, J: Chapter, H: Wait + Drop, G: Gate> AnswerLine
-    for Session<'a, W, D, J, H, G> {
+impl<'a, C: CallBook<J>, J: Chapter, G: Gate> AnswerLine for Session<'a, C, J, G> {
     ghost Takes = { TakesInSession G.passed J.base J.setting };
 
     fn answer_line<O: Write>(
@@ -123,11 +121,11 @@ impl<'a, W: Wait, D: Disk + Drop, J: Chapter, H: Wait + Drop, G: Gate> AnswerLin
 }
 
 // Serves a session until the reader is at its end.
-fn run_session<W: Wait, D: Disk + Drop, J: Chapter, H: Wait + Drop, G: Gate, R: Read, O: Write>(
+fn run_session<C: CallBook<J>, J: Chapter, G: Gate, R: Read, O: Write>(
     alloc: Global,
     reader: &mut R,
     writer: &mut O,
-    session: &mut Session<'_, W, D, J, H, G>,
+    session: &mut Session<'_, C, J, G>,
 ) -> Result<(), EngineFault>
     ensures same { IsSame session.old session.new }
     ensures session { IsSession (TakesLines (G.passed session.old.gate.now session.old.number) J.base J.setting) result
@@ -184,12 +182,29 @@ pub fn serve_from<W: Wait, D: Disk + Drop, J: Chapter, H: Wait + Drop, G: Gate, 
     ensures { IsSharedSession (G.passed gate.now session) J.base J.setting result (R.remaining reader.old) (R.remaining reader.new)
         last.old last.new seer.old seer.new (O.contents writer.old) (O.contents writer.new) }
 {
+    let book = Caller::new(rt, shared);
+    serve_by(alloc, reader, writer, &book, seer, gate, session, last)
+}
+
+// The same, by whatever is called.
+fn serve_by<C: CallBook<J>, J: Chapter, G: Gate, R: Read, O: Write>(
+    alloc: Global,
+    reader: &mut R,
+    writer: &mut O,
+    book: &C,
+    seer: &mut Seer<J>,
+    gate: &G,
+    number: u32,
+    last: &mut Option<Receipt<J>>,
+) -> Result<(), EngineFault>
+    ensures { IsSharedSession (G.passed gate.now number) J.base J.setting result (R.remaining reader.old) (R.remaining reader.new)
+        last.old last.new seer.old seer.new (O.contents writer.old) (O.contents writer.new) }
+{
     let mut session = Session {
-        rt,
-        shared,
+        book,
         seer,
         gate,
-        number: session,
+        number,
         line: 0,
         last,
     };

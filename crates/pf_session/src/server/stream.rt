@@ -9,6 +9,7 @@ ghost use Rattle.pf_book.specs.Receipts.{PlainReceipt};
 ghost use Rattle.pf_session.specs.Server.Streams.{IsStream, RunsAll, RunsFed, RunsGroup, Takes, TakesPiece, TellsEnd, TellsFault, asked, last_receipt};
 
 use crate::line_engine::EngineFault;
+use crate::server::caller::{CallBook, Caller};
 use crate::telling::refuse;
 use pf_book::{Chapter, Disk, Receipt, Shared};
 use pf_core::{Command, GROUP_LIMIT, Refusal, Reply, StateCommand};
@@ -26,9 +27,8 @@ const MOST_READS: u64 = 1 << 62;
 
 /// Runs a peer's messages, and keeps the receipt of its last call.
 #[derive(Drop)]
-pub(crate) struct Follower<'a, W: Wait, D: Disk + Drop, J: Chapter, H: Wait + Drop> {
-    rt: &'a W,
-    shared: &'a Shared<D, J, H>,
+pub(crate) struct Follower<'a, C: CallBook<J>, J: Chapter> {
+    book: &'a C,
     last: Option<Receipt<J>>,
 }
 
@@ -41,8 +41,9 @@ pub(crate) enum Progress {
     Over,
 }
 
-impl<'a, W: Wait, D: Disk + Drop, J: Chapter, H: Wait + Drop> Follower<'a, W, D, J, H> {
-    // Takes the next piece of the stream. All the memory for it is allocated before the first of its messages is run.
+impl<'a, C: CallBook<J>, J: Chapter> Follower<'a, C, J> {
+    // Takes the next piece of the stream, and writes all that is due to it. All the memory for it is allocated before the first of its
+    // messages is run.
     fn take<O: Write>(
         &mut self,
         alloc: Global,
@@ -50,6 +51,7 @@ impl<'a, W: Wait, D: Disk + Drop, J: Chapter, H: Wait + Drop> Follower<'a, W, D,
         peer: &mut PeerReader,
         writer: &mut O,
     ) -> Result<Progress, EngineFault>
+        requires { length piece.now ≤ PIECE_LEN }
         ensures { TakesPiece (Takes J.base J.setting) result piece.now peer.old peer.new self.old.last self.new.last
             (O.contents writer.old) (O.contents writer.new) }
     {
@@ -97,23 +99,23 @@ impl<'a, W: Wait, D: Disk + Drop, J: Chapter, H: Wait + Drop> Follower<'a, W, D,
             → (text : List ℕ) × RunsGroup J.base J.setting messages self.old.last self.new.last text
             × Writes result (O.contents writer.old) (O.contents writer.new) text }
     {
-        match self.shared.group(self.rt, commands, self.last.as_ref()) {
+        match self.book.call_group(commands, self.last.as_ref()) {
             Ok(answers) => {
                 let written = write_replies(&answers, writer);
-                self.keep_last(answers);
+                keep_last(answers, &mut self.last);
                 written
             }
             Err(refusal) => refuse_each(commands, refusal, writer),
         }
     }
+}
 
-    // Keeps the receipt of the last of these answers.
-    fn keep_last(&mut self, mut answers: Vec<(Reply, Receipt<J>)>)
-        ensures { self.new.last ≡ last_receipt self.old.last (Ok answers.items) }
-    {
-        if let Some((_, receipt)) = answers.pop() {
-            self.last = Some(receipt);
-        }
+// Keeps the receipt of the last of these answers.
+fn keep_last<J: Chapter>(mut answers: Vec<(Reply, Receipt<J>)>, last: &mut Option<Receipt<J>>)
+    ensures { last.new ≡ last_receipt last.old (Ok answers.items) }
+{
+    if let Some((_, receipt)) = answers.pop() {
+        *last = Some(receipt);
     }
 }
 
@@ -188,7 +190,7 @@ fn tell_end<O: Write>(peer: &mut PeerReader, writer: &mut O) -> Result<(), Engin
 /// Runs the messages of a peer's stream by a Book that sessions use too, and writes a reply line for each, until the reader is at its
 /// end. The messages that one read completes go to `Shared::group` in groups of 64 and a last one of what is left, each with the receipt
 /// of the last message before it that has one. If a group is refused whole, that refusal is the reply to each of its messages, and the
-/// messages after it are still run.
+/// messages after it are still run. All replies to what one read gave are written before the next read.
 ///
 /// A fault of the stream, or its end within a message, gets a line, as a `peer` line with such bytes does, and nothing is written after
 /// it. The writer is flushed before each read and at the end. A read that was interrupted is made again; there are fewer than 2^62 reads.
@@ -227,28 +229,34 @@ pub fn serve_peer_from<W: Wait, D: Disk + Drop, J: Chapter, H: Wait + Drop, R: R
     ensures { IsStream (Takes J.base J.setting) result (R.remaining reader.old) (R.remaining reader.new)
         last.old last.new (O.contents writer.old) (O.contents writer.new) }
 {
+    let book = Caller::new(rt, shared);
+    follow_by(alloc, reader, writer, &book, last)
+}
+
+// The same, by whatever is called.
+fn follow_by<C: CallBook<J>, J: Chapter, R: Read, O: Write>(
+    alloc: Global,
+    reader: &mut R,
+    writer: &mut O,
+    book: &C,
+    last: &mut Option<Receipt<J>>,
+) -> Result<(), EngineFault>
+    ensures { IsStream (Takes J.base J.setting) result (R.remaining reader.old) (R.remaining reader.new)
+        last.old last.new (O.contents writer.old) (O.contents writer.new) }
+{
     let Ok(mut buffer) = Vec::from_elem(alloc, 0, PIECE_LEN) else {
         return Err(EngineFault::Memory);
     };
-    follow_from(
-        rt,
-        alloc,
-        buffer.as_mut_slice(),
-        reader,
-        writer,
-        shared,
-        last,
-    )
+    follow_from(alloc, buffer.as_mut_slice(), reader, writer, book, last)
 }
 
 // The same with a buffer for what a read gives.
-fn follow_from<W: Wait, D: Disk + Drop, J: Chapter, H: Wait + Drop, R: Read, O: Write>(
-    rt: &W,
+fn follow_from<C: CallBook<J>, J: Chapter, R: Read, O: Write>(
     alloc: Global,
     piece: &mut [u8],
     reader: &mut R,
     writer: &mut O,
-    shared: &Shared<D, J, H>,
+    book: &C,
     last: &mut Option<Receipt<J>>,
 ) -> Result<(), EngineFault>
     requires piece { 0 < length piece.old }
@@ -257,8 +265,7 @@ fn follow_from<W: Wait, D: Disk + Drop, J: Chapter, H: Wait + Drop, R: Read, O: 
         last.old last.new (O.contents writer.old) (O.contents writer.new) }
 {
     let mut follower = Follower {
-        rt,
-        shared,
+        book,
         last: last.take(),
     };
     let ended = follow(alloc, piece, reader, writer, &mut follower);
@@ -267,12 +274,12 @@ fn follow_from<W: Wait, D: Disk + Drop, J: Chapter, H: Wait + Drop, R: Read, O: 
 }
 
 // Reads to the end, or to a fault. `piece` holds what a read gave.
-fn follow<W: Wait, D: Disk + Drop, J: Chapter, H: Wait + Drop, R: Read, O: Write>(
+fn follow<C: CallBook<J>, J: Chapter, R: Read, O: Write>(
     alloc: Global,
     piece: &mut [u8],
     reader: &mut R,
     writer: &mut O,
-    follower: &mut Follower<'_, W, D, J, H>,
+    follower: &mut Follower<'_, C, J>,
 ) -> Result<(), EngineFault>
     requires piece { 0 < length piece.old }
     requires room { length piece.old ≤ PIECE_LEN }

@@ -19,5 +19,5 @@ returns g c =
         setting = c.run-reply.ensures.setting;
         failed = one-failed old new (is_fault_reply c.run-reply.result) c.run-reply.ensures.faults;
       },
-      c.write_reply.ensures.text,
+      c.tell.ensures,
     )

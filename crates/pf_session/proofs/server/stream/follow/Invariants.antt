@@ -1,8 +1,6 @@
-use Rattle.std.proofs.Common.{ℕ, List}
-use Rattle.std.specs.Io.KnownBytes.{Consumes}
 use Rattle.pf_session.specs.Server.Streams.{StreamSoFar, Takes}
 use Rattle.pf_session.proofs.server.stream.follow.Given as goal
 
 abbrev pub invariant-loop : goal.invariant-loop
-invariant-loop g l = (input : List ℕ) × Consumes (g.R.Read.remaining l.fn.reader) (g.R.Read.remaining l.reader) input
-    × StreamSoFar (Takes g.J.Naming.base g.J.Chapter.setting) input l.peer l.fn.follower.last l.follower.last (g.O.Write.contents l.fn.writer) (g.O.Write.contents l.writer)
+invariant-loop g l = StreamSoFar (Takes g.J.Naming.base g.J.Chapter.setting) (g.R.Read.remaining l.fn.reader) (g.R.Read.remaining l.reader) l.peer
+    l.fn.follower.last l.follower.last (g.O.Write.contents l.fn.writer) (g.O.Write.contents l.writer)

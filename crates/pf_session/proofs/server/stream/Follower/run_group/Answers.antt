@@ -8,7 +8,7 @@ use Rattle.pf_session.proofs.server.stream.Follower.run_group.Goals as goal
 pub returns-in-Ok : goal.returns-in-Ok
 returns-in-Ok g c = λ messages is. (
   group_text messages (Ok c.in-Ok.answers.items),
-  group-run g.J.Naming.base g.J.Chapter.setting (Ok c.in-Ok.answers.items) c.args.commands.now c.args.self.now.last c.keep_last.new.self.last messages is c.requires.some c.requires.few (rw c.as_ref.ensures.value at c.in-Ok.ensures) c.keep_last.ensures,
+  group-run g.J.Naming.base g.J.Chapter.setting (Ok c.in-Ok.answers.items) c.args.commands.now c.args.self.now.last c.keep_last.new.last messages is c.requires.some c.requires.few (rw c.as_ref.ensures.value at c.in-Ok.ensures) c.keep_last.ensures,
   rw c.deref.ensures.value at c.write_replies-written.ensures,
 )
 

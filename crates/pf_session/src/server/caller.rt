@@ -1,0 +1,52 @@
+//! What sessions and streams call: a Book that others use too.
+ghost use Rattle.std.specs.Option.{option_copied};
+ghost use Rattle.pf_book.specs.{Groups.{IsGroupAnswered, told}, Receipts.IsAnswered};
+
+use pf_book::{Chapter, Disk, Receipt, Shared};
+use pf_core::{Command, Refusal, Reply};
+use std::sync::Wait;
+
+/// What runs the commands of a session and the messages of a peer, with receipts of the opening `J`. Whoever is generic in it needn't name
+/// a device, nor what waits.
+pub(crate) trait CallBook<J: Chapter> {
+    /// Runs a command, as [`Shared::run`] does.
+    fn call(&self, command: Command, last: Option<&Receipt<J>>) -> (Reply, Receipt<J>)
+        ensures { IsAnswered J.base J.setting command result.0 result.1 (option_copied last.entry) };
+
+    /// Runs commands as a group, as [`Shared::group`] does.
+    fn call_group(
+        &self,
+        commands: &[Command],
+        last: Option<&Receipt<J>>,
+    ) -> Result<Vec<(Reply, Receipt<J>)>, Refusal>
+        ensures { IsGroupAnswered J.base J.setting commands.now (told result) (option_copied last.entry) };
+}
+
+/// A caller of a Book under a lock, which waits for it by a handle.
+#[derive(Clone, Copy)]
+pub(crate) struct Caller<'a, W: Wait, D: Disk + Drop, J: Chapter, H: Wait + Drop> {
+    rt: &'a W,
+    shared: &'a Shared<D, J, H>,
+}
+
+impl<'a, W: Wait, D: Disk + Drop, J: Chapter, H: Wait + Drop> Caller<'a, W, D, J, H> {
+    /// One that calls this Book.
+    pub(crate) fn new(rt: &'a W, shared: &'a Shared<D, J, H>) -> Caller<'a, W, D, J, H> {
+        Caller { rt, shared }
+    }
+}
+
+impl<'a, W: Wait, D: Disk + Drop, J: Chapter, H: Wait + Drop> CallBook<J>
+    for Caller<'a, W, D, J, H> {
+    fn call(&self, command: Command, last: Option<&Receipt<J>>) -> (Reply, Receipt<J>) {
+        self.shared.run(self.rt, command, last)
+    }
+
+    fn call_group(
+        &self,
+        commands: &[Command],
+        last: Option<&Receipt<J>>,
+    ) -> Result<Vec<(Reply, Receipt<J>)>, Refusal> {
+        self.shared.group(self.rt, commands, last)
+    }
+}
