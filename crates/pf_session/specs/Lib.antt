@@ -4,6 +4,7 @@ pub mod Serving
 pub mod Server
 pub mod Laws
 -- what public clauses cite of the crates below
+pub use Rattle.pf_disk.specs.Disk
 pub use Rattle.pf_core.specs.Calls
 pub use Rattle.pf_core.specs.Durable.Changes
 pub use Rattle.pf_core.specs.WorldBooks

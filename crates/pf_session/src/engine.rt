@@ -1,11 +1,14 @@
 //! Lines that a Book answers.
-ghost use Rattle.std.specs.Prelude.{◌≡◌};
-ghost use Rattle.pf_book.specs.Books.{world_book};
+ghost use Rattle.std.specs.Prelude.{◌≡◌, ℕ, List};
+ghost use Rattle.pf_disk.specs.Disk.{IsImage};
+ghost use Rattle.pf_core.specs.{WorldBooks.IsAt, Worlds.{CurrentOpening, idle}};
+ghost use Rattle.pf_book.specs.Books.{HoldsLeft, IsOpenable, world_book};
 ghost use Rattle.pf_session.specs.{LineEngine.Sessions.IsSession, Serving.{CallsBook, Serves}, Telling.IsToldBy, Laws.Seeing.seen-told};
 
 use crate::line_engine::{AnswerLine, EngineFault, serve};
 use crate::telling::{RunCommands, answer, tell};
-use pf_book::{Book, Chapter};
+use pf_book::book::Book;
+use pf_book::{Chapter, Publisher};
 use pf_core::Command;
 use pf_disk::Disk;
 use pf_line::write_judged;
@@ -14,7 +17,7 @@ use std::alloc::Global;
 use std::io::{self, Read, Write};
 use std::sync::Wait;
 
-impl<D: Disk + Drop, J: Chapter, H: Wait + Drop> RunCommands for Book<D, J, H> {
+impl<D: Disk + Drop, J: Chapter, S: Publisher<J> + Drop> RunCommands for Book<D, J, S> {
     ghost Runs = { CallsBook D.fault_count };
 
     fn run_command<W: Write>(&mut self, command: Command, writer: &mut W) -> io::Result<()> {
@@ -27,7 +30,7 @@ impl<D: Disk + Drop, J: Chapter, H: Wait + Drop> RunCommands for Book<D, J, H> {
     }
 }
 
-impl<D: Disk + Drop, J: Chapter, H: Wait + Drop> AnswerLine for Book<D, J, H> {
+impl<D: Disk + Drop, J: Chapter, S: Publisher<J> + Drop> AnswerLine for Book<D, J, S> {
     ghost Takes = { IsToldBy (CallsBook D.fault_count) };
 
     fn answer_line<W: Write>(
@@ -48,17 +51,25 @@ impl<D: Disk + Drop, J: Chapter, H: Wait + Drop> AnswerLine for Book<D, J, H> {
 /// than 2^62 reads. The line buffer is allocated before anything is read. If there is no memory for a line or for its command, its reply
 /// says so. The limits of the Book's opening stay as they are.
 ///
+/// Afterwards, however the session ended, each image of the device holds what a crash then leaves of the opening: with the next generation
+/// at most, and with room for another opening if what the last one gave leaves it.
+///
 /// `Err(Read)`: a read failed, or there were too many; the whole lines before are answered. `Err(Write)`: a write or a flush failed; some
 /// front of the last reply may be out. `Err(Memory)`: no memory for the line buffer, and nothing was read or written.
 pub fn serve_alone<D: Disk + Drop, J: Chapter, H: Wait + Drop, R: Read, W: Write>(
     alloc: Global,
     reader: &mut R,
     writer: &mut W,
-    book: &mut Book<D, J, H>,
+    book: &mut pf_book::Book<D, J, H>,
 ) -> Result<(), EngineFault>
     ensures session { IsSession (Serves D.fault_count) result (R.remaining reader.old) (R.remaining reader.new)
         book.old book.new (W.contents writer.old) (W.contents writer.new) }
     ensures setting { (world_book book.new).setting ≡ (world_book book.old).setting }
+    ensures images { (h : CurrentOpening) → IsAt h (world_book book.new) → (c : List ℕ)
+        → IsImage (D.seen book.new.disk) (D.unsynced book.new.disk) c → HoldsLeft h idle c }
+    ensures openable { IsOpenable D.seen D.unsynced book.new }
 {
-    serve(alloc, reader, writer, book)
+    let served = serve(alloc, reader, writer, book);
+    book.between_calls();
+    served
 }

@@ -105,30 +105,98 @@ fn serve_connection<W: Wait, D: Disk + Drop, J: Chapter, H: Wait + Drop, G: Gate
     }
 }
 
+/// What serves a connection to its end, with a seer of the opening `J`.
+trait ServeConnection<J: Chapter> {
+    /// Serves the session of this number, or a peer's stream.
+    fn serve_connection(
+        &self,
+        alloc: Global,
+        stream: &TcpStream,
+        seer: &mut Seer<J>,
+        session: u32,
+    ) -> Result<(), EngineFault>;
+}
+
+/// What serves connections by one Book. Workers needn't name a device, nor what waits.
+#[derive(Clone, Copy)]
+struct Server<'a, W: Wait, D: Disk + Drop, J: Chapter, H: Wait + Drop, G: Gate> {
+    rt: &'a W,
+    shared: &'a Shared<D, J, H>,
+    gate: &'a G,
+}
+
+impl<'a, W: Wait, D: Disk + Drop, J: Chapter, H: Wait + Drop, G: Gate> ServeConnection<J>
+    for Server<'a, W, D, J, H, G> {
+    fn serve_connection(
+        &self,
+        alloc: Global,
+        stream: &TcpStream,
+        seer: &mut Seer<J>,
+        session: u32,
+    ) -> Result<(), EngineFault> {
+        serve_connection(
+            self.rt,
+            alloc,
+            stream,
+            self.shared,
+            seer,
+            self.gate,
+            session,
+        )
+    }
+}
+
+// The next connection for a worker that is free, if there is one.
+fn next_connection<W: Wait, A: Accept<Connection = TcpStream>>(
+    rt: &W,
+    listener: &A,
+    acceptor: &Mutex<Acceptor>,
+) -> Option<(TcpStream, u32)> {
+    acceptor.lock(rt).next(listener)
+}
+
 // Serves one connection after the other, with one seer.
-fn work<
-    W: Wait,
-    A: Accept<Connection = TcpStream>,
-    D: Disk + Drop,
-    J: Chapter,
-    H: Wait + Drop,
-    G: Gate,
->(
+fn work<W: Wait, A: Accept<Connection = TcpStream>, J: Chapter, S: ServeConnection<J>>(
     rt: &W,
     alloc: Global,
     listener: &A,
     acceptor: &Mutex<Acceptor>,
-    shared: &Shared<D, J, H>,
+    server: &S,
     mut seer: Seer<J>,
-    gate: &G,
 ) {
     for _ in rt.forever() {
-        let next = acceptor.lock(rt).next(listener);
-        let Some((stream, session)) = next else {
+        let Some((stream, session)) = next_connection(rt, listener, acceptor) else {
             return;
         };
         // a fault of a connection ends it alone
-        let _ = serve_connection(rt, alloc, &stream, shared, &mut seer, gate, session);
+        let _ = server.serve_connection(alloc, &stream, &mut seer, session);
+    }
+}
+
+// Has each of these seers work in a thread. `Err(Memory)`: out of memory for the threads.
+fn work_all<
+    M: Wait + Threads + Sync,
+    A: Accept<Connection = TcpStream> + Sync,
+    J: Chapter + Send + Sync,
+    S: ServeConnection<J> + Sync,
+>(
+    rt: &M,
+    alloc: Global,
+    listener: &A,
+    acceptor: &Mutex<Acceptor>,
+    server: &S,
+    seers: Vec<Seer<J>>,
+) -> Result<(), EngineFault>
+    ensures { IfErr result (λ fault. fault ≡ EngineFault.Memory) }
+{
+    let served = thread::map_vec(
+        rt,
+        seers,
+        &|seer| { work(rt, alloc, listener, acceptor, server, seer) },
+    );
+    match served {
+        Ok(_) => Ok(()),
+        Err(_) => Err(EngineFault::Memory),
     }
 }
 
@@ -164,15 +232,8 @@ pub fn serve_listener<
     ensures { IfErr result (λ fault. (fault ≡ EngineFault.Read) ⊎ (fault ≡ EngineFault.Memory)) }
 {
     let acceptor = Mutex::new(Acceptor::new(sessions));
-    let the_acceptor = &acceptor;
-    let served = thread::map_vec(
-        rt,
-        seers,
-        &|seer| { work(rt, alloc, listener, the_acceptor, shared, seer, gate) },
-    );
-    if served.is_err() {
-        return Err(EngineFault::Memory);
-    }
+    let server = Server { rt, shared, gate };
+    work_all(rt, alloc, listener, &acceptor, &server, seers)?;
     if acceptor.into_inner().has_failed() {
         return Err(EngineFault::Read);
     }

@@ -3,7 +3,7 @@
 //! - `fresh`: disks that hold nothing, opened.
 //! - `serving`: a server over the disk on a file.
 //! - `ended`: what the program says of a session.
-ghost use Rattle.std.specs.{Prelude.{◌≡◌, ◌≤◌, ◌<◌, ◌^◌, ◌⊎◌, IfErr, IfOk, Result, map, string_bytes}, Io.KnownBytes.Keeps, IoError.error_kind};
+ghost use Rattle.std.specs.{Prelude.{◌≡◌, ◌≢◌, ◌≤◌, ◌<◌, ◌^◌, ◌⊎◌, IfErr, IfOk, Result, map, string_bytes}, Io.KnownBytes.Keeps, IoError.error_kind};
 ghost use Rattle.clap.specs.Words.{kind_of, subcommand_of};
 ghost use Rattle.pfd_files.specs.declared.fault.Fault.{Fault};
 ghost use Rattle.pfd_words.specs.declared.words.Task.{Task};
@@ -140,14 +140,35 @@ fn fail<F: Write>(fault: Fault, faults: &mut F) -> u8
     1
 }
 
+// The status of what was done; its fault, if it has one, is said.
+fn end_with<F: Write>(done: Result<(), Fault>, faults: &mut F) -> u8
+    ensures { result ≡ status_of done }
+{
+    match done {
+        Ok(()) => 0,
+        Err(fault) => fail(fault, faults),
+    }
+}
+
 fn print<W: Write>(error: &Error, writer: &mut W) -> io::Result<()> {
     write!(writer, "{error}")?;
     writer.flush()
 }
 
-// Help and the version are written and are no fault; what is wrong with refused words goes to the faults.
+// Writes help, or the version.
+fn write_help<W: Write>(error: &Error, writer: &mut W) -> Result<(), Fault> {
+    match print(error, writer) {
+        Ok(()) => Ok(()),
+        Err(_) => Err(Fault::Output),
+    }
+}
+
+// Help and the version are written, with status 0, or 1 where that fails; what is wrong with refused words goes to the faults.
 fn explain<W: Write, F: Write>(error: &Error, writer: &mut W, faults: &mut F) -> u8
     ensures status { result ≤ 2 }
+    ensures shown { (kind_of error.now ≡ ErrorKind.DisplayHelp) ⊎ (kind_of error.now ≡ ErrorKind.DisplayVersion) → result ≤ 1 }
+    ensures told { (kind_of error.now ≢ ErrorKind.OutOfMemory) → (kind_of error.now ≢ ErrorKind.DisplayHelp)
+        → (kind_of error.now ≢ ErrorKind.DisplayVersion) → result ≡ 2 }
     ensures memory { kind_of error.now ≡ ErrorKind.OutOfMemory →
         (result ≡ 1) × Keeps (W.contents writer.old) (W.contents writer.new) }
     ensures refused { result ≡ 2 → Keeps (W.contents writer.old) (W.contents writer.new) }
@@ -159,10 +180,7 @@ fn explain<W: Write, F: Write>(error: &Error, writer: &mut W, faults: &mut F) ->
         let _ = print(error, faults);
         return 2;
     }
-    match print(error, writer) {
-        Ok(()) => 0,
-        Err(_) => fail(Fault::Output, faults),
-    }
+    end_with(write_help(error, writer), faults)
 }
 
 /// The program, with its words as `env::args` gives them, the program's own name first, and the files that it opens. By the machine's
@@ -215,10 +233,10 @@ pub fn start<
         Keeps (W.contents writer.old) (W.contents writer.new) }
 {
     match read_words(alloc, words) {
-        Ok(task) => match perform(machine, alloc, files, task, reader, writer) {
-            Ok(()) => 0,
-            Err(fault) => fail(fault, faults),
-        },
+        Ok(task) => {
+            let done = perform(machine, alloc, files, task, reader, writer);
+            end_with(done, faults)
+        }
         Err(error) => explain(&error, writer, faults),
     }
 }

@@ -10,6 +10,7 @@ use std::sync::atomic::{AtomicU32, Ordering};
 use std::test::*;
 use std::thread;
 use std::thread::Threads;
+use std::time::Duration;
 
 /// What a start reads.
 #[derive(Drop)]
@@ -105,7 +106,18 @@ fn ends<
 /// The most times that a client yields to other threads until a server listens.
 const MOST_TURNS: u32 = 10_000_000;
 
-// Runs a client of a server, once the server's port is known.
+// The port of a server, once it is known; 0 if it isn't in time.
+fn known(port: &AtomicU32) -> u32 {
+    for turn in 0..MOST_TURNS {
+        if port.load(Ordering::SeqCst) != 0 {
+            break;
+        }
+        thread::yield_now();
+    }
+    port.load(Ordering::SeqCst)
+}
+
+// Runs a client of a server.
 fn connect_to<
     R: Abort
         + Files<File = File>
@@ -114,13 +126,7 @@ fn connect_to<
         + Net<Listener = TcpListener, Stream = TcpStream>
         + Sync,
 >(rt: &R, alloc: Global, port: &AtomicU32) -> io::Result<()> {
-    for turn in 0..MOST_TURNS {
-        if port.load(Ordering::SeqCst) != 0 {
-            break;
-        }
-        thread::yield_now();
-    }
-    let port = port.load(Ordering::SeqCst);
+    let port = known(port);
     let line = format!(in alloc; "pfd connect 127.0.0.1:{port}")?;
     let input = Input::Text(b"tset - t 10/8\nlog");
     let written = "applied 1\nlog 1 acked 1 shown 1\n";
@@ -154,6 +160,55 @@ fn a_client_is_served(rt: HostRuntime) -> Result<(), Fail> {
     assert!(rt; status == 0);
     assert!(rt; told.starts_with(b"listening 127.0.0.1:"));
     ends(&rt, alloc, show, Input::Broken, (0, HOLDS))?;
+    Ok(())
+}
+
+/// Formats a disk, and serves five connections over it by as many workers, which is one more than there are without the word.
+const SERVED_AT_ONCE: [&str; 2] = [
+    "pfd format --disk crowded --size 4096",
+    "pfd serve --listen 127.0.0.1:0 --disk crowded --size 4096 --workers 5 --sessions 5",
+];
+
+/// What a session is told that asks for the log of such a server.
+const NO_CHANGE: &[u8] = b"log 0 acked 0 shown 0\n";
+
+// Opens five sessions of a server, each of which is answered while all are open.
+fn ask_at_once<R: Abort + Net<Listener = TcpListener, Stream = TcpStream>>(
+    rt: &R,
+    alloc: Global,
+    port: &AtomicU32,
+) -> io::Result<()> {
+    let port = known(port);
+    let server = format!(in alloc; "127.0.0.1:{port}")?;
+    let mut sessions = Vec::new(alloc);
+    for _ in 0..5 {
+        let mut session = TcpStream::connect(rt, server.as_str())?;
+        session.set_read_timeout(Some(Duration::from_secs(20)))?;
+        session.write_all(b"log\n")?;
+        sessions.push(session)?;
+    }
+    for session in &mut sessions {
+        let mut told = vec![in alloc; 0u8; NO_CHANGE.len()]?;
+        session.read_exact(told.as_mut_slice())?;
+        assert!(rt; told.as_slice() == NO_CHANGE);
+    }
+    Ok(())
+}
+
+#[test]
+fn there_are_as_many_workers_as_the_words_say(rt: HostRuntime) -> Result<(), Fail> {
+    let alloc = rt.alloc();
+    let [format, serve] = SERVED_AT_ONCE;
+    ends(&rt, alloc, format, Input::Broken, (0, ""))?;
+    let port = &AtomicU32::new(0);
+    let (served, asked) = thread::join(
+        &rt,
+        || started(&rt, alloc, serve, Input::Text(b""), port),
+        || ask_at_once(&rt, alloc, port),
+    );
+    asked?;
+    let (status, _told) = served?;
+    assert!(rt; status == 0);
     Ok(())
 }
 

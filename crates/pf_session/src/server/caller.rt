@@ -2,7 +2,8 @@
 ghost use Rattle.std.specs.Option.{option_copied};
 ghost use Rattle.pf_book.specs.{Groups.{IsGroupAnswered, told}, Receipts.IsAnswered};
 
-use pf_book::{Chapter, Disk, Receipt, Shared};
+use pf_book::shared::Shared;
+use pf_book::{Chapter, Disk, Publisher, Receipt};
 use pf_core::{Command, Refusal, Reply};
 use std::sync::Wait;
 
@@ -24,20 +25,20 @@ pub(crate) trait CallBook<J: Chapter> {
 
 /// A caller of a Book under a lock, which waits for it by a handle.
 #[derive(Clone, Copy)]
-pub(crate) struct Caller<'a, W: Wait, D: Disk + Drop, J: Chapter, H: Wait + Drop> {
+pub(crate) struct Caller<'a, W: Wait, D: Disk + Drop, J: Chapter, S: Publisher<J> + Drop> {
     rt: &'a W,
-    shared: &'a Shared<D, J, H>,
+    shared: &'a Shared<D, J, S>,
 }
 
-impl<'a, W: Wait, D: Disk + Drop, J: Chapter, H: Wait + Drop> Caller<'a, W, D, J, H> {
+impl<'a, W: Wait, D: Disk + Drop, J: Chapter, S: Publisher<J> + Drop> Caller<'a, W, D, J, S> {
     /// One that calls this Book.
-    pub(crate) fn new(rt: &'a W, shared: &'a Shared<D, J, H>) -> Caller<'a, W, D, J, H> {
+    pub(crate) fn new(rt: &'a W, shared: &'a Shared<D, J, S>) -> Caller<'a, W, D, J, S> {
         Caller { rt, shared }
     }
 }
 
-impl<'a, W: Wait, D: Disk + Drop, J: Chapter, H: Wait + Drop> CallBook<J>
-    for Caller<'a, W, D, J, H> {
+impl<'a, W: Wait, D: Disk + Drop, J: Chapter, S: Publisher<J> + Drop> CallBook<J>
+    for Caller<'a, W, D, J, S> {
     fn call(&self, command: Command, last: Option<&Receipt<J>>) -> (Reply, Receipt<J>) {
         self.shared.run(self.rt, command, last)
     }
