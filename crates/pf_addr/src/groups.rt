@@ -1,5 +1,6 @@
 //! IPv6 addresses as text: the groups between the colons.
-ghost use Rattle.std.specs.{Prelude.{◌≡◌, ℕ, ◌+◌, ◌-◌, ◌^◌, ◌<◌, ◌≤◌, ◌==◌, ◌&&◌, List, ◌++◌, length, set, take, slice_index, IfSome}, Str.Parse.{AllDigits, digits_value}};
+ghost use Rattle.std.specs.Prelude.{◌≡◌, ℕ, ◌+◌, ◌-◌, ◌^◌, ◌<◌, ◌≤◌, ◌==◌, ◌&&◌, List, ◌++◌, length, set, take, slice_index, IfSome};
+ghost use Rattle.std.specs.Str.Parse.{AllDigits, digits_value};
 ghost use Rattle.pf_addr.specs.{Collected.{groups_of, groups_kept, last_kept}, Grammar.v6_number, Reading.{group_at, has, gap, v6_at}};
 
 use crate::fault::AddrFault;

@@ -1,7 +1,11 @@
 //! Laws of networks and of texts. Each function's contract is the law; its body does nothing.
 ghost use Rattle.std.specs.Prelude.{◌≡◌, ◌↔◌, ℕ, ◌^◌, ◌<◌, ◌≤◌, true, List, Ok};
-ghost use Rattle.pf_addr.specs.declared.{addr.Addr.Addr, addr.TheConstants.{V4_BITS, V6_BITS}, groups.TheConstants.{GROUPS, GROUP_DIGITS}, reading.TheConstants.NUMBER_DIGITS};
-ghost use Rattle.pf_addr.specs.{Address.{PlainNet, width, family_of, network_from, contains, IsAddr, BeginsAs, Agree}, FaultCases.{IsAddrFault, IsNetFault}, Grammar.{SpellsAddr, SpellsNet}, Reading.{addr_at, net_at}, Spelling.{addr_text, net_text}, Laws.Spelling.{IsNetwork, IsNetWord}, NetForms.{family, family_byte, address_in, first_number, is_network, network_at}};
+ghost use Rattle.pf_addr.specs.declared.{addr.Addr.Addr, addr.TheConstants.{V4_BITS, V6_BITS}, groups.TheConstants.{GROUPS, GROUP_DIGITS}};
+ghost use Rattle.pf_addr.specs.declared.reading.TheConstants.{NUMBER_DIGITS};
+ghost use Rattle.pf_addr.specs.Address.{PlainNet, width, family_of, network_from, contains, IsAddr, BeginsAs, Agree};
+ghost use Rattle.pf_addr.specs.{FaultCases.{IsAddrFault, IsNetFault}, Grammar.{SpellsAddr, SpellsNet}, Reading.{addr_at, net_at}};
+ghost use Rattle.pf_addr.specs.{Spelling.{addr_text, net_text}, Laws.Spelling.{IsNetwork, IsNetWord}};
+ghost use Rattle.pf_addr.specs.NetForms.{family, family_byte, address_in, first_number, is_network, network_at};
 ghost use Rattle.pf_form.specs.{Form.FaultsFound.TellsFaults, Bytes.Forms.Fits};
 
 use crate::addr::Addr;

@@ -1,6 +1,7 @@
 //! Networks.
 ghost use Rattle.std.specs.Prelude.{◌≡◌, ℕ, ◌-◌, ◌*◌, ◌/◌, ◌^◌, ◌≤◌, ◌<◌, length, IfOk, Ok};
-ghost use Rattle.pf_addr.specs.{Address.{PlainNet, contains, width, family_of, network_from, network_of}, Grammar.SpellsNet, Reading.{net_at, cut_at}, Spelling.first_addr};
+ghost use Rattle.pf_addr.specs.{Address.{PlainNet, contains, width, family_of, network_from, network_of}, Grammar.SpellsNet};
+ghost use Rattle.pf_addr.specs.{Reading.{net_at, cut_at}, Spelling.first_addr};
 
 use crate::addr::{Addr, Family, V4_BITS, V6_BITS, read_address};
 use crate::fault::AddrFault;

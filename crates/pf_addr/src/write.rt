@@ -1,7 +1,10 @@
 //! Writing addresses, networks and numbers as text.
 //!
 //! A call that fails has written some first bytes of its text, and nothing else. None of these calls allocates.
-ghost use Rattle.std.specs.{Prelude.{◌≡◌, ◌≢◌, ◌+◌, ◌<◌, ◌≤◌, ◌^◌, ◌/◌, ◌%◌, ℕ, List, [], ◌∷◌, ◌++◌, length, map, take, decimal, IfErr, IfOk, OnErr}, Char.digit_char, Io.WritesAtMost, Io.KnownBytes.{Appends, Keeps}, IoError.error_kind, List.join_with_byte, Net.Text.{hex, leading_zero_digits}};
+ghost use Rattle.std.specs.Prelude.{◌≡◌, ◌≢◌, ◌+◌, ◌<◌, ◌≤◌, ◌^◌, ◌/◌, ◌%◌, ℕ, List, [], ◌∷◌, ◌++◌, length, map, take, decimal, IfErr};
+ghost use Rattle.std.specs.Prelude.{IfOk, OnErr};
+ghost use Rattle.std.specs.{Char.digit_char, Io.WritesAtMost, Io.KnownBytes.{Appends, Keeps}, IoError.error_kind, List.join_with_byte};
+ghost use Rattle.std.specs.Net.Text.{hex, leading_zero_digits};
 ghost use Rattle.pf_addr.specs.declared.addr.Addr.TheVariants as Addr;
 ghost use Rattle.pf_addr.specs.{Spelling.{addr_text, net_text, length_text, group_text}, Writing.{Writes, Wrote, Continues}};
 

@@ -17,8 +17,8 @@ impl Config {
     /// ANCHORS), with its ruleset's path and its number there, or the default pass. It takes no memory.
     ///
     /// Rulesets are evaluated as rules lead to them, until 1,024 rules and once more as many as there are in all were looked at; if that
-    /// doesn't suffice, each ruleset is evaluated once. So it takes about two passes over all rules at most, whatever the anchors, as long
-    /// as there are no more than 1,024 rulesets.
+    /// doesn't suffice, each ruleset is evaluated once. So it looks at each rule about twice at most, whatever the anchors, as long as there
+    /// are no more than 1,024 rulesets. Each look may search two tables, and of a wildcard all children of its anchor.
     #[tactic(auto, using(crate::proofs::Evaluations::default_judged))]
     pub fn judge(&self, packet: &Packet) -> RuleVerdict
         ensures { result ≡ judged self.now packet.now }

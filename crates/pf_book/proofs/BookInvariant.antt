@@ -7,7 +7,7 @@ use Rattle.pf_ticket.specs.Laws.Tickets.{IsWithin as AreTicketsWithin}
 use Rattle.pf_core.specs.declared.{command.Command.Command, group.TheConstants.GROUP_LIMIT, reply.Refusal.Refusal, step.Step.Step}
 use Rattle.pf_core.specs.{Commands.step_by, Durable.Changes.{PlainDurable, PlainChange, applied, after}, WorldBooks.{WorldBook, IsFolded}, Refusals.OrMemory, Cores.{PlainCore, stepped}, Worlds.{flat, grouped}}
 use Rattle.pf_store.specs.{Openings.{IsNoLaterThan, LeavesRoom}, Rooms.on_device, Stores.{Holds, HoldsEither, IsRoomy}, StoreKept.{Stands, PlainStore}}
-use Rattle.pf_past.specs.Pasts.{PlainFront, PlainTip, no_changes, all_acked, front_of}
+use Rattle.pf_view.specs.Past.Pasts.{PlainFront, PlainTip, no_changes, all_acked, front_of}
 use Rattle.pf_view.specs.Seers.{PlainShower}
 use Rattle.pf_book.specs.{Books.{BookParts, parts_of, cut, world_book_of, HasRoom, HoldsFront, IsOpened, IsBook, shows_all}}
 use Rattle.pf_book.proofs.Openable.{later}

@@ -3,9 +3,9 @@ use Rattle.std.proofs.Common.{◌≡◌, ℕ, zero, suc, ◌+◌, ◌≤◌, Lis
 use Rattle.std.specs.{Prelude.{IfSome, slice_get}, Option.ForSome}
 use mathlib.Core.List.{IsPrefix}
 use Rattle.pf_core.specs.Durable.Changes.{PlainChange}
-use Rattle.pf_past.specs.Pasts.{PlainFront}
+use Rattle.pf_view.specs.Past.Pasts.{PlainFront}
 use Rattle.std.proofs.lemmas.List.{length-take-le}
-use Rattle.pf_past.proofs.Prefixes.{prefix_length, prefix_get, prefix_trans}
+use Rattle.pf_view.proofs.Prefixes.{prefix_length, prefix_get, prefix_trans}
 use Rattle.pf_book.specs.{Books.change_in, Receipts.{EndsIn, IsReceipt}}
 use Rattle.pf_book.proofs.HistoryGroups.{take_begins}
 

@@ -1,12 +1,12 @@
 -- The receipts of a group, one after the other.
 use Rattle.std.proofs.{Common.{◌≡◌, ◌∙◌, inl, inr, ℕ, ◌+◌, ◌<◌, ◌≤◌, Bool, true, false, List, [], ◌∷◌, ◌++◌, length, Option, Some, Result, Ok, Err, refl, sym, ap, subst, arith, append_assoc, append-nil, length-append}, lemmas.{List.map-id, List.Elements.{All-nil, All-cons, All-head, All-tail, All-weaker}, List.Kept.AllPairs-cons}}
-use Rattle.std.specs.{Prelude.{fold, map, slice_get, All}, List.AllPairs, Option.ForSome}
+use Rattle.std.specs.{Prelude.{fold, map, slice_get, All}, List.AllPairs}
 use mathlib.Core.List.{IsPrefix}
 use Rattle.pf_core.specs.declared.{command.Command.Command, reply.Refusal.Refusal, reply.Reply.Reply, step.Step.Step, step.Step.TheVariants.{Done, Wants, OfHistory}}
-use Rattle.pf_core.specs.{Durable.Changes.{PlainDurable, PlainChange}, Worlds.{Setting, CurrentOpening, Event, State, called_group, down, flat, log_of, step_in, reply_to, changes_of, amid, changes_with, changes_due, replies_due, shown_by, as_stored, LegalGroup, IsLegal}}
-use Rattle.pf_core.proofs.{Courses.{MayBeGrouped, told_as, IsAccepted, accepted}, GroupLeads.{IsShownSo, shown-due, shown-stored}, LongerWorlds.in-two}
-use Rattle.pf_past.proofs.Prefixes.{prefix_length, prefix_self, prefix_trans}
-use Rattle.pf_book.specs.{Groups.{Answered, AreAnswered, IsAnsweredAmid, HaveShown, IsGroupAnswered, replies_of}, Receipts.{PlainReceipt, ComesAfter, IsNumberOf}}
+use Rattle.pf_core.specs.{Durable.Changes.{PlainDurable, PlainChange}, Worlds.{Setting, CurrentOpening, Event, State, called_group, down, flat, log_of, step_in, reply_to, changes_of, amid, changes_with, changes_due, replies_due, shown_by, LegalGroup, IsLegal}}
+use Rattle.pf_core.proofs.{Courses.{told_as, IsAccepted, accepted}, GroupLeads.{IsShownSo, shown-due, shown-stored}, LongerWorlds.in-two}
+use Rattle.pf_view.proofs.Prefixes.{prefix_length, prefix_self, prefix_trans}
+use Rattle.pf_book.specs.{Groups.{Answered, AreAnswered, IsAnsweredAmid, IsGroupAnswered}, Receipts.{PlainReceipt, ComesAfter, IsNumberOf}}
 use Rattle.pf_book.proofs.{GroupReceipts.log-so-far, LockedCalls.{begins-more, shown-within}}
 
 -- ---- one receipt after another

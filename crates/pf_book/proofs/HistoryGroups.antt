@@ -4,7 +4,7 @@ use Rattle.std.proofs.{lemmas.Bool.Decides.nat_tests, Common.{◌≡◌, ℕ, ze
 use mathlib.Core.List.{IsPrefix}
 use Rattle.pf_core.specs.{Durable.Changes.PlainChange, Worlds.{flat, grouped, is_halted}}
 use Rattle.pf_core.proofs.Prefixes.{flat-append}
-use Rattle.pf_past.proofs.Prefixes.{prefix_self, prefix_trans}
+use Rattle.pf_view.proofs.Prefixes.{prefix_self, prefix_trans}
 use Rattle.pf_book.specs.Books.{BookParts, cut}
 use Rattle.pf_core.proofs.Courses.{flat-grouped}
 

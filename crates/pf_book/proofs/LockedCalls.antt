@@ -7,7 +7,7 @@ use Rattle.pf_core.specs.{Calls.call, Commands.{step_by, may_change}, Durable.Ch
 use Rattle.pf_core.specs.declared.reply.Answer.{Answer as ToldOf}
 use Rattle.pf_core.proofs.{Prefixes.flat-append, Groups.{IsKept, IsNotKept, kept-or-not}, Limits.{IsOfHistory, answered-step}, Showing.{shows-nothing, shows_all}, Stepping.unhalted, LongerWorlds.{flat-push, stands-on, stands-on-group, in-two}}
 use Rattle.pf_book.proofs.Calling.{wants-may}
-use Rattle.pf_past.proofs.Prefixes.{prefix_whole}
+use Rattle.pf_view.proofs.Prefixes.{prefix_whole}
 use Rattle.pf_book.specs.Groups.{Answered as Told, HasReceipts, HaveShown, IsGroupAnswered, replies_of}
 use Rattle.pf_book.specs.{Books.{log_in, IsMore, IsNumbered, IsTold}, Receipts.{PlainReceipt, EndsIn, ShownFits, token_of, IsAdded, IsGiven, Follows, ShowsNoLess, IsReached, IsLast, IsChangeOf, IsAnswered}}
 

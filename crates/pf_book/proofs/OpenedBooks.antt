@@ -5,8 +5,8 @@ use Rattle.pf_disk.specs.Disk.{EachMoment, IsImage}
 use Rattle.pf_core.specs.declared.reply.Reply.{Reply}
 use Rattle.pf_core.specs.{Durable.Changes.{PlainChange, after}, Nexts.PlainNext, Cores.PlainCore, WorldBooks.{IsAt, IsFolded}, Worlds.{CurrentOpening, Doing, flat, idle}}
 use Rattle.pf_store.specs.{Stores.HoldsEither, StoreKept.PlainStore}
-use Rattle.pf_past.specs.Pasts.{PlainFront, Begins, front_of}
-use Rattle.pf_past.proofs.Prefixes.{prefix_trans}
+use Rattle.pf_view.specs.Past.Pasts.{PlainFront, Begins, front_of}
+use Rattle.pf_view.proofs.Prefixes.{prefix_trans}
 use Rattle.pf_book.specs.Receipts.{ShownFits, token_of}
 use Rattle.pf_book.specs.Books.{BookParts, PlainBook, cut, book_of, world_book, world_book_of, HasRoom, HoldsFront, HoldsLeft, IsBook, KeepsOpening, StaysOpenable, UsesDevice, left_together, log_in}
 use Rattle.pf_book.proofs.{Calling.{front-left, still-either, still-left}, LockedCalls.token-is, Openable.{still-openable, uses-none}, HistoryGroups.{acked-is, all-acked, counted-acked, goes-on, take_begins, whole-log}}

@@ -9,7 +9,7 @@ pub use Rattle.pf_core.specs.Calls
 pub use Rattle.pf_core.specs.Durable.Changes
 pub use Rattle.pf_core.specs.WorldBooks
 pub use Rattle.pf_core.specs.Worlds
-pub use Rattle.pf_past.specs.Pasts
+pub use Rattle.pf_view.specs.Past.Pasts
 pub use Rattle.pf_store.specs.Openings
 pub use Rattle.pf_store.specs.Rooms
 pub use Rattle.pf_store.specs.Stores

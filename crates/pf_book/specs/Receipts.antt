@@ -3,7 +3,7 @@ use Rattle.std.specs.{Prelude.{◌≡◌, ℕ, ◌<◌, ◌≤◌, List, [], ◌
 use mathlib.Core.List.{IsPrefix}
 use Rattle.pf_core.specs.declared.{command.Command.Command, reply.Reply.Reply, reply.Reply.TheVariants.{Answer, Applied, Stored, Refused}}
 use Rattle.pf_core.specs.{Calls.call, Durable.Changes.{PlainDurable, PlainChange}, WorldBooks.{WorldBook, StandsFor}, Worlds.{Setting, CurrentOpening, Upshot, Event, up, down, called, flat, log_of, group_in, heard, state_after, IsWorld}}
-use Rattle.pf_past.specs.Pasts.{PlainFront}
+use Rattle.pf_view.specs.Past.Pasts.{PlainFront}
 use Rattle.pf_view.specs.Seers.{PlainSeer, learns}
 use Rattle.pf_book.specs.Books.{change_in, log_in}
 

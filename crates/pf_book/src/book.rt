@@ -22,9 +22,9 @@ use pf_core::{
     Reply, Verdict,
 };
 use pf_disk::Disk;
-use pf_past::{Front, Tip};
 use pf_rule::Packet;
 use pf_store::{OpenFault, SaveFault, Store};
+use pf_view::past::{Front, Tip};
 use pf_view::{Publisher, Seer, Shower, ViewFault, views};
 use std::alloc::{AllocError, Global};
 use std::marker::Model;

@@ -1,5 +1,5 @@
 //! The name of an opening, with its limits.
-use pf_past::Naming;
+use pf_view::past::Naming;
 use std::marker::Brand;
 
 /// Names one opening with its history and its limits, so that a type can say which opening its values belong to. A program picks it once,

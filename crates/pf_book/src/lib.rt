@@ -1,7 +1,7 @@
 //! One history over a device: what an opening gave, and each change since, saved before it is answered and shown to packet workers.
 //!
-//! The crate joins `pf_core`, which says the one step that a command may get, `pf_store`, which saves a change, `pf_past`, which notes it
-//! in the history, and `pf_view`, which shows it. It knows no text, no bytes of a change and no rule. The modules:
+//! The crate joins `pf_core`, which says the one step that a command may get, `pf_store`, which saves a change, and `pf_view`, which notes
+//! it in the history and shows it. It knows no text, no bytes of a change and no rule. The modules:
 //!
 //! - `opening`: [`Opening`], a device that was opened, and [`NamedOpening`], the same under its name.
 //! - `book`: the history of an opening, which answers commands, one by one or in groups, over any [`Publisher`]. [`Book`] is the one over
@@ -44,8 +44,8 @@ pub use chapter::Chapter;
 pub use opening::{NamedOpening, Opening};
 pub use pf_core::Reply;
 pub use pf_disk::{Disk, FileDisk, FileFault, FuseDisk, MemDisk};
-pub use pf_past::{Front, Naming};
 pub use pf_store::{OpenFault, Store, format};
+pub use pf_view::past::{Front, Naming};
 pub use pf_view::{Gone, Publisher, Seer, Shower, Token};
 pub use receipt::Receipt;
 pub use worker::{judge_after, learn_from};

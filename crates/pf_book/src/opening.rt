@@ -4,13 +4,13 @@ ghost use Rattle.std.specs.Arc.{arc_value};
 ghost use Rattle.pf_disk.specs.Disk.{EachMoment, IsImage};
 ghost use Rattle.pf_core.specs.{Durable.Changes.PlainDurable, Laws.Durable.IsWithin, Worlds.{last_epoch, raised}};
 ghost use Rattle.pf_store.specs.declared.store.fault.OpenFault.TheVariants.{BadSize, Memory, Places};
-ghost use Rattle.pf_past.specs.Pasts.{all_acked};
+ghost use Rattle.pf_view.specs.Past.Pasts.{all_acked};
 ghost use Rattle.pf_store.specs.{Banks.bank_size, Stores.{Holds}, StoreFaults.is_fault, Openings.{IsFull, IsNoLaterThan, IsOfOpening, IsUnopened, generation_of}};
 
 use pf_core::Durable;
 use pf_disk::Disk;
-use pf_past::{Front, Naming, NewHistory, Tip};
 use pf_store::{OpenFault, Store};
+use pf_view::past::{Front, Naming, NewHistory, Tip};
 use std::alloc::Global;
 use std::marker::Model;
 use std::sync::Arc;

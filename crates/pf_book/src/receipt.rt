@@ -5,8 +5,8 @@ ghost use Rattle.pf_book.specs.Receipts.{EndsIn};
 
 use crate::chapter::Chapter;
 use pf_core::Change;
-use pf_past::{Front, Showing};
 use pf_view::Token;
+use pf_view::past::{Front, Showing};
 use std::marker::Model;
 use std::sync::Arc;
 

@@ -4,7 +4,7 @@ ghost use Rattle.std.specs.Arc.{arc_value};
 
 use crate::showing::shared;
 use pf_core::{Change, Durable, Next};
-use pf_past::{Naming, Tip};
+use pf_view::past::{Naming, Tip};
 use std::alloc::{AllocError, Global};
 use std::sync::Arc;
 

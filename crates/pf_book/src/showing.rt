@@ -2,11 +2,11 @@
 ghost use Rattle.std.specs.Prelude.{◌≡◌, ◌≤◌, length, map, take, IfOk, MatchBool};
 ghost use Rattle.std.specs.Arc.{arc_value};
 ghost use Rattle.pf_core.specs.Durable.Changes.{after};
-ghost use Rattle.pf_past.specs.Pasts.{all_acked, front_of};
+ghost use Rattle.pf_view.specs.Past.Pasts.{all_acked, front_of};
 
 use pf_core::{Change, Durable};
-use pf_past::{Front, Naming, Tip};
 use pf_view::Publisher;
+use pf_view::past::{Front, Naming, Tip};
 use std::alloc::{AllocError, Global};
 use std::sync::Arc;
 

@@ -5,7 +5,10 @@ ghost use Rattle.pf_ticket.specs.declared.entry.RulesetTicket.{RulesetTicket};
 ghost use Rattle.pf_ticket.specs.{Mentions.{after, switches}, Tickets.{fresh, content}};
 ghost use Rattle.pf_core.specs.declared.{command.Command.Command, command.Question.Question, command.Transaction.Transaction};
 ghost use Rattle.pf_core.specs.declared.reply.Answer.TheVariants as answer;
-ghost use Rattle.pf_core.specs.{Commands.{item_of, items, commit_step, rollback_step, transact_step, answer_of, step_by, transacts_in_memory, asks_for_memory, takes_memory, may_be_grouped}, Durable.Changes.verdict, Nexts.next_with, Refusals.OrMemory, Cores.{core_with, prepared, prepared_from, answered, stepped, plain, IsMade, IsMadeFrom}};
+ghost use Rattle.pf_core.specs.Commands.{item_of, items, commit_step, rollback_step, transact_step, answer_of, step_by};
+ghost use Rattle.pf_core.specs.Commands.{transacts_in_memory, asks_for_memory, takes_memory, may_be_grouped};
+ghost use Rattle.pf_core.specs.{Durable.Changes.verdict, Nexts.next_with, Refusals.OrMemory};
+ghost use Rattle.pf_core.specs.Cores.{core_with, prepared, prepared_from, answered, stepped, plain, IsMade, IsMadeFrom};
 
 use crate::command::{Command, Question, Transaction};
 use crate::durable::{Change, Durable, Item};

@@ -1,7 +1,14 @@
 //! What follows from the definitions that contracts cite: functions that do nothing, whose contracts are the laws.
 ghost use Rattle.std.specs.Prelude.{◌≡◌};
 ghost use Rattle.pf_core.specs.declared.group.TheConstants.{GROUP_LIMIT};
-ghost use Rattle.pf_core.specs.{Worlds.last_epoch, Laws.Commands.{LeaveTheOtherKind, WantsWhatFits, SwitchesAll, VoidsTheNamed, KeepsNoneValid, LeavesTheOthers, MentionsTheNamed, RefusedMentionNothing, TrackMakesOne}, Laws.Groups.GroupsAreInTurn, Laws.Openings.{VoidsTickets, KeepsWhole, GivesAllThatWasKept, GivesTheFold, KeepsAcknowledged, KeepsSeen, KeepsLearnt, RaisesTheEpoch, CrashesAreEvents}, Laws.Worlds.{TicketsAreOfTheCalls, GivesEachOnce, TickNeverGoesBack, KeepsTheLimits, CommitsNameOnce, ShowsAll, TestsTellTheEntry, JudgesTellTheVerdict}};
+ghost use Rattle.pf_core.specs.Worlds.{last_epoch};
+ghost use Rattle.pf_core.specs.Laws.Commands.{LeaveTheOtherKind, WantsWhatFits, SwitchesAll, VoidsTheNamed, KeepsNoneValid};
+ghost use Rattle.pf_core.specs.Laws.Commands.{LeavesTheOthers, MentionsTheNamed, RefusedMentionNothing, TrackMakesOne};
+ghost use Rattle.pf_core.specs.Laws.Groups.{GroupsAreInTurn};
+ghost use Rattle.pf_core.specs.Laws.Openings.{VoidsTickets, KeepsWhole, GivesAllThatWasKept, GivesTheFold, KeepsAcknowledged, KeepsSeen};
+ghost use Rattle.pf_core.specs.Laws.Openings.{KeepsLearnt, RaisesTheEpoch, CrashesAreEvents};
+ghost use Rattle.pf_core.specs.Laws.Worlds.{TicketsAreOfTheCalls, GivesEachOnce, TickNeverGoesBack, KeepsTheLimits, CommitsNameOnce};
+ghost use Rattle.pf_core.specs.Laws.Worlds.{ShowsAll, TestsTellTheEntry, JudgesTellTheVerdict};
 
 /// No opening has an epoch past 4,294,967,295.
 pub fn the_last_epoch()

@@ -2,7 +2,10 @@
 ghost use Rattle.std.specs.Prelude.{◌≡◌, ◌∷◌, [], ◌||◌, length, not, true, IfOk};
 ghost use Rattle.pf_anchor.specs.Rulesets.{rules_at};
 ghost use Rattle.pf_state.specs.declared.step.StateStep.TheVariants as step_kind;
-ghost use Rattle.pf_core.specs.{Durable.Changes.verdict, Commands.{bound_here, makes_state, make_step, judge_step, track_step, expiry_of, is_past, steps_here, states_step, is_done, changes_states_in_memory}, Nexts.next_with, Refusals.OrMemory, Cores.{plain, IsMadeFrom}};
+ghost use Rattle.pf_core.specs.Durable.Changes.{verdict};
+ghost use Rattle.pf_core.specs.Commands.{bound_here, makes_state, make_step, judge_step, track_step, expiry_of, is_past, steps_here};
+ghost use Rattle.pf_core.specs.Commands.{states_step, is_done, changes_states_in_memory};
+ghost use Rattle.pf_core.specs.{Nexts.next_with, Refusals.OrMemory, Cores.{plain, IsMadeFrom}};
 
 use crate::command::StateCommand;
 use crate::durable::{Change, Durable, Verdict};

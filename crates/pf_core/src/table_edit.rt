@@ -1,6 +1,7 @@
 //! Edits of tables: which change each one wants, and its outcome.
 ghost use Rattle.std.specs.Prelude.{◌≡◌, length, filter, true};
-ghost use Rattle.pf_core.specs.{Commands.{same_addition, added_of, same_deletion, deleted_of, edit_step, edits_in_memory}, Nexts.next_with, Refusals.OrMemory, Cores.{plain, IsMadeFrom}};
+ghost use Rattle.pf_core.specs.{Commands.{same_addition, added_of, same_deletion, deleted_of, edit_step, edits_in_memory}, Nexts.next_with};
+ghost use Rattle.pf_core.specs.{Refusals.OrMemory, Cores.{plain, IsMadeFrom}};
 
 use crate::command::TableEdit;
 use crate::durable::{Change, Durable, EntryList};

@@ -1,6 +1,9 @@
 // A device over a file.
-ghost use Rattle.std.specs.Prelude.{◌≡◌, ◌+◌, ◌^◌, ◌<◌, ◌≤◌, ◌++◌, [], ◌∷◌, true, false, ℕ, length, replicate, IfOk, OnOk, OnErr, take, drop};
-ghost use Rattle.pf_disk.specs.{Calls.{at_rest, after, all_fit, LeftSince}, Disk.{IsImage, IsSynced, AreIn, is_within, with_range, overwritten, Elapses, CountsFault}, Past.{now_counts, now_only}};
+ghost use Rattle.std.specs.Prelude.{◌≡◌, ◌+◌, ◌^◌, ◌<◌, ◌≤◌, ◌++◌, [], ◌∷◌, true, false, ℕ, length, replicate, IfOk, OnOk, OnErr, take};
+ghost use Rattle.std.specs.Prelude.{drop};
+ghost use Rattle.pf_disk.specs.Calls.{at_rest, after, all_fit, LeftSince};
+ghost use Rattle.pf_disk.specs.Disk.{IsImage, IsSynced, AreIn, is_within, with_range, overwritten, Elapses, CountsFault};
+ghost use Rattle.pf_disk.specs.Past.{now_counts, now_only};
 ghost use Rattle.pf_disk.specs.declared.file.FileFault.TheVariants.{Memory};
 
 use crate::call::overwrite;

@@ -1,6 +1,8 @@
 // A device that fails the calls that it is set to fail.
-ghost use Rattle.std.specs.Prelude.{◌≡◌, ◌⊎◌, ◌+◌, ◌-◌, ◌^◌, ◌<◌, ◌≤◌, true, false, List, ℕ, length, take, drop, IfOk, IfSome, OnOk, OnErr, MatchResult};
-ghost use Rattle.pf_disk.specs.{Disk.{IsImage, IsSynced, AreIn, is_within, with_range, overwritten, Elapses, CountsFault}, Burning.{blows, burnt, counted, passed_on, tears}};
+ghost use Rattle.std.specs.Prelude.{◌≡◌, ◌⊎◌, ◌+◌, ◌-◌, ◌^◌, ◌<◌, ◌≤◌, true, false, List, ℕ, length, take, drop, IfOk, IfSome, OnOk, OnErr};
+ghost use Rattle.std.specs.Prelude.{MatchResult};
+ghost use Rattle.pf_disk.specs.Disk.{IsImage, IsSynced, AreIn, is_within, with_range, overwritten, Elapses, CountsFault};
+ghost use Rattle.pf_disk.specs.Burning.{blows, burnt, counted, passed_on, tears};
 
 use crate::{Disk, DiskFault, Fill, OPEN_GATE};
 use std::alloc::{AllocError, Global};

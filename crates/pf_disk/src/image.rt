@@ -1,6 +1,8 @@
 // Images of a crash, from the calls that were kept.
-ghost use Rattle.std.specs.Prelude.{◌≡◌, ◌+◌, ◌-◌, ◌^◌, ◌<◌, ◌≤◌, ◌||◌, Bool, true, false, List, ℕ, length, map, IfOk, OnOk, if◌then◌else◌, slice_index, slice_index_or};
-ghost use Rattle.pf_disk.specs.{Disk.{overwritten, is_within}, Calls.{State, at_rest, after_event, after, fits_in, all_fit}, Kept.event_of, Filled.{fill_byte, FillsAll, IsFilled, Shows}};
+ghost use Rattle.std.specs.Prelude.{◌≡◌, ◌+◌, ◌-◌, ◌^◌, ◌<◌, ◌≤◌, ◌||◌, Bool, true, false, List, ℕ, length, map, IfOk, OnOk, if◌then◌else◌};
+ghost use Rattle.std.specs.Prelude.{slice_index, slice_index_or};
+ghost use Rattle.pf_disk.specs.{Disk.{overwritten, is_within}, Calls.{State, at_rest, after_event, after, fits_in, all_fit}, Kept.event_of};
+ghost use Rattle.pf_disk.specs.Filled.{fill_byte, FillsAll, IsFilled, Shows};
 
 use crate::call::{Call, overwrite};
 use std::alloc::{AllocError, Global};

@@ -1,6 +1,8 @@
 // A device in memory, which keeps its calls.
 ghost use Rattle.std.specs.Prelude.{◌≡◌, ◌+◌, ◌^◌, ◌<◌, ◌≤◌, ◌++◌, [], ◌∷◌, true, ℕ, length, map, take, drop, IfOk, OnOk, OnErr, Ok};
-ghost use Rattle.pf_disk.specs.{Calls.{at_rest, after, all_fit, LeftSince, reading, writing, syncing}, Kept.event_of, Disk.{CountsFault, IsImage, IsSynced, AreIn, Elapses, is_within, with_range, overwritten}, Past.{now_counts, now_only}};
+ghost use Rattle.pf_disk.specs.{Calls.{at_rest, after, all_fit, LeftSince, reading, writing, syncing}, Kept.event_of};
+ghost use Rattle.pf_disk.specs.Disk.{CountsFault, IsImage, IsSynced, AreIn, Elapses, is_within, with_range, overwritten};
+ghost use Rattle.pf_disk.specs.Past.{now_counts, now_only};
 
 use crate::call::{Call, overwrite};
 use crate::image::{Fill, Replay, filled, replayed};

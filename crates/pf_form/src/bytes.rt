@@ -27,7 +27,7 @@ pub use reading::{
     Rest, expect, read_array, read_bytes, read_counted_bytes, read_u8, read_u16, read_u32,
     read_u64, read_u128, takes,
 };
-pub use whole::{decode, encode};
+pub use whole::decode;
 pub use writing::{
     push_bytes, push_counted_bytes, push_key, push_u8, push_u16, push_u32, push_u64, push_u128,
 };

@@ -13,7 +13,7 @@
 //!
 //! - `form`: the words of a line, what readers of words share, faults of words, and numbers in decimal digits.
 //! - `bytes`: readers and writers of numbers, constants, lists, flags and padded names; the trait `Layout` of types with a form, and whole
-//!   texts of such a type (`decode`, `encode`).
+//!   texts of such a type (`decode`).
 //!
 //! Proved, by the public contracts: readers and writers give what their forms say. Proved as laws: words and numbers are read as they are
 //! written (`words_stand_between_blanks`, `numbers_are_read_as_written`), and of every layout `what_is_written_is_read`,

@@ -1,7 +1,8 @@
 //! Rules one by one, with the tables' answers given or by asking the tables.
 ghost use Rattle.std.specs.Prelude.{◌≡◌, ◌<◌, ◌≤◌, ◌*◌, ◌&&◌, ℕ, length, slice_get};
 ghost use Rattle.pf_rule.specs.{Value.Tests.holds, Value.Ports.port_holds, Host.Hosts.host_holds, Rules.matches};
-ghost use Rattle.pf_lanes.specs.{Masks.is_set, Answered.{answered, answered_bit, bit_by, block_bit, block_match, matches_answered, eight_from}};
+ghost use Rattle.pf_lanes.specs.Masks.{is_set};
+ghost use Rattle.pf_lanes.specs.Answered.{answered, answered_bit, bit_by, block_bit, block_match, matches_answered, eight_from};
 
 use crate::lanes::{ALL_LANES, LANES};
 use crate::mask::is_set;

@@ -20,10 +20,6 @@ held now k None (Some v) is = absurd (cc (is))
 held now k (Some a) None is = absurd (cc (is))
 held {A} {K} {X} now k (Some a) (Some v) is = ap (option_map (λ (p : K × X). p.1)) is
 
-pub none_found : {K X : Type 0} (pair : X → K × X) (x : Option X) → None ≡ option_map pair x → None ≡ x
-none_found pair None is = refl
-none_found pair (Some v) is = absurd (cc (is))
-
 module _ {N V : Type 0} {R : N → N → Ordering} (o : IsTotalOrder R) where
   -- ---- each value is found under its name
 

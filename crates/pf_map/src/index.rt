@@ -1,5 +1,6 @@
 //! Values found by their names and by a second key.
-ghost use Rattle.std.specs.{Prelude.{◌≡◌, T, [], length, false, Some, IfOk}, FinMap.is_sorted, List.Sorted.{IsPermutation, IsSortedBy}, Option.option_map, Ordering.is_lt};
+ghost use Rattle.std.specs.{Prelude.{◌≡◌, T, [], length, false, Some, IfOk}, FinMap.is_sorted, List.Sorted.{IsPermutation, IsSortedBy}};
+ghost use Rattle.std.specs.{Option.option_map, Ordering.is_lt};
 ghost use Rattle.pf_map.specs.{Indexes.{of_flow, is_clash, unflowed, IsIndexOf}, Maps.{with_value, without, entry_at}};
 
 use crate::by_flow::{ByFlow, Flowed, HintedFlow, are_apart, each_by_flow, in_order_of_flows};

@@ -1,5 +1,6 @@
 //! A level of the tree: parts that follow one another, in one page.
-ghost use Rattle.std.specs.{Prelude.{◌≡◌, ◌<◌, ◌≤◌, T, [], ◌++◌, length, take, drop, IfOk, OnOk, IfSome, None, MatchOption}, FinMap.is_sorted, Option.{option_map, option_map_or}};
+ghost use Rattle.std.specs.Prelude.{◌≡◌, ◌<◌, ◌≤◌, T, [], ◌++◌, length, take, drop, IfOk, OnOk, IfSome, None, MatchOption};
+ghost use Rattle.std.specs.{FinMap.is_sorted, Option.{option_map, option_map_or}};
 ghost use Rattle.pf_map.specs.{Maps.{with_value, entry_at, at_or_before}, MapParts.{joined, IsPlace, IsUpTo}, Pieces.all_of};
 
 use crate::entry::Holder;

@@ -1,5 +1,6 @@
 //! Maps in trees.
-ghost use Rattle.std.specs.{Prelude.{◌≡◌, ◌+◌, ◌<◌, T, [], length, map, cond, true, Some, None, is_some, IfOk, IfSome, MatchOption, nat_lt}, Option.option_map, FinMap.{find, is_sorted}};
+ghost use Rattle.std.specs.Prelude.{◌≡◌, ◌+◌, ◌<◌, T, [], length, map, cond, true, Some, None, is_some, IfOk, IfSome, MatchOption, nat_lt};
+ghost use Rattle.std.specs.{Option.option_map, FinMap.{find, is_sorted}};
 ghost use Rattle.pf_map.specs.{Maps.{with_value, without, entry_at, at_or_before}, MapParts.{joined, first_of, IsUpTo}};
 
 use crate::entries::Entries;
@@ -104,7 +105,7 @@ impl<K: Key, V: Drop, E: Holder<K, V>, L: Page<K, V, E>> TreeMap<K, V, E, L> {
         }
     }
 
-    /// The entry at a key; None where it has no value.
+    /// The entry at a key, or `None` if there is none.
     pub fn get<Q: Sought<K>>(&self, sought: &Q) -> Option<&E>
         ensures entry { option_map (λ e. E.pair e.now) result ≡ entry_at K.order (Q.key sought.now) self.now }
         // what each map keeps

@@ -12,7 +12,7 @@ use thiserror::Error;
 /// What is wrong with a text whose words are each good.
 #[derive(Clone, Copy)]
 pub enum Mistake {
-    /// Addresses, networks or a family of different families.
+    /// The text's addresses, networks and family word aren't all of one family.
     MixedFamily,
     /// A port is tested, but the protocol isn't TCP or UDP.
     PortNeedsProto,

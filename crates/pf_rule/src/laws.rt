@@ -3,7 +3,9 @@ ghost use Rattle.std.specs.Prelude.{◌≡◌, ◌↔◌, ℕ, List, Result, Ok}
 ghost use Rattle.pf_form.specs.declared.form.fault.Kind.{Kind};
 ghost use Rattle.pf_form.specs.{Form.Forms.{Spells, RefusedAt, read_all}, Form.Words.{Word, words_of}};
 ghost use Rattle.pf_rule.specs.declared.fault.Mistake.{Mistake};
-ghost use Rattle.pf_rule.specs.{Rules.{PlainRule, IsRule}, Packets.{PlainPacket, IsPacket}, Laws.Matching.{HostAsksNoTable, RuleAsksNoTable}, RuleGrammar.rule, PacketGrammar.packet, RuleText.{canonical, rule_text}};
+ghost use Rattle.pf_rule.specs.{Rules.{PlainRule, IsRule}, Packets.{PlainPacket, IsPacket}};
+ghost use Rattle.pf_rule.specs.{Laws.Matching.{HostAsksNoTable, RuleAsksNoTable}, RuleGrammar.rule, PacketGrammar.packet};
+ghost use Rattle.pf_rule.specs.RuleText.{canonical, rule_text};
 
 /// A rule's text consists of the rule's canonical words, which spell the rule; so it is read back as that rule.
 #[tactic(auto, using(crate::specs::Laws::RuleText::texts_of_rules))]

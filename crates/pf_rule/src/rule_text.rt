@@ -1,7 +1,8 @@
 //! The canonical text of a rule.
 ghost use Rattle.std.specs.{Prelude.{◌≡◌, ◌≢◌, IfErr}, IoError.error_kind};
 ghost use Rattle.pf_addr.specs.Writing.{Writes, Continues};
-ghost use Rattle.pf_rule.specs.{Value.Spacing.spaced, RuleText.{effect_word, reference_words, quick_words, state_words, label_words, rule_text}};
+ghost use Rattle.pf_rule.specs.Value.Spacing.{spaced};
+ghost use Rattle.pf_rule.specs.RuleText.{effect_word, reference_words, quick_words, state_words, label_words, rule_text};
 
 use crate::host::write_ends;
 use crate::rule::{Action, Effect, Rule};

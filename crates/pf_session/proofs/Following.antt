@@ -7,7 +7,7 @@ use Rattle.pf_core.specs.declared.{command.Command.Command, reply.Refusal.Refusa
 use Rattle.pf_core.specs.{Durable.Changes.{PlainDurable, PlainChange}, Worlds.{Setting, CurrentOpening, State, Event, LegalGroup, IsLegal, down, called_group, log_of, heard_group, step_in, changes_of, flat, grouped, amid, changes_with}}
 use Rattle.pf_core.proofs.{Courses.{accepted, flat-with}, LongerWorlds.in-two}
 use Rattle.pf_book.specs.{Groups.{Answered as Receipted, IsAnsweredAmid, AreAnswered, IsGroupAnswered, replies_of}, Receipts.{PlainReceipt, IsAnswered}}
-use Rattle.pf_past.proofs.Prefixes.{prefix_self, prefix_trans}
+use Rattle.pf_view.proofs.Prefixes.{prefix_self, prefix_trans}
 use Rattle.pf_book.proofs.LockedCalls.{front-begins}
 use Rattle.pf_session.specs.declared.line_engine.fault.EngineFault.{EngineFault}
 use Rattle.pf_session.specs.declared.line_engine.fault.EngineFault.TheVariants as fault

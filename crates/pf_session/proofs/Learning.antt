@@ -4,7 +4,7 @@ use mathlib.Core.List.{IsPrefix}
 use Rattle.pf_rule.specs.Packets.{PlainPacket}
 use Rattle.pf_core.specs.declared.{command.Command.Command, reply.Reply.Reply, reply.Reply.TheVariants.Applied}
 use Rattle.pf_core.specs.{Durable.Changes.{PlainDurable, PlainChange}, Worlds.Setting}
-use Rattle.pf_past.proofs.Prefixes.{prefix_self, prefix_trans, prefix_length}
+use Rattle.pf_view.proofs.Prefixes.{prefix_self, prefix_trans, prefix_length}
 use Rattle.pf_book.specs.Receipts.{IsAnswered, token_of}
 use Rattle.pf_book.proofs.LockedCalls.{applied-is}
 use Rattle.pf_session.specs.{Server.Sittings.{RunsBy, TakesLine, TakesLines, Sitting, at_next_line}, Laws.Sittings.{LearnsApplied, LearnsNoLess}}

@@ -15,7 +15,6 @@ use pf_line::write_judged;
 use pf_rule::Packet;
 use std::alloc::Global;
 use std::io::{self, Read, Write};
-use std::sync::Wait;
 
 impl<D: Disk + Drop, J: Chapter, S: Publisher<J> + Drop> RunCommands for Book<D, J, S> {
     ghost Runs = { CallsBook D.fault_count };
@@ -56,11 +55,11 @@ impl<D: Disk + Drop, J: Chapter, S: Publisher<J> + Drop> AnswerLine for Book<D, 
 ///
 /// `Err(Read)`: a read failed, or there were too many; the whole lines before are answered. `Err(Write)`: a write or a flush failed; some
 /// front of the last reply may be out. `Err(Memory)`: no memory for the line buffer, and nothing was read or written.
-pub fn serve_alone<D: Disk + Drop, J: Chapter, H: Wait + Drop, R: Read, W: Write>(
+pub fn serve_alone<D: Disk + Drop, J: Chapter, S: Publisher<J> + Drop, R: Read, W: Write>(
     alloc: Global,
     reader: &mut R,
     writer: &mut W,
-    book: &mut pf_book::Book<D, J, H>,
+    book: &mut Book<D, J, S>,
 ) -> Result<(), EngineFault>
     ensures session { IsSession (Serves D.fault_count) result (R.remaining reader.old) (R.remaining reader.new)
         book.old book.new (W.contents writer.old) (W.contents writer.new) }

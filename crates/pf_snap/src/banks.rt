@@ -1,8 +1,11 @@
 //! Opening a device, adding records to the bank that counts, and switching to the other one.
-ghost use Rattle.std.specs.Prelude.{◌≡◌, ◌↔◌, ◌+◌, ◌^◌, ◌<◌, ◌≤◌, true, false, List, ℕ, length, IfOk, IfErr, OnOk, OnErr, IsErrOf, MatchResult, if◌then◌else◌};
+ghost use Rattle.std.specs.Prelude.{◌≡◌, ◌↔◌, ◌+◌, ◌^◌, ◌<◌, ◌≤◌, true, false, List, ℕ, length, IfOk, IfErr, OnOk, OnErr, IsErrOf};
+ghost use Rattle.std.specs.Prelude.{MatchResult, if◌then◌else◌};
 ghost use Rattle.pf_disk.specs.{Disk.{CountsFault, EachMoment, IsImage, IsSynced, is_within}, Reads.WritesNothing};
 ghost use Rattle.pf_journal.specs.{Faults.is_append_fault, Journal.IsOf};
-ghost use Rattle.pf_snap.specs.{Banks.{bank_size, Content, with_payload, switched, Holds, HoldsAt, HoldsEither}, Ready.{IsReady, IsNext, Keeps}, Looked.{IsFound, content_of}, Faults.{IsRefused, is_fault, is_switch_fault}};
+ghost use Rattle.pf_snap.specs.Banks.{bank_size, Content, with_payload, switched, Holds, HoldsAt, HoldsEither};
+ghost use Rattle.pf_snap.specs.{Ready.{IsReady, IsNext, Keeps}, Looked.{IsFound, content_of}};
+ghost use Rattle.pf_snap.specs.Faults.{IsRefused, is_fault, is_switch_fault};
 ghost use Rattle.pf_snap.specs.declared.fault.LookFault.TheVariants as looking;
 
 use crate::beginning::begin_bank;

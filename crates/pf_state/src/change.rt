@@ -1,6 +1,7 @@
 //! Changes of states.
 ghost use Rattle.std.specs.{Prelude.{◌≡◌, ◌-◌, ◌≤◌, length, nat_le, true, false, T, IfOk}, FinMap.is_sorted, Option.option_map_or};
-ghost use Rattle.pf_state.specs.{States.{NamesFlows, are_whole, held_at, name_order}, Steps.{insertion, stepped, counted, only_deleted, without_creator, without_due, is_over}};
+ghost use Rattle.pf_state.specs.States.{NamesFlows, are_whole, held_at, name_order};
+ghost use Rattle.pf_state.specs.Steps.{insertion, stepped, counted, only_deleted, without_creator, without_due, is_over};
 ghost use Rattle.pf_state.specs.declared.step.StateStep.TheVariants as step_kind;
 
 use crate::counts::Counts;

@@ -1,7 +1,8 @@
 //! The index of states: by their names, by their flows and in the order of their expiries.
 ghost use Rattle.std.specs.{Prelude.{◌≡◌, T, [], length, false, true, Some, IfOk, MatchOption}, FinMap.is_sorted, Option.option_map};
 ghost use Rattle.pf_map.specs.{Indexes.{of_flow, is_clash, IsIndexOf}, Maps.{with_value, without, entry_at}};
-ghost use Rattle.pf_state.specs.{Dues.{AreDues, IsDueAt, without_place}, FlowKeys.{key_of, key_order}, States.{name_order, all_stand, none_expires}};
+ghost use Rattle.pf_state.specs.{Dues.{AreDues, IsDueAt, without_place}, FlowKeys.{key_of, key_order}};
+ghost use Rattle.pf_state.specs.States.{name_order, all_stand, none_expires};
 
 use crate::dues::{Dues, with_place, without_place};
 use crate::flow_key::FlowKey;

@@ -1,5 +1,6 @@
 //! How names and flows are the keys of maps.
-ghost use Rattle.pf_state.specs.{FlowKeys.{key_of, key_order, mixed}, Orders.{name_total, name_alike, names_rise, key_total, key_alike, keys_rise}, States.name_order};
+ghost use Rattle.pf_state.specs.FlowKeys.{key_of, key_order, mixed};
+ghost use Rattle.pf_state.specs.{Orders.{name_total, name_alike, names_rise, key_total, key_alike, keys_rise}, States.name_order};
 
 use crate::flow_key::FlowKey;
 use crate::state::{Held, StateName};

@@ -1,6 +1,8 @@
 //! Laws of flows, states and steps. Each function does nothing; its contract is the law.
 ghost use Rattle.std.specs.Prelude.{◌≡◌};
-ghost use Rattle.pf_state.specs.Laws.States.{OneFlowOrAnother, InterfaceIsNoPart, OneStateAFlow, KeepsWhatIsThere, StaleByGeneration, ReadsWhatStepsLeave, NamesAlike, LastStepStands, StaysStates, RefusedByAnyStep, CountsAddUp, BindsExactly, TellsTheNumber, TicksTakeOutTheDue, StepsLeaveNoneDue};
+ghost use Rattle.pf_state.specs.Laws.States.{OneFlowOrAnother, InterfaceIsNoPart, OneStateAFlow, KeepsWhatIsThere, StaleByGeneration};
+ghost use Rattle.pf_state.specs.Laws.States.{ReadsWhatStepsLeave, NamesAlike, LastStepStands, StaysStates, RefusedByAnyStep, CountsAddUp};
+ghost use Rattle.pf_state.specs.Laws.States.{BindsExactly, TellsTheNumber, TicksTakeOutTheDue, StepsLeaveNoneDue};
 
 use crate::binding::ALL_ONES;
 use crate::failover::EXPORT_RECORDS;

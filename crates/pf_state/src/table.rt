@@ -1,6 +1,10 @@
 //! The table of states.
-ghost use Rattle.std.specs.{Prelude.{◌≡◌, ◌≤◌, ◌+◌, [], cond, is_ok, is_some, length, IfOk, IfSome, Contains, Some, None, true, false}, Option.option_map};
-ghost use Rattle.pf_state.specs.{declared.limits.TheConstants.STATE_LIMIT, Flows.flow_of, States.{PlainState, IsStates, are_whole, held_at, state_of, all_stand, none_expires}, Steps.{Refuses, passes_limit, after, counts, without_state, without_creator, creator_count, without_due, due_count}};
+ghost use Rattle.std.specs.Prelude.{◌≡◌, ◌≤◌, ◌+◌, [], cond, is_ok, is_some, length, IfOk, IfSome, Contains, Some, None, true, false};
+ghost use Rattle.std.specs.Option.{option_map};
+ghost use Rattle.pf_state.specs.{declared.limits.TheConstants.STATE_LIMIT, Flows.flow_of};
+ghost use Rattle.pf_state.specs.States.{PlainState, IsStates, are_whole, held_at, state_of, all_stand, none_expires};
+ghost use Rattle.pf_state.specs.Steps.{Refuses, passes_limit, after, counts, without_state, without_creator, creator_count, without_due};
+ghost use Rattle.pf_state.specs.Steps.{due_count};
 
 use crate::change::{act, clear, held_at, is_over, standing};
 use crate::counts::Counts;

@@ -1,5 +1,6 @@
 pub mod Pushed
 pub mod Taken
+pub mod ByKind
 pub mod RecordedForms
 pub mod Allowing
 pub mod Sized

@@ -87,15 +87,40 @@ abbrev pub plain_item : Item → Value ItemShape
 plain_item (item.Rules r) = inl (plain_ruled r)
 plain_item (item.Tables p named) = inr (p, map plain_named named)
 
+-- the data of each kind, among those of all kinds
+abbrev pub as_commit : Value (list ItemShape) → Value ChangeShape
+as_commit v = inl v
+
+abbrev pub as_add : Value EditShape → Value ChangeShape
+as_add v = inr (inl v)
+
+abbrev pub as_delete : Value EditShape → Value ChangeShape
+as_delete v = inr (inr (inl v))
+
+abbrev pub as_set : Value EditShape → Value ChangeShape
+as_set v = inr (inr (inr (inl v)))
+
+abbrev pub as_steps : Value (list StepShape) → Value ChangeShape
+as_steps v = inr (inr (inr (inr (inl v))))
+
+abbrev pub as_removal : Value NameShape → Value ChangeShape
+as_removal v = inr (inr (inr (inr (inr (inl v)))))
+
+abbrev pub as_opening : Value nat → Value ChangeShape
+as_opening v = inr (inr (inr (inr (inr (inr (inl v))))))
+
+abbrev pub as_tick : Value nat → Value ChangeShape
+as_tick v = inr (inr (inr (inr (inr (inr (inr v))))))
+
 abbrev pub plain_record : Recorded → Value ChangeShape
-plain_record (made (commits items)) = inl (map plain_item items)
-plain_record (made (adds p name xs)) = inr (inl (p, (name, plain_entries xs)))
-plain_record (made (deletes p name xs)) = inr (inr (inl (p, (name, plain_entries xs))))
-plain_record (made (sets p name xs)) = inr (inr (inr (inl (p, (name, plain_entries xs)))))
-plain_record (made (acts steps)) = inr (inr (inr (inr (inl (map plain_step steps)))))
-plain_record (made (removes name)) = inr (inr (inr (inr (inr (inl (plain_name name))))))
-plain_record (made (expires tick)) = inr (inr (inr (inr (inr (inr (inr tick))))))
-plain_record (opens epoch) = inr (inr (inr (inr (inr (inr (inl epoch))))))
+plain_record (made (commits items)) = as_commit (map plain_item items)
+plain_record (made (adds p name xs)) = as_add (p, (name, plain_entries xs))
+plain_record (made (deletes p name xs)) = as_delete (p, (name, plain_entries xs))
+plain_record (made (sets p name xs)) = as_set (p, (name, plain_entries xs))
+plain_record (made (acts steps)) = as_steps (map plain_step steps)
+plain_record (made (removes name)) = as_removal (plain_name name)
+plain_record (made (expires tick)) = as_tick tick
+plain_record (opens epoch) = as_opening epoch
 
 -- ---- what is read from bytes
 

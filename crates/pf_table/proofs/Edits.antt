@@ -1,14 +1,8 @@
 -- What an edit leaves is a table, or it is refused.
-use Rattle.std.proofs.{Common.{◌≡◌, ℕ, ◌≤◌, nat_lt, false, List, [], length, None, All, refl, arith}, lemmas.Bool.Decides.nat_tests, lemmas.List.Elements.{All-nil, All-from_recursion, recursion_from_All}}
+use Rattle.std.proofs.{Common.{◌≡◌, ℕ, ◌≤◌, nat_lt, false, List, [], length, All, arith}, lemmas.Bool.Decides.nat_tests, lemmas.List.Elements.{All-nil, All-from_recursion, recursion_from_All}}
 use Rattle.pf_addr.specs.Address.{IsNetwork}
 use Rattle.pf_table.specs.declared.limits.TheConstants.{TABLE_LIMIT}
-use Rattle.pf_table.specs.{Entries.PlainEntry, Tables.IsTable, Searches.NoneShorter, Edits.{added, deleted, replaced, conflict_in, edit_refusal}, Laws.Edits.{sorted_added, sorted_deleted, added_all, deleted_all, deleted_fewer}}
-
-no_more_than : (n limit : ℕ) → n ≤ limit → nat_lt limit n ≡ false
-no_more_than n limit le = grind (arith, nat_tests)
-
-pub not_refused : (xs after : List PlainEntry) → conflict_in xs ≡ None → length after ≤ TABLE_LIMIT → edit_refusal xs after ≡ None
-not_refused xs after none le = rw (none, no_more_than (length after) TABLE_LIMIT le) refl
+use Rattle.pf_table.specs.{Entries.PlainEntry, Tables.IsTable, Searches.NoneShorter, Edits.{added, deleted, replaced}, Laws.Edits.{sorted_added, sorted_deleted, added_all, deleted_all, deleted_fewer}}
 
 pub few_of : (n : ℕ) → nat_lt TABLE_LIMIT n ≡ false → n ≤ TABLE_LIMIT
 few_of n is = grind (arith, nat_tests)

@@ -2,7 +2,10 @@
 ghost use Rattle.std.specs.Prelude.{◌≡◌, All, IfOk};
 ghost use Rattle.pf_addr.specs.{Address.IsNetwork, Refusing.Refuses};
 ghost use Rattle.pf_table.specs.declared.refusal.TableRefusal.TheVariants.{Memory};
-ghost use Rattle.pf_table.specs.{Tables.sign_of, Edits.{with_entry, added, addition, additions, is_sign, without_entry, deleted, deletion, deletions, conflict_refusal}, Noted.{first_sign, noted_with}};
+ghost use Rattle.pf_table.specs.Tables.{sign_of};
+ghost use Rattle.pf_table.specs.Edits.{with_entry, added, addition, additions, is_sign, without_entry, deleted, deletion, deletions};
+ghost use Rattle.pf_table.specs.Edits.{conflict_refusal};
+ghost use Rattle.pf_table.specs.Noted.{first_sign, noted_with};
 
 use crate::answer::{Addition, Deletion};
 use crate::entry::Entry;

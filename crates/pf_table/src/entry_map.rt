@@ -1,5 +1,6 @@
 //! The map of a table's entries.
-ghost use Rattle.std.specs.{Prelude.{◌≡◌, T, [], length, nat_lt, Some, None, IfOk, MatchOption}, Option.option_map, FinMap.{find, is_sorted}};
+ghost use Rattle.std.specs.{Prelude.{◌≡◌, T, [], length, nat_lt, Some, None, IfOk, MatchOption}, Option.option_map};
+ghost use Rattle.std.specs.FinMap.{find, is_sorted};
 ghost use Rattle.pf_addr.specs.NetOrder.{net_order};
 ghost use Rattle.pf_map.specs.{Maps.{with_value, without, entry_at, at_or_before}, MapParts.IsUpTo};
 

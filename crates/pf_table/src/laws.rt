@@ -3,7 +3,10 @@ ghost use Rattle.std.specs.{Prelude.{◌≡◌, T, true, List, map}, Cmp.IsTotal
 ghost use Rattle.pf_addr.specs.Address.{IsNetwork};
 ghost use Rattle.pf_form.specs.Bytes.{Forms.{Fits, length_of}, Lists.{ordered, in_order}};
 ghost use Rattle.pf_table.specs.declared.limits.TheConstants.{TABLE_LIMIT};
-ghost use Rattle.pf_table.specs.{Entries.PlainEntry, Tables.IsTable, EntryForms.{entry, plain_entry, entry_of, entry_before}, Laws.Tables.{TableDecides, TableMatches, FamiliesApart, OneTable, AddsWhatIsNamed, DeletesWhatIsNamed, HoldsTheList, AllElseStays, StaysTable, OneAnswerEach, AnswersInOrder, CountsWhatChanged, RepeatsChangeNothing, TellsTheFirstConflict}};
+ghost use Rattle.pf_table.specs.{Entries.PlainEntry, Tables.IsTable, EntryForms.{entry, plain_entry, entry_of, entry_before}};
+ghost use Rattle.pf_table.specs.Laws.Tables.{TableDecides, TableMatches, FamiliesApart, OneTable, AddsWhatIsNamed, DeletesWhatIsNamed};
+ghost use Rattle.pf_table.specs.Laws.Tables.{HoldsTheList, AllElseStays, StaysTable, OneAnswerEach, AnswersInOrder, CountsWhatChanged};
+ghost use Rattle.pf_table.specs.Laws.Tables.{RepeatsChangeNothing, TellsTheFirstConflict};
 ghost use Rattle.pf_addr.specs.NetOrder.{net_order};
 
 /// A table has at most 65,536 entries.

@@ -2,7 +2,8 @@
 ghost use Rattle.std.specs.Prelude.{◌≡◌, ◌==◌, false, [], cond, length, is_ok, All, Contains, IfOk, IfSome, None};
 ghost use Rattle.pf_addr.specs.{Refusing.Refuses, Address.{contains, IsNetwork}};
 ghost use Rattle.pf_table.specs.declared.refusal.TableRefusal.TheVariants.{Memory};
-ghost use Rattle.pf_table.specs.{Entries.PlainEntry, Tables.{AreEntries, IsTable, Decides, deciding, table_holds}, Searches.NoneShorter, Edits.{added, additions, deleted, deletions, replaced, conflict_refusal, edit_refusal}};
+ghost use Rattle.pf_table.specs.{Entries.PlainEntry, Tables.{AreEntries, IsTable, Decides, deciding, table_holds}, Searches.NoneShorter};
+ghost use Rattle.pf_table.specs.Edits.{added, additions, deleted, deletions, replaced, conflict_refusal, edit_refusal};
 
 use crate::answer::{Addition, Deletion};
 use crate::batch::gather;

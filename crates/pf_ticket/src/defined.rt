@@ -1,5 +1,6 @@
 //! Tables that are offered.
-ghost use Rattle.std.specs.{Prelude.{◌≡◌, T, [], length, nat_lt, List, IfOk, OnOk, OnErr}, FinMap.{put, is_sorted}, Iterator.{item_count, YieldsFirstBy}, Option.option_map};
+ghost use Rattle.std.specs.{Prelude.{◌≡◌, T, [], length, nat_lt, List, IfOk, OnOk, OnErr}, FinMap.{put, is_sorted}};
+ghost use Rattle.std.specs.{Iterator.{item_count, YieldsFirstBy}, Option.option_map};
 ghost use Rattle.pf_addr.specs.Path.Names.{name_order};
 ghost use Rattle.pf_map.specs.Maps.{entry_at};
 ghost use Rattle.pf_table.specs.Entries.{PlainEntry};

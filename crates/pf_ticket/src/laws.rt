@@ -1,7 +1,10 @@
 //! What follows from the definitions that contracts cite: functions that do nothing, whose contracts are the laws.
 ghost use Rattle.std.specs.Prelude.{◌≡◌};
 ghost use Rattle.pf_ticket.specs.declared.limits.TheConstants.{ENTRY_LIMIT, OFFERED_TABLE_LIMIT, LAST_COUNT};
-ghost use Rattle.pf_ticket.specs.Laws.Tickets.{ValidIsGivenLast, GivenLastIsValid, StartsWithNothing, OffersTheAdded, OffersTheDefined, LeavesTheOthers, CommitTakesOut, RollbackDropsExactly, GoesOnAgreeing, CountsTheOpen, BeginsGive, TellsWhatIsGiven, GivesEachOnce, KeepsTheLimits, AreApart, TwiceIsFirstAgain, OtherwiseOnce};
+ghost use Rattle.pf_ticket.specs.Laws.Tickets.{ValidIsGivenLast, GivenLastIsValid, StartsWithNothing, OffersTheAdded, OffersTheDefined};
+ghost use Rattle.pf_ticket.specs.Laws.Tickets.{LeavesTheOthers, CommitTakesOut, RollbackDropsExactly, GoesOnAgreeing, CountsTheOpen};
+ghost use Rattle.pf_ticket.specs.Laws.Tickets.{BeginsGive, TellsWhatIsGiven, GivesEachOnce, KeepsTheLimits, AreApart, TwiceIsFirstAgain};
+ghost use Rattle.pf_ticket.specs.Laws.Tickets.{OtherwiseOnce};
 
 /// A list has at most 64 entries, at most 1,024 tables are offered with a ticket, and 4,294,967,295 is the last count.
 pub fn the_limits_of_transactions()

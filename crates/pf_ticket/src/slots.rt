@@ -1,5 +1,7 @@
 //! The slots of all inactive rulesets.
-ghost use Rattle.std.specs.{Prelude.{◌≡◌, ◌<◌, ◌≤◌, ◌+◌, ◌^◌, T, [], length, get_or, IfOk, IfErr, OnOk, OnErr, Some, None, vec_len, vec_capacity}, FinMap.is_sorted, List.Sorted.IsSearchInRange};
+ghost use Rattle.std.specs.Prelude.{◌≡◌, ◌<◌, ◌≤◌, ◌+◌, ◌^◌, T, [], length, get_or, IfOk, IfErr, OnOk, OnErr, Some, None, vec_len};
+ghost use Rattle.std.specs.Prelude.{vec_capacity};
+ghost use Rattle.std.specs.{FinMap.is_sorted, List.Sorted.IsSearchInRange};
 ghost use Rattle.pf_anchor.specs.declared.limits.TheConstants.{RULE_LIMIT};
 ghost use Rattle.pf_ticket.specs.Names.{ruleset_order};
 ghost use Rattle.pf_ticket.specs.Tickets.{PlainInactive, offer_with, with_rule, with_table, with_offer, with_all, IsPlace, IsGap};

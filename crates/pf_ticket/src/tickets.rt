@@ -5,7 +5,12 @@ ghost use Rattle.pf_table.specs.Edits.{conflict_in, replaced};
 ghost use Rattle.pf_addr.specs.Refusing.{OrMemory};
 ghost use Rattle.pf_ticket.specs.declared.limits.TheConstants.{LAST_COUNT};
 ghost use Rattle.pf_ticket.specs.declared.refusal.TicketRefusal.TheVariants.{Memory};
-ghost use Rattle.pf_ticket.specs.{Mentions.{added, defined, load, moved, take_out, after, gives, switches, drops}, Names.{filter_at, table_ruleset_at, is_named, same_name}, Replies.{bad_count, twice_behind, twice_in, busy_in, list_check, commit_check, begin_reply, add_reply, table_reply, define_reply}, Tickets.{PlainInactive, offer_at, loaded, with_rule, with_table, given_from, IsPlace, fresh, tickets_with, content, is_valid}};
+ghost use Rattle.pf_ticket.specs.Mentions.{added, defined, load, moved, take_out, after, gives, switches, drops};
+ghost use Rattle.pf_ticket.specs.Names.{filter_at, table_ruleset_at, is_named, same_name};
+ghost use Rattle.pf_ticket.specs.Replies.{bad_count, twice_behind, twice_in, busy_in, list_check, commit_check, begin_reply, add_reply};
+ghost use Rattle.pf_ticket.specs.Replies.{table_reply, define_reply};
+ghost use Rattle.pf_ticket.specs.Tickets.{PlainInactive, offer_at, loaded, with_rule, with_table, given_from, IsPlace, fresh, tickets_with};
+ghost use Rattle.pf_ticket.specs.Tickets.{content, is_valid};
 
 use crate::entry::RulesetTicket;
 use crate::limits::{ENTRY_LIMIT, LAST_COUNT};

@@ -8,7 +8,7 @@ use Rattle.atomic_table.proofs.Lists.{at_set, at_snoc}
 use Rattle.logbook.specs.Pages.{Book}
 use Rattle.pf_core.specs.Durable.Changes.{PlainDurable, PlainChange}
 use Rattle.pf_view.specs.Copies.{PlainShown, with_operation, offered_version, IsChain, Keeps, Sees}
-use Rattle.pf_past.proofs.Prefixes.{prefix_self, prefix_trans}
+use Rattle.pf_view.proofs.Prefixes.{prefix_self, prefix_trans}
 
 -- a new view has seen nothing
 pub admits : (base : PlainDurable) (history : Book) → Admits (Keeps base history) []

@@ -6,7 +6,7 @@ use lib.ListN.{get_elem?}
 use Rattle.logbook.specs.Pages.{Book}
 use Rattle.atomic_table.specs.Seated.{TableId}
 use Rattle.pf_core.specs.Durable.Changes.{PlainDurable, PlainChange, after}
-use Rattle.pf_past.specs.Pasts.{PlainTrace, trace_with, all_acked}
+use Rattle.pf_view.specs.Past.Pasts.{PlainTrace, trace_with, all_acked}
 use Rattle.pf_view.specs.Seers.{PlainShower}
 
 -- what a copy is, and what both have: the changes that made it, what is kept after them, and the front that it carries

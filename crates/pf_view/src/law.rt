@@ -1,8 +1,8 @@
 //! The rule of the published copies.
+use crate::past::Naming;
 use crate::shown::Shown;
 use crossbeam_utils::rule::{Outcome, Protocol};
 use pf_core::Change;
-use pf_past::Naming;
 use std::collections::LinkedList;
 use std::marker::PhantomData;
 

@@ -1,13 +1,14 @@
-//! Published copies of what is kept: workers judge packets by them, and wait for nobody.
+//! The history of one opening, and published copies of what is kept: workers judge packets by them, and wait for nobody.
 //!
-//! The crate knows changes and what is kept after them (`pf_core`), fronts of a history (`pf_past`), and packets (`pf_rule`). It knows no
-//! disk, command, ticket or reply: whoever offers a change has kept it before.
+//! The crate knows changes and what is kept after them (`pf_core`), and packets (`pf_rule`). It knows no disk, command, ticket or reply:
+//! whoever offers a change has kept it before.
 //!
 //! There are two copies of what is kept. A [`Shower`] takes changes by [`Publisher::offer`] and shows all of them at once by
 //! [`Publisher::show`]; a [`Seer`] judges by the copy that is shown. All of them rely on one rule: the copy that is shown is what the
 //! opening gave after the copy's changes, these are a front of the opening's history, each acknowledged, and what a seer saw is a front of
 //! them. Read first `specs/Copies.antt`, then `specs/Seers.antt`: what contracts see. The modules, each of which uses none below it:
 //!
+//! - [`past`]: the history of one opening, and fronts of it.
 //! - `shown`: one copy, and what is published.
 //! - `law`: the rule.
 //! - `token`: what a seer learns outside of the rule.
@@ -25,6 +26,7 @@
 
 mod law;
 mod opening;
+pub mod past;
 mod publisher;
 mod seer;
 mod shower;
@@ -32,7 +34,7 @@ mod shown;
 mod token;
 
 pub use opening::{ViewFault, views};
-pub use pf_past::{Front, Naming};
+pub use past::{Front, Naming};
 pub use publisher::Publisher;
 pub use seer::{Gone, Seer};
 pub use shower::Shower;

@@ -1,10 +1,11 @@
 //! A shower and its seers.
 ghost use Rattle.std.specs.{Prelude.{◌≡◌, ◌<◌, ◌≤◌, [], drop, vec_len, All, IfOk}, Arc.arc_value};
 ghost use Rattle.pf_view.specs.declared.opening.ViewFault.TheVariants.{Memory};
-ghost use Rattle.pf_past.specs.Pasts.{all_acked, trace_with};
+ghost use Rattle.pf_view.specs.Past.Pasts.{all_acked, trace_with};
 ghost use Rattle.pf_view.specs.{Copies.{IsChain, shown_with}, Seers.{IsNewSeer, IsNewShower, JudgesBy}};
 
 use crate::law::{Law, Sight};
+use crate::past::{Front, Naming};
 use crate::seer::{CopyReader, Seer};
 use crate::shower::{CopyWriter, Shower};
 use crate::shown::Shown;
@@ -12,7 +13,6 @@ use crate::token::Token;
 use left_right::reader::Factory;
 use left_right::writer::Writer;
 use pf_core::Durable;
-use pf_past::{Front, Naming};
 use std::alloc::{AllocError, Global};
 use std::sync::{Arc, Wait};
 

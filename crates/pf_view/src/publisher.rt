@@ -1,12 +1,12 @@
 //! What a publisher is, whichever it is.
 ghost use Rattle.std.specs.{Prelude.{◌≡◌, ◌<◌, ◌++◌, length, vec_len, OnOk, OnErr}, Arc.arc_value};
 ghost use Rattle.pf_core.specs.Durable.Changes.{after};
-ghost use Rattle.pf_past.specs.Pasts.{all_acked};
+ghost use Rattle.pf_view.specs.Past.Pasts.{all_acked};
 ghost use Rattle.pf_view.specs.Sharing.{changes_of};
 
+use crate::past::{Front, Naming};
 use crate::token::Token;
 use pf_core::{Change, Durable};
-use pf_past::{Front, Naming};
 use std::alloc::AllocError;
 use std::sync::Arc;
 

@@ -3,16 +3,16 @@ ghost use Rattle.std.specs.Prelude.{◌≡◌, ◌<◌, ◌≤◌, length, IfOk,
 ghost use mathlib.Core.List.{IsPrefix};
 ghost use Rattle.left_right.specs.Sides.{view};
 ghost use Rattle.pf_core.specs.Durable.Changes.{after, verdict};
-ghost use Rattle.pf_past.specs.Pasts.{all_acked};
+ghost use Rattle.pf_view.specs.Past.Pasts.{all_acked};
 ghost use Rattle.pf_view.specs.Seers.{JudgesBy, learns};
 
 use crate::law::{Law, Seeing, Sight};
+use crate::past::{Front, Naming};
 use crate::shown::Shown;
 use crate::token::Token;
 use core::mem::replace_with;
 use left_right::reader::Reader;
 use pf_core::Verdict;
-use pf_past::{Front, Naming};
 use pf_rule::Packet;
 use std::marker::Model;
 
@@ -35,7 +35,7 @@ pub struct Seer<J: Naming> {
 
 impl<J: Naming> Model for Seer<J> {
     ghost use Rattle.std.specs.Prelude.{◌≡◌};
-    ghost use Rattle.pf_past.specs.Pasts.{all_acked};
+    ghost use Rattle.pf_view.specs.Past.Pasts.{all_acked};
     ghost use Rattle.pf_view.specs.Seers.{PlainSeer, HoldsSight};
 
     ghost Value = { PlainSeer };

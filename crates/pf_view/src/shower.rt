@@ -3,6 +3,7 @@ ghost use Rattle.std.specs.Prelude.{◌≡◌, [], drop, IfSome, OnOk, OnErr};
 ghost use Rattle.pf_view.specs.{Copies.{offered_version, IsChain}, Seers.{IsNewShower, JudgesBy}};
 
 use crate::law::{Law, Seeing, Sight};
+use crate::past::{Front, Naming};
 use crate::publisher::Publisher;
 use crate::seer::Seer;
 use crate::shown::{Operation, Shown};
@@ -10,7 +11,6 @@ use crate::token::Token;
 use core::mem::replace_with;
 use left_right::writer::Writer;
 use pf_core::{Change, Durable};
-use pf_past::{Front, Naming};
 use std::alloc::AllocError;
 use std::marker::Model;
 use std::sync::{Arc, Wait};

@@ -2,9 +2,9 @@
 ghost use Rattle.std.specs.Prelude.{◌≡◌, ◌++◌, MatchResult};
 ghost use Rattle.pf_view.specs.Sharing.{changes_of};
 
+use crate::past::Trace;
 use left_right::Absorb;
 use pf_core::{Change, Durable};
-use pf_past::Trace;
 use std::alloc::AllocError;
 use std::marker::Model;
 use std::sync::Arc;

@@ -1,9 +1,9 @@
 //! What a shower gives a seer to learn.
 ghost use Rattle.std.specs.Prelude.{◌≡◌, ◌≤◌, length};
 ghost use mathlib.Core.List.{IsPrefix};
-ghost use Rattle.pf_past.specs.Pasts.{all_acked};
+ghost use Rattle.pf_view.specs.Past.Pasts.{all_acked};
 
-use pf_past::{Front, Naming};
+use crate::past::{Front, Naming};
 use std::marker::Model;
 
 /// A front of the history, each change of it acknowledged: all that was shown when it was made. Contracts see it as its changes.
@@ -16,7 +16,7 @@ pub struct Token<J: Naming> {
 impl<J: Naming> Model for Token<J> {
     ghost use Rattle.std.specs.Prelude.{◌≡◌, List, length};
     ghost use Rattle.pf_core.specs.Durable.Changes.{PlainChange};
-    ghost use Rattle.pf_past.specs.Pasts.{all_acked};
+    ghost use Rattle.pf_view.specs.Past.Pasts.{all_acked};
 
     ghost Value = { List PlainChange };
 

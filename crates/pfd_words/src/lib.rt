@@ -1,7 +1,7 @@
 //! The program's command line: its subcommands and options, as `clap` reads them, and what they ask for.
 //!
-//! It knows `clap` alone, and no disk, no file, no address and no session: a path and an address are only texts here, for `pfd` and
-//! `pfd_main` to use. The module:
+//! It knows `clap` alone, and no disk, no file, no address and no session: a path and an address are only texts here. Of the program only
+//! `pfd` uses it. The module:
 //!
 //! - `words`: the five subcommands `run`, `format`, `show`, `serve` and `connect` as clap's commands, and [`read_words`], which reads a
 //!   command line into a [`Task`].

@@ -173,7 +173,7 @@ fn show_words<'a>(alloc: Global) -> Result<Command<'a>, AllocError>
     ensures local { IfOk result (λ c. (out-Command c).has_globals ≡ false) }
 {
     Command::new(alloc, "show")
-        .about("Tells what a disk holds")
+        .about("Shows what a disk holds")
         .arg(disk(alloc).required(true))
 }
 
@@ -214,7 +214,7 @@ fn connect_words<'a>(alloc: Global) -> Result<Command<'a>, AllocError>
     let address = Arg::new(alloc, "address")
         .value_name("ADDR")
         .required(true)
-        .help("The server's address and port, as serve tells it");
+        .help("The server's address and port, as serve prints it");
     Command::new(alloc, "connect")
         .about("Sends standard input to a server, and its replies to standard output")
         .arg(address)

@@ -1,5 +1,6 @@
 //! Paths and names as keys of maps, by their bytes, and bytes to look for a path by.
-ghost use Rattle.std.specs.{Prelude.{◌≡◌, get_or}, FinMap.{slice_cmp-IsAntisymmetric, nat_cmp-IsAntisymmetric}, Cmp.Lexicographic.nat_list_cmp_total};
+ghost use Rattle.std.specs.{Prelude.{◌≡◌, get_or}, FinMap.{slice_cmp-IsAntisymmetric, nat_cmp-IsAntisymmetric}};
+ghost use Rattle.std.specs.Cmp.Lexicographic.{nat_list_cmp_total};
 ghost use Rattle.pf_addr.specs.{Path.Names.name_order, Path.Paths.path_order};
 ghost use Rattle.pf_addr.specs.Path.FirstBytes.{front_number, front_rises};
 

@@ -1,7 +1,15 @@
 //! Laws that follow from the definitions in contracts. Each function's contract is the law; its body does nothing.
 ghost use Rattle.std.specs.Prelude.{◌≡◌, ◌≤◌, ℕ, true, List};
-ghost use Rattle.pf_addr.specs.declared.path.limits.TheConstants.{PATH_LIMIT, COMPONENT_LIMIT, DEPTH_LIMIT, REFERENCE_LIMIT, TABLE_NAME_LIMIT};
-ghost use Rattle.pf_addr.specs.{Path.{FaultCases.{IsNameFault, IsPathFault, IsReferenceFault}, Names.{name_of, IsName, IsTableName}, Paths.{path_of, is_path}, References.{reference_of, PlainReference}, ReferenceGrammar.IsReference, PathForms.{path_form, table_name_form, name_field, reference_form, plain_reference, reference_of_plain}}, Laws.Path.{Names.{ReadsANameAlone, ReadsEachName}, Paths.{ReadsWhatIsSpelled, ReadsAllThatIsSpelled, WritesWhatWasRead, ReadsWhatIsWritten, SamePathIsEqual}, References.{ReferenceIsSpelled, SpelledReferenceIsRead}, Nested.{NoDeeper, LeadsDeeper, ChildHasOneMore, EachIsAChild}}};
+ghost use Rattle.pf_addr.specs.declared.path.limits.TheConstants.{PATH_LIMIT, COMPONENT_LIMIT, DEPTH_LIMIT, REFERENCE_LIMIT};
+ghost use Rattle.pf_addr.specs.declared.path.limits.TheConstants.{TABLE_NAME_LIMIT};
+ghost use Rattle.pf_addr.specs.Path.{FaultCases.{IsNameFault, IsPathFault, IsReferenceFault}, Names.{name_of, IsName, IsTableName}};
+ghost use Rattle.pf_addr.specs.Path.{Paths.{path_of, is_path}, References.{reference_of, PlainReference}, ReferenceGrammar.IsReference};
+ghost use Rattle.pf_addr.specs.Path.PathForms.{path_form, table_name_form, name_field, reference_form, plain_reference, reference_of_plain};
+ghost use Rattle.pf_addr.specs.Laws.Path.Names.{ReadsANameAlone, ReadsEachName};
+ghost use Rattle.pf_addr.specs.Laws.Path.Paths.{ReadsWhatIsSpelled, ReadsAllThatIsSpelled, WritesWhatWasRead, ReadsWhatIsWritten};
+ghost use Rattle.pf_addr.specs.Laws.Path.Paths.{SamePathIsEqual};
+ghost use Rattle.pf_addr.specs.Laws.Path.References.{ReferenceIsSpelled, SpelledReferenceIsRead};
+ghost use Rattle.pf_addr.specs.Laws.Path.Nested.{NoDeeper, LeadsDeeper, ChildHasOneMore, EachIsAChild};
 ghost use Rattle.pf_form.specs.{Form.FaultsFound.TellsFaults, Bytes.{Forms.Fits, Names.{filled, before_zero}}};
 
 /// A word is read as a name exactly where it is one.

@@ -12,5 +12,5 @@ pub const DEPTH_LIMIT: usize = 16;
 /// How many bytes a reference may have, with the `/*` at its end and without quotes.
 pub const REFERENCE_LIMIT: usize = 63;
 
-/// How many bytes a table's name may have (pf(4)'s `pfrt_name` with its closing zero).
+/// How many bytes a table's name may have: those of pf(4)'s `pfrt_name` but for its closing zero.
 pub const TABLE_NAME_LIMIT: usize = 31;

@@ -1,5 +1,6 @@
 //! Paths within one another.
-ghost use Rattle.std.specs.{Prelude.{◌≡◌, ◌≢◌, true, ℕ, List, ◌≤◌, ◌+◌, ◌++◌, length, take, if◌then◌else◌, Some, None}, List.list_any, Option.{is_none, MatchOption}};
+ghost use Rattle.std.specs.{Prelude.{◌≡◌, ◌≢◌, true, ℕ, List, ◌≤◌, ◌+◌, ◌++◌, length, take, if◌then◌else◌, Some, None}, List.list_any};
+ghost use Rattle.std.specs.Option.{is_none, MatchOption};
 ghost use Rattle.pf_addr.specs.{Path.Paths.{is_slash, path_fault, is_path}, Path.Nested.{path_within, is_single, is_child}};
 
 use crate::path::limits::PATH_LIMIT;

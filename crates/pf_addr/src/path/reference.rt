@@ -1,6 +1,8 @@
 //! References to rulesets.
 ghost use Rattle.std.specs.Prelude.{◌≡◌, ◌≤◌, length, None, Some};
-ghost use Rattle.pf_addr.specs.{Path.Paths.main, Path.Nested.path_within, Path.References.{refers, unquoted, split_wildcard, reference_in, reference_of}, Path.ReferenceGrammar.IsReference};
+ghost use Rattle.pf_addr.specs.{Path.Paths.main, Path.Nested.path_within};
+ghost use Rattle.pf_addr.specs.Path.References.{refers, unquoted, split_wildcard, reference_in, reference_of};
+ghost use Rattle.pf_addr.specs.Path.ReferenceGrammar.{IsReference};
 
 use crate::path::keys::PathBytes;
 use crate::path::limits::REFERENCE_LIMIT;

@@ -11,7 +11,7 @@ use crate::chapter::Chapter;
 use crate::receipt::Receipt;
 use pf_core::{Change, Command, Refusal, Reply};
 use pf_disk::Disk;
-use pf_past::Front;
+use pf_view::past::Front;
 use pf_view::{Publisher, Seer, Token};
 use std::sync::Arc;
 use std::vec::IntoIter;

@@ -1,5 +1,6 @@
 //! What is kept.
-ghost use Rattle.std.specs.{Prelude.{◌≡◌, ◌==◌, ◌++◌, ◌<◌, ◌^◌, ℕ, [], T, not, true, map, length, None, Err, IfOk, OnOk}, FinMap.is_sorted, List.list_all, Arc.arc_value};
+ghost use Rattle.std.specs.{Prelude.{◌≡◌, ◌==◌, ◌++◌, ◌<◌, ◌^◌, ℕ, [], T, not, true, map, length, None, Err, IfOk, OnOk}, FinMap.is_sorted};
+ghost use Rattle.std.specs.{List.list_all, Arc.arc_value};
 ghost use Rattle.pf_addr.specs.{Refusing.{refused_at, OrMemory, Meets}, Path.Names.name_order};
 ghost use Rattle.pf_anchor.specs.Configurations.{with_rulesets};
 ghost use Rattle.pf_table.specs.{Edits.{added, additions, deleted, deletions, replaced}, Tables.deciding};
@@ -7,7 +8,9 @@ ghost use Rattle.pf_state.specs.{Layouts.States.has_expiry, States.all_stand, St
 ghost use Rattle.pf_ticket.specs.Replies.{twice_behind};
 ghost use Rattle.pf_core.specs.declared.durable.refusal.ChangeRefusal.TheVariants.{Twice, BadTick, Memory};
 ghost use Rattle.pf_core.specs.Durable.Forms.{allows, durable_length};
-ghost use Rattle.pf_core.specs.Durable.Changes.{is_in_order, name_of, kept_nothing, commits, adds, deletes, sets, acts, expires, rulesets_in, replaces_main, placed, tables_in, entries_at, sum_of, main_sum, with_entries, with_states, at_tick, in_epoch, room_for_table, fits, applied, changed, verdict};
+ghost use Rattle.pf_core.specs.Durable.Changes.{is_in_order, name_of, kept_nothing, commits, adds, deletes, sets, acts, expires};
+ghost use Rattle.pf_core.specs.Durable.Changes.{rulesets_in, replaces_main, placed, tables_in, entries_at, sum_of, main_sum, with_entries};
+ghost use Rattle.pf_core.specs.Durable.Changes.{with_states, at_tick, in_epoch, room_for_table, fits, applied, changed, verdict};
 
 use crate::durable::change::{Change, ChangeKind, Item, names_of};
 use crate::durable::refusal::ChangeRefusal;

@@ -1,7 +1,8 @@
 //! Laws of every form. A function's contract is the law, and its body does nothing.
 ghost use Rattle.std.specs.Prelude.{◌≡◌, ◌++◌, ◌∷◌, ◌+◌, ℕ, List, length, Ok, Err};
 ghost use Rattle.pf_form.specs.declared.{bytes.fault.Fault.Fault, bytes.fault.Fault.TheVariants.Short};
-ghost use Rattle.pf_form.specs.{Bytes.BasicForms.Bytes, Bytes.Forms.{Shape, Value, Form, Spells, Fits, reads, writes, length_of}, Bytes.Readers.{Refused, GoesWrong, read_all}};
+ghost use Rattle.pf_form.specs.{Bytes.BasicForms.Bytes, Bytes.Forms.{Shape, Value, Form, Spells, Fits, reads, writes, length_of}};
+ghost use Rattle.pf_form.specs.Bytes.Readers.{Refused, GoesWrong, read_all};
 
 /// A value's bytes are read back as that value, and what comes after them is left; a proper front of them is short.
 pub fn what_is_written_is_read()

@@ -1,10 +1,10 @@
 //! Bytes that are exactly one value.
 ghost use Rattle.std.specs.Prelude.{◌≡◌, Ok, IfOk, IfErr};
-ghost use Rattle.pf_form.specs.{Bytes.Forms.{Value, Fits, Spells}, Bytes.Readers.{GivesAll, IfFault, Refused, read_all}};
+ghost use Rattle.pf_form.specs.{Bytes.Forms.{Value, Spells}, Bytes.Readers.{GivesAll, IfFault, Refused, read_all}};
 
 use crate::bytes::fault::{Fault, Undecoded};
 use crate::bytes::layout::Layout;
-use std::alloc::{AllocError, Global};
+use std::alloc::Global;
 
 /// The value whose bytes these are in a version.
 ///
@@ -30,15 +30,4 @@ fn read_whole<T: Layout>(alloc: Global, version: u8, bytes: &[u8]) -> Result<T, 
         return Err(Undecoded::Fault(Fault::Bad(rest.len())));
     }
     Ok(value)
-}
-
-/// The bytes that a value is written as in a version, if it fits its form. Fails only when out of memory.
-#[tactic(auto, using(crate::specs::Laws::Bytes::Onto::onto_is))]
-pub fn encode<T: Layout>(alloc: Global, version: u8, value: &T) -> Result<Vec<u8>, AllocError>
-    requires { Fits (T.form version) (T.plain value.now) }
-    ensures { IfOk result (λ v. Spells (T.form version) (T.plain value.now) v.items) }
-{
-    let mut out = Vec::new(alloc);
-    value.write(version, &mut out)?;
-    Ok(out)
 }

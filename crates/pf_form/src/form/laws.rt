@@ -1,6 +1,7 @@
 //! Laws of words and numbers. A function's contract is the law, and its body does nothing.
 ghost use Rattle.std.specs.Prelude.{◌≡◌, ℕ, List, Some, All};
-ghost use Rattle.pf_form.specs.{Form.Words.{Word, words_of}, Form.Cuts.{IsWord, IsCut}, Form.Numbers.{IsNumber, number_of, IsNumberIn, number_in}};
+ghost use Rattle.pf_form.specs.{Form.Words.{Word, words_of}, Form.Cuts.{IsWord, IsCut}};
+ghost use Rattle.pf_form.specs.Form.Numbers.{IsNumber, number_of, IsNumberIn, number_in};
 
 /// The words of a line are what is between its blanks, and there are no others.
 #[tactic(auto, using(crate::proofs::Cutting::each_is_word, crate::proofs::Cutting::line_is_cut, crate::proofs::Cutting::cut_only))]

@@ -1,7 +1,8 @@
 //! What the functions that read words share.
 ghost use Rattle.std.specs.Prelude.{◌≡◌, Ok, length};
 ghost use Rattle.pf_form.specs.declared.form.fault.Kind.TheVariants.{BadWord};
-ghost use Rattle.pf_form.specs.{Form.Words.texts, Form.Forms.{Reader, reads, end_at}, Form.Readers.{Moves, if_there, there, GivesWhole, GivesAll, Shrinks, TakesSome, IsReadBy, each_by}};
+ghost use Rattle.pf_form.specs.{Form.Words.texts, Form.Forms.{Reader, reads, end_at}};
+ghost use Rattle.pf_form.specs.Form.Readers.{Moves, if_there, there, GivesWhole, GivesAll, Shrinks, TakesSome, IsReadBy, each_by};
 
 use crate::form::fault::{Kind, Stop, Unread};
 use std::alloc::Global;

@@ -1,7 +1,8 @@
 //! The texts of the two ends of a packet's way, with a space before each word.
 ghost use Rattle.std.specs.Prelude.{◌≡◌};
 ghost use Rattle.pf_addr.specs.Writing.{Continues};
-ghost use Rattle.pf_rule.specs.{Value.Spacing.spaced, Host.Hosts.host_words, Host.Ends.{from_to_words, ends_words}, Laws.Host.Ends.end_text};
+ghost use Rattle.pf_rule.specs.{Value.Spacing.spaced, Host.Hosts.host_words, Host.Ends.{from_to_words, ends_words}};
+ghost use Rattle.pf_rule.specs.Laws.Host.Ends.{end_text};
 
 use crate::host::ends::End;
 use crate::host::host::Host;

@@ -2,7 +2,8 @@
 ghost use Rattle.std.specs.Prelude.{◌≡◌, ◌<◌, ◌≤◌, false, IfOk, IfSome, Some, None};
 ghost use Rattle.pf_addr.specs.{Address.IsNetwork, NetForms.first_number, Path.Names.IsTableName};
 ghost use Rattle.pf_form.specs.Bytes.{Codes.flag_byte, Names.filled, Readers.Reads};
-ghost use Rattle.pf_rule.specs.{Value.Ports.IsPortTest, Rules.HostFits, Sum.Forms.{comparison_byte, range_byte}, Sum.Layouts.{port_test, plain_test, network_end, table_end, end, plain_end, plain_family}};
+ghost use Rattle.pf_rule.specs.{Value.Ports.IsPortTest, Rules.HostFits, Sum.Forms.{comparison_byte, range_byte}};
+ghost use Rattle.pf_rule.specs.Sum.Layouts.{port_test, plain_test, network_end, table_end, end, plain_end, plain_family};
 
 use crate::host::End;
 use crate::sum::host_form::TABLE_FIELD;

@@ -1,7 +1,8 @@
 //! The forms of rules in bytes.
 ghost use Rattle.std.specs.Prelude.{◌≡◌, ◌∷◌, [], length, unwrap_or};
 ghost use Rattle.pf_form.specs.Bytes.Codes.{flag_byte};
-ghost use Rattle.pf_rule.specs.Sum.Forms.{filled, heading, effect_byte, keeps_state, direction_byte, family_byte, names, wildcard, label_bytes, rule_form};
+ghost use Rattle.pf_rule.specs.Sum.Forms.{filled, heading, effect_byte, keeps_state, direction_byte, family_byte, names, wildcard};
+ghost use Rattle.pf_rule.specs.Sum.Forms.{label_bytes, rule_form};
 
 use crate::sum::field::filled;
 use crate::sum::host_form::{HOST_FORM, host_bytes};

@@ -2,7 +2,9 @@
 ghost use Rattle.std.specs.Prelude.{◌≡◌, ◌∷◌, ◌++◌, []};
 ghost use Rattle.byteorder.specs.Endian.{big_bytes};
 ghost use Rattle.pf_form.specs.Bytes.Codes.{flag_byte};
-ghost use Rattle.pf_rule.specs.{Bytes.addr_bytes, Host.Hosts.is_negated, Sum.Forms.{address_bytes, comparison_byte, filled, first_port, host_form, kind_byte, length_byte, range_byte, second_port, table_name, test_byte}};
+ghost use Rattle.pf_rule.specs.{Bytes.addr_bytes, Host.Hosts.is_negated};
+ghost use Rattle.pf_rule.specs.Sum.Forms.{address_bytes, comparison_byte, filled, first_port, host_form, kind_byte, length_byte};
+ghost use Rattle.pf_rule.specs.Sum.Forms.{range_byte, second_port, table_name, test_byte};
 
 use crate::sum::field::filled;
 use crate::{Comparison, Host, PortRange, PortTest};

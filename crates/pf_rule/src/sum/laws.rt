@@ -1,8 +1,11 @@
 //! Laws of forms. Each function does nothing; its contract is what is proved.
 ghost use Rattle.std.specs.Prelude.{◌≡◌, ◌+◌, ℕ, true, [], ◌∷◌, codes, length, map, Ok};
-ghost use Rattle.pf_rule.specs.{Rules.{PlainRule, IsRule}, RuleGrammar.rule, Sum.Forms.{host_form, label_bytes, rule_form, whole_form, ruleset_sum}, Sum.Layouts.{rule_layout, plain_rule, allows}, Sum.Reading.rule_of};
+ghost use Rattle.pf_rule.specs.{Rules.{PlainRule, IsRule}, RuleGrammar.rule};
+ghost use Rattle.pf_rule.specs.Sum.Forms.{host_form, label_bytes, rule_form, whole_form, ruleset_sum};
+ghost use Rattle.pf_rule.specs.{Sum.Layouts.{rule_layout, plain_rule, allows}, Sum.Reading.rule_of};
 ghost use Rattle.pf_form.specs.{Bytes.Forms.{Fits, writes, length_of}, Form.Words.words_of, Form.Forms.read_all};
-ghost use Rattle.pf_rule.specs.declared.{host.host.Host.TheVariants.Any, sum.{form.TheConstants.RULE_FORM, layout.TheConstants.LABELS_FROM}};
+ghost use Rattle.pf_rule.specs.declared.host.host.Host.TheVariants.{Any};
+ghost use Rattle.pf_rule.specs.declared.sum.{form.TheConstants.RULE_FORM, layout.TheConstants.LABELS_FROM};
 ghost use Rattle.pf_rule.specs.Laws.Sums as example;
 
 /// The form of each rule has [`RULE_FORM`](crate::sum::RULE_FORM) bytes before its label. What its layout writes has these and the

@@ -2,7 +2,10 @@
 ghost use Rattle.std.specs.Prelude.{◌≡◌, ◌<◌, ◌==◌, false, true, IfOk, IfSome, length, map, unwrap_or};
 ghost use Rattle.std.specs.List.{AllByRecursion, list_all};
 ghost use Rattle.pf_form.specs.{Bytes.Forms.{Form, Fits, times}, Bytes.Codes.below, Bytes.Readers.Reads};
-ghost use Rattle.pf_rule.specs.{Value.Values.{IsInterfaceName, IsLabel, IsProtocol, has_ports}, Value.Ports.has_ports_of, Rules.{IsEffect, IsRule, LabelFits}, Sum.Forms.{direction_byte, effect_byte, keeps_state}, Sum.Layouts.{some_family, plain_family, interface, plain_interface, has_labels, label_form, plain_label, named, plain_ending, rule_layout, plain_rule, allows}};
+ghost use Rattle.pf_rule.specs.{Value.Values.{IsInterfaceName, IsLabel, IsProtocol, has_ports}, Value.Ports.has_ports_of};
+ghost use Rattle.pf_rule.specs.{Rules.{IsEffect, IsRule, LabelFits}, Sum.Forms.{direction_byte, effect_byte, keeps_state}};
+ghost use Rattle.pf_rule.specs.Sum.Layouts.{some_family, plain_family, interface, plain_interface, has_labels, label_form, plain_label};
+ghost use Rattle.pf_rule.specs.Sum.Layouts.{named, plain_ending, rule_layout, plain_rule, allows};
 
 use crate::rule::RuleParts;
 use crate::sum::end_layout::read_end;

@@ -1,7 +1,8 @@
 //! Laws of words. Each function does nothing; its contract is what is proved.
 ghost use Rattle.std.specs.Prelude.{◌≡◌, ℕ, List, Ok};
 ghost use Rattle.pf_form.specs.Form.Words.{Word};
-ghost use Rattle.pf_rule.specs.declared.{value.port_words.PortStart.PortStart, value.interface.TheConstants.INTERFACE_LIMIT, value.label.TheConstants.LABEL_LIMIT, value.values.TheConstants.{PROTOCOL_DIGITS, PORT_DIGITS}};
+ghost use Rattle.pf_rule.specs.declared.{value.port_words.PortStart.PortStart, value.interface.TheConstants.INTERFACE_LIMIT};
+ghost use Rattle.pf_rule.specs.declared.{value.label.TheConstants.LABEL_LIMIT, value.values.TheConstants.{PROTOCOL_DIGITS, PORT_DIGITS}};
 ghost use Rattle.pf_rule.specs.declared.value.protocol.TheConstants.Protocol as protocols;
 ghost use Rattle.pf_rule.specs.{Value.Values.{SpellsProtocol, protocol_of, SpellsLabel, label_of}, Value.Ports.{SpellsStart, start_of}};
 

@@ -1,7 +1,8 @@
 //! Reading tests of ports (pf.conf(5), GRAMMAR).
 ghost use Rattle.std.specs.{Prelude.{◌≡◌, ◌<◌, length, IfSome}, List.position, Option.option_map};
 ghost use Rattle.pf_form.specs.Form.Readers.{Moves};
-ghost use Rattle.pf_rule.specs.Value.Ports.{split_operator, is_colon, start_of, a_start, compared, range_end, ranged, order_or_range, port_test, port};
+ghost use Rattle.pf_rule.specs.Value.Ports.{split_operator, is_colon, start_of, a_start, compared, range_end, ranged, order_or_range};
+ghost use Rattle.pf_rule.specs.Value.Ports.{port_test, port};
 
 use crate::take_word;
 use crate::value::ports::{Comparison, PortRange, PortTest};

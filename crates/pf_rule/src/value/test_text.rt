@@ -1,7 +1,9 @@
 //! The texts of a rule's tests, with a space before each word; and that of a protocol alone, without one.
 ghost use Rattle.std.specs.Prelude.{◌≡◌, ◌++◌, true, codes, decimal};
 ghost use Rattle.pf_addr.specs.Writing.{Continues};
-ghost use Rattle.pf_rule.specs.{Value.Spacing.{is_word, spaced}, Value.Tests.{direction_words, interface_words, family_words, protocol_word, protocol_words}, Value.Ports.{operator_word, port_words}};
+ghost use Rattle.pf_rule.specs.Value.Spacing.{is_word, spaced};
+ghost use Rattle.pf_rule.specs.Value.Tests.{direction_words, interface_words, family_words, protocol_word, protocol_words};
+ghost use Rattle.pf_rule.specs.Value.Ports.{operator_word, port_words};
 
 use crate::value::direction::Direction;
 use crate::value::interface::Interface;

@@ -24,7 +24,7 @@ pub(crate) trait CallBook<J: Chapter> {
 }
 
 /// A caller of a Book under a lock, which waits for it by a handle.
-#[derive(Clone, Copy)]
+#[derive(Drop)]
 pub(crate) struct Caller<'a, W: Wait, D: Disk + Drop, J: Chapter, S: Publisher<J> + Drop> {
     rt: &'a W,
     shared: &'a Shared<D, J, S>,

@@ -10,7 +10,8 @@ use crate::server::caller::{CallBook, Caller};
 use crate::server::gate::Gate;
 use crate::telling::{RunCommands, answer, tell};
 use pf_addr::write_text;
-use pf_book::{Chapter, Disk, Gone, Receipt, Seer, Shared, learn_from};
+use pf_book::shared::Shared;
+use pf_book::{Chapter, Disk, Gone, Publisher, Receipt, Seer, learn_from};
 use pf_core::{Command, Question, Reply};
 use pf_line::write_judged;
 use pf_rule::Packet;
@@ -86,6 +87,15 @@ impl<'a, C: CallBook<J>, J: Chapter, G: Gate> Session<'a, C, J, G> {
         if let Some(packet) = packet_in(&command) {
             return self.judge(packet, writer);
         }
+        self.run_and_tell(command, writer)
+    }
+
+    // Runs a command by the Book, and writes the reply.
+    fn run_and_tell<O: Write>(&mut self, command: Command, writer: &mut O) -> io::Result<()>
+        ensures same { IsSame self.old self.new }
+        ensures run { (text : List ℕ) × IsCommandRun J.base J.setting command (sitting self.old) (sitting self.new) text ×
+            Writes result (O.contents writer.old) (O.contents writer.new) text }
+    {
         let reply = self.run(command);
         tell(writer, reply)
     }
@@ -144,12 +154,20 @@ fn run_session<C: CallBook<J>, J: Chapter, G: Gate, R: Read, O: Write>(
 ///
 /// It waits for the reader, the writer, the gate and the Book's lock, and holds that lock only within `Shared::run`. Faults are those of
 /// [`serve_alone`](crate::serve_alone); what was learnt stays learnt.
-pub fn serve<W: Wait, D: Disk + Drop, J: Chapter, H: Wait + Drop, G: Gate, R: Read, O: Write>(
+pub fn serve<
+    W: Wait,
+    D: Disk + Drop,
+    J: Chapter,
+    S: Publisher<J> + Drop,
+    G: Gate,
+    R: Read,
+    O: Write,
+>(
     rt: &W,
     alloc: Global,
     reader: &mut R,
     writer: &mut O,
-    shared: &Shared<D, J, H>,
+    shared: &Shared<D, J, S>,
     seer: &mut Seer<J>,
     gate: &G,
     session: u32,
@@ -168,12 +186,20 @@ pub fn serve<W: Wait, D: Disk + Drop, J: Chapter, H: Wait + Drop, G: Gate, R: Re
 ///
 /// The front of the receipt that the caller then has begins with what each reply was answered by, as
 /// [`the_last_receipt_has_all`](crate::laws::the_last_receipt_has_all) says. So does the history of the Book that confirms it.
-pub fn serve_from<W: Wait, D: Disk + Drop, J: Chapter, H: Wait + Drop, G: Gate, R: Read, O: Write>(
+pub fn serve_from<
+    W: Wait,
+    D: Disk + Drop,
+    J: Chapter,
+    S: Publisher<J> + Drop,
+    G: Gate,
+    R: Read,
+    O: Write,
+>(
     rt: &W,
     alloc: Global,
     reader: &mut R,
     writer: &mut O,
-    shared: &Shared<D, J, H>,
+    shared: &Shared<D, J, S>,
     seer: &mut Seer<J>,
     gate: &G,
     session: u32,

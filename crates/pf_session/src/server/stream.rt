@@ -11,7 +11,8 @@ ghost use Rattle.pf_session.specs.Server.Streams.{IsStream, RunsAll, RunsFed, Ru
 use crate::line_engine::EngineFault;
 use crate::server::caller::{CallBook, Caller};
 use crate::telling::refuse;
-use pf_book::{Chapter, Disk, Receipt, Shared};
+use pf_book::shared::Shared;
+use pf_book::{Chapter, Disk, Publisher, Receipt};
 use pf_core::{Command, GROUP_LIMIT, Refusal, Reply, StateCommand};
 use pf_line::write_reply;
 use pf_state::peer::{Fed, Message, PeerFault, PeerReader};
@@ -114,9 +115,17 @@ impl<'a, C: CallBook<J>, J: Chapter> Follower<'a, C, J> {
 fn keep_last<J: Chapter>(mut answers: Vec<(Reply, Receipt<J>)>, last: &mut Option<Receipt<J>>)
     ensures { last.new ≡ last_receipt last.old (Ok answers.items) }
 {
-    if let Some((_, receipt)) = answers.pop() {
-        *last = Some(receipt);
+    if let Some(answer) = answers.pop() {
+        keep(answer, last);
     }
+}
+
+// Keeps the receipt of an answer.
+fn keep<J: Chapter>(answer: (Reply, Receipt<J>), last: &mut Option<Receipt<J>>)
+    ensures { last.new ≡ Some answer.1 }
+{
+    let (_, receipt) = answer;
+    *last = Some(receipt);
 }
 
 // The commands of messages, allocated at once.
@@ -199,12 +208,12 @@ fn tell_end<O: Write>(peer: &mut PeerReader, writer: &mut O) -> Result<(), Engin
 /// some front of the replies to the last group may be out, and no later message was run. `Err(Memory)`: out of memory, either for the
 /// buffer, and nothing was read, or for a piece of the stream, of 131,072 bytes at most; the messages that were whole before the piece
 /// are answered, and those that it completed weren't run.
-pub fn serve_peer<W: Wait, D: Disk + Drop, J: Chapter, H: Wait + Drop, R: Read, O: Write>(
+pub fn serve_peer<W: Wait, D: Disk + Drop, J: Chapter, S: Publisher<J> + Drop, R: Read, O: Write>(
     rt: &W,
     alloc: Global,
     reader: &mut R,
     writer: &mut O,
-    shared: &Shared<D, J, H>,
+    shared: &Shared<D, J, S>,
 ) -> Result<(), EngineFault>
     ensures { (last : Option PlainReceipt) × IsStream (Takes J.base J.setting) result (R.remaining reader.old) (R.remaining reader.new)
         None last (O.contents writer.old) (O.contents writer.new) }
@@ -218,12 +227,19 @@ pub fn serve_peer<W: Wait, D: Disk + Drop, J: Chapter, H: Wait + Drop, R: Read, 
 ///
 /// The front of the receipt that the caller then has begins with what each reply that has a receipt was answered by, as
 /// [`the_last_receipt_has_all`](crate::laws::the_last_receipt_has_all) says. So does the history of the Book that confirms it.
-pub fn serve_peer_from<W: Wait, D: Disk + Drop, J: Chapter, H: Wait + Drop, R: Read, O: Write>(
+pub fn serve_peer_from<
+    W: Wait,
+    D: Disk + Drop,
+    J: Chapter,
+    S: Publisher<J> + Drop,
+    R: Read,
+    O: Write,
+>(
     rt: &W,
     alloc: Global,
     reader: &mut R,
     writer: &mut O,
-    shared: &Shared<D, J, H>,
+    shared: &Shared<D, J, S>,
     last: &mut Option<Receipt<J>>,
 ) -> Result<(), EngineFault>
     ensures { IsStream (Takes J.base J.setting) result (R.remaining reader.old) (R.remaining reader.new)

@@ -1,5 +1,6 @@
 //! Laws of messages and states. Each function does nothing; its contract is the law.
-ghost use Rattle.pf_state.specs.Laws.Failover.{OneStepForEach, InsertsNothingDue, CutsIntoParts, ExportsMessages, TellsTheStates, TakesOver, IsReadBack};
+ghost use Rattle.pf_state.specs.Laws.Failover.{OneStepForEach, InsertsNothingDue, CutsIntoParts, ExportsMessages, TellsTheStates};
+ghost use Rattle.pf_state.specs.Laws.Failover.{TakesOver, IsReadBack};
 
 use crate::peer::written_message_is_read;
 

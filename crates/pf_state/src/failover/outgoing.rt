@@ -1,6 +1,7 @@
 //! Messages that give a peer the states here.
 ghost use Rattle.std.specs.{Prelude.{◌≡◌, ◌≤◌, [], length, map, take, drop, IfOk, OnOk}, List.concat};
-ghost use Rattle.pf_state.specs.{Peer.Messages.IsMessage, Peer.Streams.{Reads, Unfinished}, Peer.Written.message_bytes, Failover.Outgoing.{exported_insert, exported_message, exported_messages}};
+ghost use Rattle.pf_state.specs.{Peer.Messages.IsMessage, Peer.Streams.{Reads, Unfinished}, Peer.Written.message_bytes};
+ghost use Rattle.pf_state.specs.Failover.Outgoing.{exported_insert, exported_message, exported_messages};
 
 use crate::peer::{Group, Insert, InsertFields, Message, Records, write_peer};
 use crate::{ALL_ONES, Held, State, StateName, StateTable, exported};

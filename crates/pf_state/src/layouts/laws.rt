@@ -2,7 +2,10 @@
 ghost use Rattle.std.specs.Prelude.{◌≡◌, ◌+◌, ◌*◌, ℕ, true, List, length};
 ghost use Rattle.pf_form.specs.Bytes.Forms.{length_of};
 ghost use Rattle.pf_state.specs.declared.step.StateStep.{StateStep};
-ghost use Rattle.pf_state.specs.{Flows.PlainFlow, States.{PlainState, is_whole, are_whole}, Layouts.{Flows.{plain_flow, flow_in}, States.{state_form, plain_state, state_in, states_form, plain_states}, Steps.{plain_step, step_in}}};
+ghost use Rattle.pf_state.specs.{Flows.PlainFlow, States.{PlainState, is_whole, are_whole}};
+ghost use Rattle.pf_state.specs.Layouts.Flows.{plain_flow, flow_in};
+ghost use Rattle.pf_state.specs.Layouts.States.{state_form, plain_state, state_in, states_form, plain_states};
+ghost use Rattle.pf_state.specs.Layouts.Steps.{plain_step, step_in};
 
 /// Plain data determine a flow, a state or a step: no two have the same.
 #[tactic(auto, using(crate::proofs::LayoutsBack::flow_back, crate::proofs::LayoutsBack::state_back, crate::proofs::LayoutsBack::step_back))]

@@ -1,7 +1,9 @@
 //! States in bytes, as a store has them.
 ghost use Rattle.std.specs.Prelude.{◌≡◌, ◌++◌, ◌∷◌, [], true, replicate, OnOk};
 ghost use Rattle.pf_form.specs.{Bytes.Forms.{Form, Fits, back, front, pair, times, onto}, Bytes.Readers.Reads};
-ghost use Rattle.pf_state.specs.Layouts.{Flows.{flow_form, plain_flow}, States.{name_form, plain_name, bound_form, plain_bound, has_expiry, expiry_form, held_form, plain_held, state_form, plain_state, allows}};
+ghost use Rattle.pf_state.specs.Layouts.Flows.{flow_form, plain_flow};
+ghost use Rattle.pf_state.specs.Layouts.States.{name_form, plain_name, bound_form, plain_bound, has_expiry, expiry_form, held_form};
+ghost use Rattle.pf_state.specs.Layouts.States.{plain_held, state_form, plain_state, allows};
 
 use crate::flow::Flow;
 use crate::layouts::flow::{direction_byte, push_flow};

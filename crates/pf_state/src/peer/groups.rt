@@ -1,6 +1,7 @@
 //! Reading a whole message: its groups and their records.
 ghost use Rattle.std.specs.Prelude.{◌≡◌, ◌*◌, ◌<◌, ◌≤◌, length, List, IfOk, IfErr};
-ghost use Rattle.pf_state.specs.{Peer.Groups.{records_of, group_at, content, AreGroups, BreakBehind, is_action}, Peer.Messages.{IsWhole, IsJudged}, Peer.Outcomes.{Gives, IfFault}};
+ghost use Rattle.pf_state.specs.Peer.Groups.{records_of, group_at, content, AreGroups, BreakBehind, is_action};
+ghost use Rattle.pf_state.specs.{Peer.Messages.{IsWhole, IsJudged}, Peer.Outcomes.{Gives, IfFault}};
 ghost use Rattle.pf_state.specs.declared.peer.message.Group.{Group};
 
 use crate::peer::fault::{PeerFault, ReadError};

@@ -4,7 +4,8 @@ ghost use Rattle.pf_state.specs.declared.{peer.fault.OneFault.OneFault, peer.fau
 ghost use Rattle.pf_form.specs.Bytes.Forms.{Spells};
 ghost use Rattle.pf_state.specs.Laws.Messages as example;
 ghost use Rattle.pf_state.specs.Peer.Records.{PlainInsert, IsInsert, insert_form, plain_insert, insert_in, insert_bytes};
-ghost use Rattle.pf_state.specs.{Peer.Messages.IsMessage, Peer.One.IsOne, Peer.Streams.{Ending, Faulty, Reads, Feeds}, Peer.Written.{message_bytes, CanBeWritten}};
+ghost use Rattle.pf_state.specs.{Peer.Messages.IsMessage, Peer.One.IsOne, Peer.Streams.{Ending, Faulty, Reads, Feeds}};
+ghost use Rattle.pf_state.specs.Peer.Written.{message_bytes, CanBeWritten};
 
 use crate::peer::fields::{MESSAGE_HEADER, MESSAGE_VERSION};
 use crate::peer::message::{CLEAR, DELETE, INSERT, MESSAGE_LIMIT};

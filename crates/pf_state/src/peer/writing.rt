@@ -1,7 +1,8 @@
 //! Writing messages.
 ghost use Rattle.std.specs.Prelude.{◌≡◌, ◌++◌, ◌<◌, ◌≤◌, ◌∷◌, [], length, IfOk, OnOk, List};
 ghost use Rattle.byteorder.specs.Endian.{big_bytes};
-ghost use Rattle.pf_state.specs.{Peer.Messages.IsMessage, Peer.Written.{message_bytes, message_length, groups_bytes, group_bytes, group_with, Each, IsGroup}};
+ghost use Rattle.pf_state.specs.Peer.Messages.{IsMessage};
+ghost use Rattle.pf_state.specs.Peer.Written.{message_bytes, message_length, groups_bytes, group_bytes, group_with, Each, IsGroup};
 
 use crate::peer::fields::{MESSAGE_HEADER, MESSAGE_VERSION};
 use crate::peer::message::{CLEAR, DELETE, Group, INSERT, MESSAGE_LIMIT, Message};

@@ -1,10 +1,11 @@
 //! One change or opening in bytes.
-ghost use Rattle.std.specs.Prelude.{◌≡◌, ◌∷◌, ◌<◌, ◌^◌, true, length, IfOk, OnOk};
-ghost use Rattle.pf_form.specs.Bytes.{BasicForms.number_bytes, Forms.{onto, writes, Fits}, Readers.Reads};
+ghost use Rattle.std.specs.Prelude.{◌≡◌, ◌∷◌, ◌<◌, ◌^◌, true, length, OnOk};
+ghost use Rattle.pf_form.specs.Bytes.{BasicForms.seen_as, Forms.{counted, number, onto, reads, Fits}, Readers.{Gives, Reads}};
 ghost use Rattle.pf_anchor.specs.Forms.{plain_entries};
 ghost use Rattle.pf_core.specs.Durable.Changes.{expires};
-ghost use Rattle.pf_state.specs.Layouts.States.{has_expiry};
-ghost use Rattle.pf_store.specs.Groups.{EditShape, edit_form, expire_form, change_form, plain_record, has_form, allows_record};
+ghost use Rattle.pf_state.specs.Layouts.{States.{has_expiry, name_form}, Steps.step_form};
+ghost use Rattle.pf_store.specs.Groups.{EditShape, edit_form, expire_form, items_form, change_form, plain_record, has_form, allows_record};
+ghost use Rattle.pf_store.specs.Groups.{as_commit, as_add, as_delete, as_set, as_steps, as_removal, as_opening, as_tick};
 
 use crate::groups::facts::record_is_its_data;
 use crate::groups::items::{have_form, items_are_allowed_in, push_items, read_items};
@@ -13,8 +14,7 @@ use crate::groups::tables::{push_entries, read_entries};
 use pf_addr::path::{Path, TableName};
 use pf_core::{Change, ChangeKind, EntryList};
 use pf_form::bytes::{
-    Fault, Layout, Rest, Undecoded, expect, push_fitting, push_key, push_u32, push_u64, read_u32,
-    read_u64, takes,
+    Fault, Layout, Rest, Undecoded, push_fitting, push_key, push_u32, push_u64, read_u32, read_u64,
 };
 use pf_state::layouts::{
     EXPIRY_FROM, push_name, push_steps, read_name, read_steps, steps_are_allowed_in,
@@ -106,50 +106,124 @@ fn push_edit(
 }
 
 // Reads what is recorded from the front of the bytes.
-#[tactic(auto, unfolding(crate::specs::Groups::change_form))]
 fn read_record<'a>(alloc: Global, version: u8, from: &mut Rest<'a>) -> Result<Recorded, Undecoded>
     ensures { Reads plain_record (change_form version) result from.old.now from.new.now }
 {
-    if takes(from, COMMIT)? {
-        return Ok(Recorded::Made(Change::commit(read_items(alloc, version, from)?)));
+    match *from {
+        [] => Err(Undecoded::Fault(Fault::Short)),
+        [kind, rest @ ..] => {
+            *from = rest;
+            read_behind(alloc, version, *kind, from)
+        }
     }
-    if takes(from, ADD)? {
-        let edit = read_edit(alloc, version, from)?;
-        return Ok(Recorded::Made(Change::add(edit.path, edit.name, edit.entries)));
+}
+
+// Reads what is recorded behind the byte of its kind.
+fn read_behind<'a>(
+    alloc: Global,
+    version: u8,
+    kind: u8,
+    from: &mut Rest<'a>,
+) -> Result<Recorded, Undecoded>
+    ensures { Gives plain_record result from.new.now (reads (change_form version) (kind ∷ from.old.now)) }
+{
+    if kind == COMMIT {
+        return read_commit(alloc, version, from);
     }
-    if takes(from, DELETE)? {
-        let edit = read_edit(alloc, version, from)?;
-        return Ok(Recorded::Made(Change::delete(edit.path, edit.name, edit.entries)));
+    if kind == ADD {
+        return read_add(alloc, version, from);
     }
-    if takes(from, SET)? {
-        let edit = read_edit(alloc, version, from)?;
-        return Ok(Recorded::Made(Change::set(edit.path, edit.name, edit.entries)));
+    if kind == DELETE {
+        return read_delete(alloc, version, from);
     }
-    if takes(from, STATES)? {
-        return Ok(Recorded::Made(Change::states(read_steps(alloc, version, from)?)));
+    if kind == SET {
+        return read_set(alloc, version, from);
     }
-    if takes(from, REMOVE)? {
-        return Ok(Recorded::Made(Change::remove(read_name(from)?)));
+    if kind == STATES {
+        return read_state_steps(alloc, version, from);
     }
-    if takes(from, OPEN)? {
-        return Ok(Recorded::Opens(read_u32(from)?));
+    if kind == REMOVE {
+        return read_removal(from);
     }
-    let tick = read_expire(version, from)?;
-    Ok(Recorded::Made(Change::expire(tick)))
+    if kind == OPEN {
+        return read_opening(from);
+    }
+    if kind == EXPIRE {
+        return read_expire(version, from);
+    }
+    Err(Undecoded::Fault(Fault::Bad(from.len() + 1)))
+}
+
+// A commit, behind its kind.
+fn read_commit<'a>(alloc: Global, version: u8, from: &mut Rest<'a>) -> Result<Recorded, Undecoded>
+    ensures { Gives plain_record result from.new.now (seen_as as_commit (reads (items_form version)) from.old.now) }
+{
+    let items = read_items(alloc, version, from)?;
+    Ok(Recorded::Made(Change::commit(items)))
+}
+
+// Entries that are added to a table, behind their kind.
+fn read_add<'a>(alloc: Global, version: u8, from: &mut Rest<'a>) -> Result<Recorded, Undecoded>
+    ensures { Gives plain_record result from.new.now (seen_as as_add (reads edit_form) from.old.now) }
+{
+    let edit = read_edit(alloc, version, from)?;
+    Ok(Recorded::Made(Change::add(edit.path, edit.name, edit.entries)))
+}
+
+// Entries that are deleted from a table, behind their kind.
+fn read_delete<'a>(alloc: Global, version: u8, from: &mut Rest<'a>) -> Result<Recorded, Undecoded>
+    ensures { Gives plain_record result from.new.now (seen_as as_delete (reads edit_form) from.old.now) }
+{
+    let edit = read_edit(alloc, version, from)?;
+    Ok(Recorded::Made(Change::delete(edit.path, edit.name, edit.entries)))
+}
+
+// Entries that replace a table's, behind their kind.
+fn read_set<'a>(alloc: Global, version: u8, from: &mut Rest<'a>) -> Result<Recorded, Undecoded>
+    ensures { Gives plain_record result from.new.now (seen_as as_set (reads edit_form) from.old.now) }
+{
+    let edit = read_edit(alloc, version, from)?;
+    Ok(Recorded::Made(Change::set(edit.path, edit.name, edit.entries)))
+}
+
+// Steps that act on the states, behind their kind.
+fn read_state_steps<'a>(
+    alloc: Global,
+    version: u8,
+    from: &mut Rest<'a>,
+) -> Result<Recorded, Undecoded>
+    ensures { Gives plain_record result from.new.now (seen_as as_steps (reads (counted 4 (step_form version))) from.old.now) }
+{
+    let steps = read_steps(alloc, version, from)?;
+    Ok(Recorded::Made(Change::states(steps)))
+}
+
+// The removal of a state, behind its kind.
+fn read_removal<'a>(from: &mut Rest<'a>) -> Result<Recorded, Undecoded>
+    ensures { Gives plain_record result from.new.now (seen_as as_removal (reads name_form) from.old.now) }
+{
+    let name = read_name(from)?;
+    Ok(Recorded::Made(Change::remove(name)))
+}
+
+// An opening, behind its kind.
+fn read_opening<'a>(from: &mut Rest<'a>) -> Result<Recorded, Undecoded>
+    ensures { Gives plain_record result from.new.now (seen_as as_opening (reads (number 4)) from.old.now) }
+{
+    let epoch = read_u32(from)?;
+    Ok(Recorded::Opens(epoch))
 }
 
 // A tick, behind its kind; none in a version without expiries.
 #[tactic(auto, unfolding(crate::specs::Groups::expire_form))]
-fn read_expire<'a>(version: u8, from: &mut Rest<'a>) -> Result<u64, Undecoded>
-    ensures read { Reads (λ n. n) (expire_form (has_expiry version)) result from.old.now from.new.now }
-    ensures kind { IfOk result (λ n. writes (expire_form (has_expiry version)) n ≡ 8 ∷ number_bytes 8 n) }
+fn read_expire<'a>(version: u8, from: &mut Rest<'a>) -> Result<Recorded, Undecoded>
+    ensures { Gives plain_record result from.new.now (seen_as as_tick (reads (expire_form (has_expiry version))) (8 ∷ from.old.now)) }
 {
-    let left = from.len();
     if version < EXPIRY_FROM {
-        return Err(Undecoded::Fault(Fault::Bad(left)));
+        return Err(Undecoded::Fault(Fault::Bad(from.len() + 1)));
     }
-    expect(from, &[EXPIRE])?;
-    read_u64(from)
+    let tick = read_u64(from)?;
+    Ok(Recorded::Made(Change::expire(tick)))
 }
 
 /// Appends what is recorded to the bytes, as a version has it; it fits. Fails only when out of memory.

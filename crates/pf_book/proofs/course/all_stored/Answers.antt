@@ -1,4 +1,4 @@
-use Rattle.std.proofs.Common.{◌≡◌, ◌+◌, ◌<◌, ◌++◌, ℕ, zero, suc, List, [], ◌∷◌, length, map, take, drop, slice_index_or, slice_set, refl, sym, ap, ◌∙◌, subst, arith}
+use Rattle.std.proofs.Common.{◌≡◌, ◌+◌, ◌<◌, ◌++◌, ℕ, zero, suc, List, [], ◌∷◌, length, map, take, drop, slice_index_or, slice_set, sym, ap, ◌∙◌, subst, arith}
 use Rattle.pf_core.specs.Worlds.{as_stored}
 use Rattle.pf_core.specs.declared.reply.Reply.{Reply}
 use Rattle.pf_book.proofs.course.all_stored.Goals as goal

@@ -1,7 +1,7 @@
-use Rattle.std.proofs.{Common.{◌≡◌, ◌≢◌, ◌+◌, ◌<◌, ◌≤◌, ℕ, [], List, ◌∷◌, ◌++◌, drop, length, Ok, Err, Option, Result, refl, sym, ap, ◌∙◌, subst, arith}, lemmas.{List.drop_more, Result.err_from_is_err_and}}
+use Rattle.std.proofs.{Common.{append-nil, ◌≤◌, ◌≡◌, ◌+◌, ◌<◌, ℕ, [], List, ◌∷◌, ◌++◌, drop, length, Option, Result, refl, sym, ap, ◌∙◌, subst, arith}, lemmas.{List.{at_drop_all, drop_more}, Result.err_from_is_err_and}}
 use Rattle.std.specs.Prelude.{flat_map}
 use Rattle.pf_ticket.proofs.TicketLimits.{keeps_the_limits}
-use Rattle.pf_core.specs.declared.{command.Command.Command, reply.Refusal.Refusal, reply.Refusal.TheVariants.Memory, reply.Reply.Reply, step.Step.Step}
+use Rattle.pf_core.specs.declared.{command.Command.Command, reply.Refusal.Refusal, step.Step.Step}
 use Rattle.pf_core.specs.{Commands.{step_by}, Durable.Changes.{PlainChange, after, voided_by}, Nexts.PlainNext, Cores.{PlainCore, plain, IsMadeFrom}, Worlds.{amid, changes_of, changes_due, replies_due}}
 use Rattle.pf_book.specs.Courses.{ready_of, found_by}
 use Rattle.pf_book.proofs.Coursing.{Steps, tickets_there, step-behind, step-amidst, number-amidst, replies-on, changes-on, fit-on, wanted-on, few-on, left-on}
@@ -54,3 +54,22 @@ returns-in_err-take-clause-course c = let p = err_from_is_err_and c.from_residua
 
 pub returns-in_err-take-clause-same : goal.returns-in_err-take-clause-same
 returns-in_err-take-clause-same c = c.step-step.ensures.same ∙ c.loop-command.invariant.core
+
+pub returns-clause-course : goal.returns-clause-course
+returns-clause-course c =
+    let at = c.loop-command in
+    let inv = at.invariant in
+    let commands : List Command = c.args.commands.now in
+    let all : length commands ≤ at.command-index = c.loop-command-test.false in
+    let es : List PlainChange = at.course.changes.items in
+    record {
+      replies = λ h calm. sym (append-nil at.course.replies.items) ∙ sym (at_drop_all (λ ks. at.course.replies.items ++ replies_due h es ks) commands at.command-index all) ∙ inv.replies h calm;
+      changes = λ h calm. sym (at_drop_all (λ ks. changes_due h es ks) commands at.command-index all) ∙ inv.changes h calm;
+      next = inv.next;
+      fit = inv.fit;
+      wanted = inv.wanted;
+      few = omega arith;
+    }
+
+pub returns-clause-same : goal.returns-clause-same
+returns-clause-same c = c.loop-command.invariant.core

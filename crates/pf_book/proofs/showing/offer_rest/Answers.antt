@@ -1,7 +1,7 @@
 use Rattle.std.proofs.Common.{◌≡◌, ◌-◌, ◌++◌, map, take, ap, sym, ◌∙◌, arith}
 use Rattle.std.specs.Arc.{arc_value}
 use Rattle.pf_core.specs.Durable.Changes.{after}
-use Rattle.pf_past.specs.Pasts.{all_acked}
+use Rattle.pf_view.specs.Past.Pasts.{all_acked}
 use Rattle.pf_book.proofs.HistoryGroups.{seam}
 use Rattle.pf_book.proofs.showing.offer_rest.Goals as goal
 

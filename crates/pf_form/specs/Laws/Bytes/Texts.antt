@@ -28,10 +28,6 @@ module _ {a : Shape} (f : Form a) where
       let whole : bytes ≡ writes f x ++ [] = s.written ∙ sym (append-nil (writes f x)) in
       rw (whole, (lawful f).again x [] s.fits) refl
 
-  -- less than a value's bytes is short
-  pub short : (x : Value a) (front : List ℕ) (b : ℕ) (more : List ℕ) → Spells f x (front ++ b ∷ more) → read_all f front ≡ Err Short
-  short x front b more s = rw ((lawful f).short x front b more s.fits (sym s.written)) refl
-
   -- one value's bytes are no other's
   pub one_value : (bytes : List ℕ) (x y : Value a) → Spells f x bytes → Spells f y bytes → x ≡ y
   one_value bytes x y s t = let e : ◌≡◌ {A = Result (Value a) Fault} (Ok x) (Ok y) = sym (only bytes x s) ∙ only bytes y t in cc

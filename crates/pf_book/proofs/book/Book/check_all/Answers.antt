@@ -1,4 +1,4 @@
-use Rattle.std.proofs.{Common.{◌≡◌, ◌∙◌, Bool, true, List, length, map, ap, sym, subst, arith}, lemmas.{Bool.Decides.nat_tests, Grind.common_steps}}
+use Rattle.std.proofs.{Common.{◌≡◌, ◌∙◌, Bool, true, List, length, map, ap, sym, arith}, lemmas.{Bool.Decides.nat_tests, Grind.common_steps}}
 use Rattle.std.specs.{Arc.arc_value, Prelude.nat_lt}
 use Rattle.pf_core.specs.declared.reply.Refusal.TheVariants.{Halted}
 use Rattle.pf_core.specs.{Commands.group_words, Durable.Changes.PlainChange, Refusing.{and_then, unless}, Worlds.is_halted}

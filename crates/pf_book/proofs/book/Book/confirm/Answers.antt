@@ -2,7 +2,7 @@ use Rattle.std.proofs.{Common.{◌≡◌, ◌≤◌, List, length, map, sym, ap,
 use Rattle.std.specs.{Arc.arc_value, Option.ForSome}
 use Rattle.pf_core.specs.Durable.Changes.{PlainChange}
 use Rattle.pf_book.specs.{Books.{world_book, log_in}, Receipts.{PlainReceipt, EndsIn}}
-use Rattle.pf_past.proofs.Prefixes.{prefix_length}
+use Rattle.pf_view.proofs.Prefixes.{prefix_length}
 use Rattle.pf_book.proofs.{Confirming.confirmed, OpenedBooks.log-of}
 use Rattle.pf_book.proofs.book.Book.confirm.Goals as goal
 

@@ -1,4 +1,4 @@
-use Rattle.std.proofs.{Common.{◌≡◌, arith, List, map, refl, sym, ap, ◌∙◌, subst, true}, lemmas.Result.err_from_is_err_and}
+use Rattle.std.proofs.{Common.{◌≡◌, List, map, refl, sym, ap, ◌∙◌, subst, true}, lemmas.Result.err_from_is_err_and}
 use Rattle.std.specs.{Arc.arc_value, List.list_all}
 use Rattle.pf_disk.specs.Disk.{EachMoment}
 use Rattle.pf_core.specs.{Durable.Changes.{PlainChange, after}, Nexts.PlainNext, WorldBooks.WorldBook}

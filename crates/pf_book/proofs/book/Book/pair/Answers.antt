@@ -1,4 +1,4 @@
-use Rattle.std.proofs.{Common.{◌≡◌, ◌+◌, ◌≤◌, ◌++◌, ℕ, List, [], ◌∷◌, Option, Some, length, map, drop, take, refl, sym, ap, ◌∙◌, subst, append_assoc, append-nil, arith}, lemmas.Grind.common_steps}
+use Rattle.std.proofs.{Common.{◌≡◌, ◌≤◌, ◌++◌, ℕ, List, [], ◌∷◌, Option, Some, length, map, drop, take, refl, sym, ap, ◌∙◌, subst, append_assoc, append-nil, arith}, lemmas.Grind.common_steps}
 use Rattle.std.specs.{Arc.arc_value, List.AllByRecursion, Option.option_map, Vec.Iter.{into_iter_items}}
 use Rattle.pf_core.specs.{declared.reply.Reply.Reply, Durable.Changes.PlainChange}
 use Rattle.pf_book.specs.{Books.{world_book, log_in}, Groups.Answered, Pairs.{behind, given_to, left_behind, kept_count, paired, slip_at}, Receipts.{PlainReceipt, EndsIn, ShownFits}}

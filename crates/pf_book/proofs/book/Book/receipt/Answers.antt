@@ -1,7 +1,7 @@
 use Rattle.std.proofs.{Common.{◌≡◌, ◌≤◌, List, length, map, take, sym, ap, ◌∙◌, subst, arith}, lemmas.{Grind.common_steps, List.take_all}}
 use Rattle.std.specs.Arc.{arc_value}
 use Rattle.pf_core.specs.{Durable.Changes.PlainChange, Worlds.flat}
-use Rattle.pf_past.specs.Pasts.{PlainFront}
+use Rattle.pf_view.specs.Past.Pasts.{PlainFront}
 use Rattle.pf_book.specs.{Books.{PlainBook, world_book, log_in}, Receipts.EndsIn}
 use Rattle.pf_book.proofs.OpenedBooks.{acked-of, log-of, token-of}
 use Rattle.pf_book.proofs.book.Book.receipt.Goals as goal

@@ -1,7 +1,7 @@
 use Rattle.std.proofs.Common.{◌≡◌, ◌≤◌, List, length, map, take, min, sym, ap, ◌∙◌, subst, arith}
 use Rattle.std.specs.{Arc.arc_value, Option.option_map}
 use Rattle.pf_core.specs.Durable.Changes.{PlainChange}
-use Rattle.pf_past.specs.Pasts.{PlainFront}
+use Rattle.pf_view.specs.Past.Pasts.{PlainFront}
 use Rattle.pf_book.specs.{Books.{PlainBook, world_book, log_in}, Receipts.{EndsIn, token_of}}
 use Rattle.pf_book.proofs.OpenedBooks.{all-of, log-of, token-of}
 use Rattle.pf_book.proofs.book.Book.receipt_at.Goals as goal

@@ -1,4 +1,4 @@
-use Rattle.std.proofs.{Common.{Bool, true, false, ◌≡◌, ◌+◌, ℕ, List, [], ◌∷◌, ◌++◌, length, map, refl, sym, ap, ◌∙◌, subst, arith}, lemmas.{Grind.common_steps, List.length-map, Result.err_from_is_err_and}}
+use Rattle.std.proofs.{Common.{Bool, true, false, ◌≡◌, ◌+◌, ◌≤◌, ℕ, List, [], ◌∷◌, ◌++◌, length, map, refl, sym, ap, ◌∙◌, subst, arith}, lemmas.{List.{length-map, map-append}, Result.err_from_is_err_and}}
 use Rattle.std.specs.{Arc.arc_value, Prelude.if◌then◌else◌}
 use Rattle.pf_disk.specs.Disk.{EachMoment, IsImage}
 use Rattle.pf_ticket.specs.{Laws.Tickets.IsWithin as AreTicketsWithin, Mentions.{after as moved_by, switches}}
@@ -11,6 +11,18 @@ use Rattle.pf_book.proofs.{Finding.{same-room, few-formed, some-formed}, BookInv
 use Rattle.pf_book.proofs.book.Book.save.Given.{Over}
 use Rattle.pf_book.proofs.book.Book.save.Goals.{After-save, After-accept, In-Err-Halted}
 use Rattle.pf_book.proofs.book.Book.save.Goals as goal
+
+-- what stands in the log with copies of changes behind it
+logged-behind : {X : Type 0} (f : X → PlainChange) (old mid new copies given : List X) → mid ≡ old → new ≡ mid ++ copies → map f copies ≡ map f given → map f new ≡ map f old ++ map f given
+logged-behind f old mid new copies given same put is = ap (map f) put ∙ map-append f mid copies ∙ ap (λ xs. map f xs ++ map f copies) same ∙ ap (λ es. map f old ++ es) is
+
+-- a later generation is at most one later
+one-more : (g h : ℕ) → g ≤ h → g + 1 ≤ h + 1
+one-more g h le = omega arith
+
+-- a device that is the same before and after a call is at most ten moments later
+moments-on : {D : Type 0} (moment : D → ℕ) (old was now new : D) → old ≡ was → new ≡ now → moment now ≤ moment was + 10 → moment new ≤ moment old + 10
+moments-on moment old was now new before after le = omega (arith, ap moment before, ap moment after)
 
 pub save-requires-clause-stands : goal.save-requires-clause-stands
 save-requires-clause-stands g c going =
@@ -87,7 +99,7 @@ module _ (g : Over) (c : After-save g) where
 
   generations : Each (IsNoLaterThan (c.save.new.self.generation + 1))
   generations image is =
-      later (c.self.inside.store.generation + 1) (c.save.new.self.generation + 1) (omega (arith, c.save.ensures.generation_stays)) image (each (IsNoLaterThan (c.self.inside.store.generation + 1)) early image is)
+      later (c.self.inside.store.generation + 1) (c.save.new.self.generation + 1) (one-more c.self.inside.store.generation c.save.new.self.generation c.save.ensures.generation_stays) image (each (IsNoLaterThan (c.self.inside.store.generation + 1)) early image is)
 
   roomy : IsRoomy c.save.new.self.size g.J.Naming.base → Each LeavesRoom
   roomy room = each LeavesRoom (leaves (subst (λ (n : ℕ). IsRoomy n g.J.Naming.base) c.save.ensures.size room))
@@ -107,7 +119,7 @@ module _ (g : Over) (c : After-save g) where
       let was : c.args.self.now.disk ≡ c.self.inside.store.disk = disk-of c.self.invariant c.self.view_is in
       record {
         openable = openable new disk generation size;
-        moments = omega (arith, c.save.ensures.moments, ap g.D.Disk.moment disk, ap g.D.Disk.moment was);
+        moments = moments-on g.D.Disk.moment c.args.self.now.disk c.self.inside.store.disk c.save.new.self.disk new.disk was disk c.save.ensures.moments;
         same_size = ap (λ d. length (g.D.Disk.seen d)) disk ∙ c.save.ensures.same_size ∙ sym (ap (λ d. length (g.D.Disk.seen d)) was);
         faults = ap g.D.Disk.fault_count disk ∙ faults ∙ ap (λ d. g.D.Disk.fault_count d + (if failed then 1 else 0)) (sym was);
       }
@@ -117,7 +129,7 @@ grown : (g : Over) (c : After-accept g) → IsGrown (parts c.self.invariant) (ma
 grown g c =
     let s = c.self.inside in
     let es : List PlainChange = map arc_value c.args.changes.now in
-    let logged : map arc_value c.put_all.new.log.items ≡ map arc_value s.log.items ++ es = grind (arith, common_steps, c.put_all.ensures, c.prepare.ensures.log, c.in_ok-logged.ensures.logged) in
+    let logged : map arc_value c.put_all.new.log.items ≡ map arc_value s.log.items ++ es = logged-behind arc_value s.log.items c.prepare.new.log.items c.put_all.new.log.items _ c.args.changes.now c.prepare.ensures.log c.put_all.ensures c.in_ok-logged.ensures.logged in
     let counted : length c.args.changes.now ≡ length es = sym (length-map c.args.changes.now arc_value) in
     let found : FindsRoom c.args.self.now.size c.args.self.now.whole.durable c.args.next.durable es = c.requires.found in
     record {
@@ -214,7 +226,7 @@ invariant_of-self-in-Err-Fault g c =
     let i = c.self.invariant in
     let saved = (goal.at.invariant_of-self-in-Err-Fault g c).After-save in
     let es : List PlainChange = map arc_value c.args.changes.now in
-    let logged : map arc_value c.put_all-in-Err-Fault.new.log.items ≡ map arc_value s.log.items ++ es = grind (arith, common_steps, c.put_all-in-Err-Fault.ensures, c.prepare.ensures.log, c.in_ok-logged.ensures.logged) in
+    let logged : map arc_value c.put_all-in-Err-Fault.new.log.items ≡ map arc_value s.log.items ++ es = logged-behind arc_value s.log.items c.prepare.new.log.items c.put_all-in-Err-Fault.new.log.items _ c.args.changes.now c.prepare.ensures.log c.put_all-in-Err-Fault.ensures c.in_ok-logged.ensures.logged in
     let found : FindsRoom c.args.self.now.size c.args.self.now.whole.durable c.args.next.durable es = c.requires.found in
     let f = rw c.in-Err-Fault.field-0-is at c.in-Err-Fault.ensures in
     fault-book i c.save.new.self (map arc_value c.put_all-in-Err-Fault.new.log.items) c.prepare.new.sizes.items c.note_all-in-Err-Fault.new.tip es
@@ -227,7 +239,7 @@ returns-in-Err-Fault-clause-err g c =
     let s = c.self.inside in
     let i = c.self.invariant in
     let es : List PlainChange = map arc_value c.args.changes.now in
-    let logged : map arc_value c.put_all-in-Err-Fault.new.log.items ≡ map arc_value s.log.items ++ es = grind (arith, common_steps, c.put_all-in-Err-Fault.ensures, c.prepare.ensures.log, c.in_ok-logged.ensures.logged) in
+    let logged : map arc_value c.put_all-in-Err-Fault.new.log.items ≡ map arc_value s.log.items ++ es = logged-behind arc_value s.log.items c.prepare.new.log.items c.put_all-in-Err-Fault.new.log.items _ c.args.changes.now c.prepare.ensures.log c.put_all-in-Err-Fault.ensures c.in_ok-logged.ensures.logged in
     let f = rw c.in-Err-Fault.field-0-is at c.in-Err-Fault.ensures in
     let new : WorldBook = world_book_of (record (parts i) { store = c.save.new.self; log = map arc_value c.put_all-in-Err-Fault.new.log.items; sizes = c.prepare.new.sizes.items }) in
     subst (λ (l : PlainBook g.row.D.Denot). IsPending (world_book l) new es) c.self.view_is (record {

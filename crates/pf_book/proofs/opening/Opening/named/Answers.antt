@@ -1,7 +1,7 @@
 use Rattle.std.proofs.Common.{ap, sym, ◌∙◌}
 use Rattle.std.specs.Arc.{arc_value}
 use Rattle.logbook.specs.Pages.{Book}
-use Rattle.pf_past.specs.Pasts.{front_of}
+use Rattle.pf_view.specs.Past.Pasts.{front_of}
 use Rattle.pf_book.specs.Books.{PlainOpening, opening_of}
 use Rattle.pf_book.proofs.opening.Opening.named.Goals as goal
 

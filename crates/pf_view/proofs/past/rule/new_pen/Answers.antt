@@ -1,6 +1,6 @@
 use Rattle.std.proofs.Common.{ap, sym, ◌∙◌}
-use Rattle.pf_past.proofs.Entries.{comes}
-use Rattle.pf_past.proofs.rule.new_pen.Goals as goal
+use Rattle.pf_view.proofs.Entries.{comes}
+use Rattle.pf_view.proofs.past.rule.new_pen.Goals as goal
 
 pub compare_exchange-requires : goal.compare_exchange-requires
 compare_exchange-requires c =

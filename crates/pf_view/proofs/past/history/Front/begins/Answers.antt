@@ -1,10 +1,10 @@
 use Rattle.std.proofs.Common.{◌≤◌, List, length, ap, subst}
 use mathlib.Core.List.{IsPrefix}
-use Rattle.pf_past.specs.declared.rule.HistoryEntry.{HistoryEntry}
-use Rattle.pf_past.specs.Pasts.{PlainFront}
-use Rattle.pf_past.specs.Rules.{past_of}
-use Rattle.pf_past.proofs.Entries.{front_begins}
-use Rattle.pf_past.proofs.history.Front.begins.Goals as goal
+use Rattle.pf_view.specs.declared.past.rule.HistoryEntry.{HistoryEntry}
+use Rattle.pf_view.specs.Past.Pasts.{PlainFront}
+use Rattle.pf_view.specs.Past.Rules.{past_of}
+use Rattle.pf_view.proofs.Entries.{front_begins}
+use Rattle.pf_view.proofs.past.history.Front.begins.Goals as goal
 
 pub returns : goal.returns
 returns g c =

@@ -1,7 +1,7 @@
 //! The rule of a history: who may add to it, and the steps that do. All of it exists in proofs alone, and takes no memory.
 ghost use Rattle.std.specs.Prelude.{◌≡◌};
 ghost use Rattle.logbook.specs.Pages.{may_write};
-ghost use Rattle.pf_past.specs.Rules.{head_of};
+ghost use Rattle.pf_view.specs.Past.Rules.{head_of};
 
 use logbook::{Gain, Offer, Pen, Plain, Play, Rule, Seen, Word};
 use pf_core::Change;
@@ -22,7 +22,7 @@ pub struct OnePen;
 impl Rule<HistoryEntry, u64> for OnePen {
     ghost use Rattle.std.specs.Prelude.{[]};
     ghost use base.Fml.{ftrue};
-    ghost use Rattle.pf_past.specs.Rules.{IsKept};
+    ghost use Rattle.pf_view.specs.Past.Rules.{IsKept};
 
     ghost holds = { λ cells log. IsKept cells log };
 
@@ -64,7 +64,7 @@ pub(crate) struct Asked {
 pub struct Coming;
 
 impl Play<HistoryEntry, u64> for Coming {
-    ghost use Rattle.pf_past.specs.Rules.{Comes};
+    ghost use Rattle.pf_view.specs.Past.Rules.{Comes};
 
     ghost then = { Comes };
 }
@@ -81,7 +81,7 @@ impl Plain<(), HistoryEntry, u64> for Coming {
 pub struct Starting;
 
 impl Play<HistoryEntry, u64> for Starting {
-    ghost use Rattle.pf_past.specs.Rules.{Starts};
+    ghost use Rattle.pf_view.specs.Past.Rules.{Starts};
 
     ghost then = { Starts };
 }
@@ -98,7 +98,7 @@ impl Plain<Pen, HistoryEntry, u64> for Starting {
 pub struct Adding;
 
 impl Play<HistoryEntry, u64> for Adding {
-    ghost use Rattle.pf_past.specs.Rules.{Adds};
+    ghost use Rattle.pf_view.specs.Past.Rules.{Adds};
 
     ghost then = { Adds };
 }
@@ -116,7 +116,7 @@ impl Plain<Asked, HistoryEntry, u64> for Adding {
 pub struct Staying;
 
 impl Play<HistoryEntry, u64> for Staying {
-    ghost use Rattle.pf_past.specs.Rules.{Stays};
+    ghost use Rattle.pf_view.specs.Past.Rules.{Stays};
 
     ghost then = { Stays };
 }

@@ -6,14 +6,14 @@ use Rattle.std.proofs.lemmas.Bool.Decides.{nat_tests}
 use mathlib.Core.List.{IsPrefix}
 use prog.Atomic.{either}
 use Rattle.logbook.specs.Pages.{Cell, cell, Nib, keeps, gives, adds, no_nib, step, may_write, Moves}
-use Rattle.pf_past.specs.declared.rule.HistoryEntry.{HistoryEntry}
+use Rattle.pf_view.specs.declared.past.rule.HistoryEntry.{HistoryEntry}
 use Rattle.std.specs.Prelude.{flat_map, if◌then◌else◌, option_to_list, ◌≤◌}
 use Rattle.std.specs.List.{sum_by}
 use Rattle.std.proofs.lemmas.{Grind.flat_map-append, List.Sums.{sum_by-append, sum_by_push}}
 use Rattle.pf_core.specs.Durable.Changes.{PlainChange}
-use Rattle.pf_past.specs.Pasts.{Begins}
-use Rattle.pf_past.specs.Rules.{lead, lead_of, IsSpent, IsChain, IsKept, Comes, Starts, Adds, Stays, after_first, past_of, shown_of, tip_of, with_entry}
-use Rattle.pf_past.proofs.Prefixes.{prefix_trans, prefix_shorter, prefix_whole, prefix_length}
+use Rattle.pf_view.specs.Past.Pasts.{Begins}
+use Rattle.pf_view.specs.Past.Rules.{lead, lead_of, IsSpent, IsChain, IsKept, Comes, Starts, Adds, Stays, after_first, past_of, shown_of, tip_of, with_entry}
+use Rattle.pf_view.proofs.Prefixes.{prefix_trans, prefix_shorter, prefix_whole, prefix_length}
 
 abbrev pub shown : List HistoryEntry → List HistoryEntry
 shown log = []

@@ -1,6 +1,6 @@
 use Rattle.std.proofs.Common.{ap, sym, ◌∙◌}
-use Rattle.pf_past.proofs.Entries.{starts}
-use Rattle.pf_past.proofs.history.NewHistory.open.Goals as goal
+use Rattle.pf_view.proofs.Entries.{starts}
+use Rattle.pf_view.proofs.past.history.NewHistory.open.Goals as goal
 
 pub compare_exchange-found-requires : goal.compare_exchange-found-requires
 compare_exchange-found-requires c =

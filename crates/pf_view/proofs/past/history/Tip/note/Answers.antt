@@ -1,7 +1,7 @@
 use Rattle.std.proofs.Common.{◌≡◌, [], ◌∷◌, ◌++◌, ap, sym, ◌∙◌, arith, length-append}
-use Rattle.pf_past.specs.Rules.{lead_of}
-use Rattle.pf_past.proofs.Entries.{adds_one, lead_of-push}
-use Rattle.pf_past.proofs.history.Tip.note.Goals as goal
+use Rattle.pf_view.specs.Past.Rules.{lead_of}
+use Rattle.pf_view.proofs.Entries.{adds_one, lead_of-push}
+use Rattle.pf_view.proofs.past.history.Tip.note.Goals as goal
 
 pub compare_exchange-requires : goal.compare_exchange-requires
 compare_exchange-requires g c =

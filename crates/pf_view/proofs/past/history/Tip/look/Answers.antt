@@ -1,9 +1,9 @@
 use Rattle.std.proofs.Common.{◌≡◌, ◌≤◌, List, ap, sym, ◌∙◌, subst}
 use mathlib.Core.List.{IsPrefix}
-use Rattle.pf_past.specs.declared.rule.HistoryEntry.{HistoryEntry}
-use Rattle.pf_past.specs.{Pasts.{PlainTip, Begins, front_of}, Rules.{past_of, shown_of}}
-use Rattle.pf_past.proofs.Entries.{stays, past_begins, shown_rises}
-use Rattle.pf_past.proofs.history.Tip.look.Goals as goal
+use Rattle.pf_view.specs.declared.past.rule.HistoryEntry.{HistoryEntry}
+use Rattle.pf_view.specs.Past.{Pasts.{PlainTip, Begins, front_of}, Rules.{past_of, shown_of}}
+use Rattle.pf_view.proofs.Entries.{stays, past_begins, shown_rises}
+use Rattle.pf_view.proofs.past.history.Tip.look.Goals as goal
 
 pub compare_exchange-requires : goal.compare_exchange-requires
 compare_exchange-requires g c =

@@ -2,10 +2,10 @@
 ghost use Rattle.std.specs.Prelude.{◌≡◌, ◌≤◌, length, IfSome};
 ghost use Rattle.std.specs.{Arc.arc_value, Option.option_map};
 ghost use mathlib.Core.List.{IsPrefix};
-ghost use Rattle.pf_past.specs.{Pasts.{front_of, no_changes, with_change, with_shown, Begins, trace_with}, Rules.{past_of, shown_of, with_entry}};
+ghost use Rattle.pf_view.specs.Past.{Pasts.{front_of, no_changes, with_change, with_shown, Begins, trace_with}, Rules.{past_of, shown_of, with_entry}};
 
-use crate::naming::Naming;
-use crate::rule::{
+use crate::past::naming::Naming;
+use crate::past::rule::{
     Adding, Asked, EntryOffer, Head, NoGain, SeenEntries, Starting, Staying, new_pen,
 };
 use logbook::{Pen, Seen, Start};
@@ -25,7 +25,7 @@ pub struct NewHistory {
 impl Model for NewHistory {
     ghost use Rattle.std.specs.Prelude.{◌≡◌, IfSome};
     ghost use Rattle.logbook.specs.Pages.{Book};
-    ghost use Rattle.pf_past.specs.{Pasts.no_changes, Rules.{tip_of, IsTip}};
+    ghost use Rattle.pf_view.specs.Past.{Pasts.no_changes, Rules.{tip_of, IsTip}};
 
     ghost Value = { Book };
 
@@ -84,7 +84,7 @@ pub struct Trace {
 }
 
 impl Model for Trace {
-    ghost use Rattle.pf_past.specs.{Pasts.{PlainTrace, trace_with}, Rules.past_of};
+    ghost use Rattle.pf_view.specs.Past.{Pasts.{PlainTrace, trace_with}, Rules.past_of};
 
     ghost Value = { PlainTrace };
 
@@ -123,7 +123,7 @@ pub struct Front<J: Naming> {
 
 impl<J: Naming> Model for Front<J> {
     ghost use Rattle.std.specs.Prelude.{◌≡◌};
-    ghost use Rattle.pf_past.specs.{Pasts.PlainFront, Rules.past_of};
+    ghost use Rattle.pf_view.specs.Past.{Pasts.PlainFront, Rules.past_of};
 
     ghost Value = { PlainFront };
 
@@ -171,7 +171,7 @@ pub struct Showing<J: Naming> {
 
 impl<J: Naming> Model for Showing<J> {
     ghost use Rattle.std.specs.Prelude.{◌≡◌, ℕ};
-    ghost use Rattle.pf_past.specs.Rules.{shown_of};
+    ghost use Rattle.pf_view.specs.Past.Rules.{shown_of};
 
     ghost Value = { ℕ };
 
@@ -190,7 +190,7 @@ pub struct Tip<J: Naming> {
 }
 
 impl<J: Naming> Model for Tip<J> {
-    ghost use Rattle.pf_past.specs.{Pasts.PlainTip, Rules.{tip_of, IsTip}};
+    ghost use Rattle.pf_view.specs.Past.{Pasts.PlainTip, Rules.{tip_of, IsTip}};
 
     ghost Value = { PlainTip };
 

@@ -3,8 +3,8 @@ use Rattle.std.specs.{Prelude.{◌≡◌, ℕ, ◌<◌, ◌+◌, length, List, [
 use mathlib.Core.List.{IsPrefix}
 use Rattle.logbook.specs.Pages.{Cell, cell, Step, View, Book, Named, Nib, may_make, may_write}
 use Rattle.pf_core.specs.Durable.Changes.{PlainChange}
-use Rattle.pf_past.specs.declared.rule.HistoryEntry.{HistoryEntry}
-use Rattle.pf_past.specs.Pasts.{PlainFront, PlainTip}
+use Rattle.pf_view.specs.declared.past.rule.HistoryEntry.{HistoryEntry}
+use Rattle.pf_view.specs.Past.Pasts.{PlainFront, PlainTip}
 
 -- ---- the invariant of the words and the entries
 
