@@ -31,3 +31,4 @@ pub mod Whole
 pub mod ByExpiry
 pub mod Ticks
 pub mod Expiries
+pub mod Listed

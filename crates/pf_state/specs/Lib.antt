@@ -4,6 +4,7 @@ pub mod Flows
 pub mod FlowKeys
 pub mod States
 pub mod Dues
+pub mod Ids
 pub mod Orders
 pub mod Steps
 pub mod Bindings

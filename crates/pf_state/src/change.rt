@@ -1,10 +1,13 @@
 //! Changes of states.
 ghost use Rattle.std.specs.{Prelude.{◌≡◌, ◌-◌, ◌≤◌, length, nat_le, true, false, T, IfOk}, FinMap.is_sorted, Option.option_map_or};
+ghost use Rattle.pf_state.specs.Ids.{ListsAll};
 ghost use Rattle.pf_state.specs.States.{NamesFlows, are_whole, held_at, name_order};
 ghost use Rattle.pf_state.specs.Steps.{insertion, stepped, counted, only_deleted, without_creator, without_due, is_over};
 ghost use Rattle.pf_state.specs.declared.step.StateStep.TheVariants as step_kind;
 
+use crate::clears::clear_listed;
 use crate::counts::Counts;
+use crate::ids::Ids;
 use crate::index::States;
 use crate::limits::STATE_LIMIT;
 use crate::state::{Held, State, StateName, sum_is_whole};
@@ -82,6 +85,25 @@ pub(crate) fn clear(alloc: Global, states: States, creator: u32) -> Result<State
     Ok(left)
 }
 
+// The same, by the ids of the creator's states where these are listed.
+#[tactic(auto, using(crate::proofs::Listed::lists_cleared))]
+fn clear_by(
+    alloc: Global,
+    states: States,
+    ids: &mut Ids,
+    creator: u32,
+) -> Result<States, AllocError>
+    requires sorted { T (is_sorted name_order states) }
+    requires lists { ListsAll states ids.old }
+    ensures left { IfOk result (λ s. s ≡ without_creator states creator) }
+    ensures lists { ListsAll (without_creator states creator) ids.new }
+{
+    match ids.take(alloc, creator) {
+        Some(listed) => clear_listed(alloc, states, creator, &listed),
+        None => clear(alloc, states, creator),
+    }
+}
+
 /// The states that stand at a tick. It costs what is taken out, and not what there is. `AllocError`: these states are dropped; other owners
 /// keep theirs.
 #[tactic(auto, using(crate::proofs::Ticks::standing_begun, crate::proofs::Ticks::standing_on, crate::proofs::Ticks::standing_all, crate::proofs::Ticks::one_less))]
@@ -113,26 +135,33 @@ fn taken_out(before: usize, left: States) -> (States, Counts)
     (left, Counts::of_deletion(deleted))
 }
 
-/// The states after one step, and what became of it. `AllocError`: these states are dropped; other owners keep theirs.
-#[tactic(auto, using(crate::proofs::Counting::shrinks, crate::proofs::Whole::whole_without, crate::proofs::Whole::whole_cleared), unfolding(crate::specs::Steps::stepped, crate::specs::Steps::counted))]
+/// The states after one step, and what became of it. `ids` has under each creator that is one of its own the ids of all its states, before
+/// and after. `AllocError`: these states are dropped; other owners keep theirs.
+#[tactic(auto, using(crate::proofs::Counting::shrinks, crate::proofs::Whole::whole_without, crate::proofs::Whole::whole_cleared, crate::proofs::Listed::lists_deleted), unfolding(crate::specs::Steps::stepped, crate::specs::Steps::counted))]
 pub(crate) fn act(
     alloc: Global,
     states: States,
+    ids: &mut Ids,
     step: &StateStep,
 ) -> Result<(States, Counts), AllocError>
     requires names { NamesFlows states }
     requires whole { are_whole states ≡ true }
+    requires lists { ListsAll states ids.old }
     ensures counted { IfOk result (λ r. r.1 ≡ counted states step.now) }
     ensures after { IfOk result (λ r. r.0 ≡ stepped states step.now) }
     ensures whole { IfOk result (λ r. are_whole r.0 ≡ true) }
+    ensures lists { IfOk result (λ r. ListsAll r.0 ids.new) }
 {
     let before = states.len();
     match step {
         StateStep::Insert(new) => {
+            ids.add(new.key())?;
             let (left, judged) = insert(alloc, states, new)?;
             Ok((left, Counts::of_insertion(judged)))
         }
         StateStep::Delete(name) => Ok(taken_out(before, states.without(alloc, name)?)),
-        StateStep::Clear { creator } => Ok(taken_out(before, clear(alloc, states, *creator)?)),
+        StateStep::Clear { creator } => {
+            Ok(taken_out(before, clear_by(alloc, states, ids, *creator)?))
+        }
     }
 }

@@ -33,11 +33,13 @@
 
 mod binding;
 mod change;
+mod clears;
 mod counts;
 mod dues;
 pub mod failover;
 mod flow;
 mod flow_key;
+mod ids;
 mod index;
 mod keys;
 pub mod laws;

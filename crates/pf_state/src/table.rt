@@ -7,6 +7,7 @@ ghost use Rattle.pf_state.specs.Steps.{Refuses, passes_limit, after, counts, wit
 ghost use Rattle.pf_state.specs.Steps.{due_count};
 
 use crate::change::{act, clear, held_at, is_over, standing};
+use crate::clears::ids_to_clear;
 use crate::counts::Counts;
 use crate::flow::Flow;
 use crate::index::States;
@@ -152,9 +153,10 @@ impl StateTable {
         ensures after { IfOk result (λ r. r.0 ≡ after self.now steps.now) }
     {
         let mut states = self.index.shared()?;
+        let mut ids = ids_to_clear(alloc, &states, steps)?;
         let mut counts = Counts::NONE;
         for step in steps {
-            let (left, counted) = act(alloc, states, step)?;
+            let (left, counted) = act(alloc, states, &mut ids, step)?;
             states = left;
             counts = counts.and(counted);
             if is_over(&states) {

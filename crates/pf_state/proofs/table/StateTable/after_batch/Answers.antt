@@ -15,6 +15,7 @@ loop-step-preserved c =
           (acting_next c.args.self.now c.args.steps.now c.loop-step.step-index c.loop-step.states c.loop-step.counts c.step-item.result c.loop-step.invariant.0 c.loop-step-test.true c.step-item.is
           (sym (ap is_over c.in_ok-left.ensures.after) ∙ within)),
       c.in_ok-left.ensures.whole,
+      c.in_ok-left.ensures.lists,
     )
 
 pub returns-then-is_over-clause-refused : goal.returns-then-is_over-clause-refused
