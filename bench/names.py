@@ -80,8 +80,11 @@ def looks_like_a_file(word):
 
 def is_file(word):
     word = word.removeprefix("./").rstrip("/")
-    if "/out/" in f"{word}/":
-        word = word.partition("/out")[0]
+    if "/out/" in f"/{word}/":
+        # what is made there isn't kept
+        word = f"/{word}/".partition("/out/")[0].removeprefix("/")
+        if not word:
+            return True
     parts = ["[^/]+" if re.fullmatch(r"[A-Z]+", it) and f"/{it}" not in paths() else re.escape(it).replace(r"\*", "[^/]*") for it in word.split("/")]
     pattern = re.compile(f"(?:/.*)?/{'/'.join(parts)}")
     return f"/{word}" in paths() or any(pattern.fullmatch(it) for it in paths())
