@@ -1,6 +1,7 @@
 pub mod RulesetMaps
 pub mod TableMaps
 pub mod TablesAt
+pub mod TablesAnswered
 pub mod Evaluations
 pub mod PlainRules
 pub mod Turns

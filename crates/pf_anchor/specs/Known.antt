@@ -2,7 +2,7 @@
 use Rattle.std.specs.{Prelude.{◌≡◌, T, ℕ, Bool, cond, List, [], ◌∷◌, None, map}, FinMap.is_sorted}
 use Rattle.pf_addr.specs.{Path.Paths.path_order, Path.References.PlainReference}
 use Rattle.pf_rule.specs.Packets.{PlainPacket}
-use Rattle.pf_anchor.specs.{declared.{evaluated.Evaluated.Evaluated, evaluated.Evaluated.TheVariants.Open}, Matches.PlainMatch, Rulesets.{PlainPlaced, leads_to, targets}, Configurations.PlainConfig, Evaluation.{and_then, in_turn, evaluation, matching}}
+use Rattle.pf_anchor.specs.{declared.{evaluated.Evaluated.Evaluated, evaluated.Evaluated.TheVariants.Open}, Matches.PlainMatch, Rulesets.{PlainPlaced, leads_to, targets}, Configurations.PlainConfig, Evaluation.{and_then, in_turn, evaluation, matching}, Answered.{PlainAnswered, AreAnswered}}
 
 -- what a ruleset of a configuration gives for a packet
 abbrev pub ruleset_gives : PlainConfig → PlainPacket → PlainPlaced → Evaluated PlainMatch
@@ -33,6 +33,7 @@ pub record IsEnough (f : PlainPlaced → Evaluated PlainMatch) (c : List PlainPl
   pub sorted : IsInOrder ks
   pub each : (r : PlainReference) → given (leads_to p r) ks ≡ in_turn f (targets c p r)
 
--- the same of a packet by a configuration
-abbrev pub IsEnoughFor : PlainConfig → PlainPacket → List ℕ → List PlainKnown → Type 0
-IsEnoughFor c packet = IsEnough (ruleset_gives c packet) c.rulesets
+-- all that a packet's evaluation by the rules at p asks for is known of a configuration: what they lead to gives, and what tables say
+pub record IsKnownFor (c : PlainConfig) (packet : PlainPacket) (p : List ℕ) (ks : List PlainKnown) (answered : List PlainAnswered) : Type 0 where
+  pub rulesets : IsEnough (ruleset_gives c packet) c.rulesets p ks
+  pub tables : AreAnswered packet c.tables answered

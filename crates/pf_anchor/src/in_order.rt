@@ -1,14 +1,16 @@
 //! Evaluation of all rulesets, each of them once.
-ghost use Rattle.std.specs.{Prelude.{◌≡◌, ◌<◌, ◌≤◌, [], length, take, filter, MatchOption}};
+ghost use Rattle.std.specs.{Prelude.{◌≡◌, ◌<◌, ◌≤◌, ◌⊎◌, [], length, take, filter, MatchOption}};
 ghost use Rattle.pf_addr.specs.Path.Paths.{same_path};
-ghost use Rattle.pf_anchor.specs.{Rulesets.IsMap, Evaluation.in_turn, Known.{known_by, placed_of, ruleset_gives}};
+ghost use Rattle.pf_anchor.specs.{Rulesets.IsMap, Evaluation.in_turn, Answered.AreAnswered, Known.{known_by, placed_of, ruleset_gives}};
 
+use crate::answered::{Answered, answer_each, unanswered};
 use crate::config::Config;
-use crate::evaluate::evaluate_known;
+use crate::evaluate::{Findings, evaluate_known};
 use crate::evaluated::{Evaluated, Match};
 use crate::known::{Known, given_at};
-use crate::limits::RULESET_LIMIT;
+use crate::limits::{RULESET_LIMIT, TABLE_COUNT_LIMIT};
 use crate::rulesets::Placed;
+use crate::tables::PlacedTable;
 use pf_addr::path::Path;
 use pf_rule::Packet;
 use std::array;
@@ -34,8 +36,14 @@ fn listed<'a>(config: &'a Config, table: &mut [Known<'a>]) -> Option<usize>
 
 // Finds what each ruleset of a table gives, from the last to the first: what its rules lead to has a longer path that begins with its own,
 // and so comes later and is known by then. Each ruleset is evaluated once, without recursion.
-fn evaluate_each<'a>(config: &'a Config, packet: &Packet, table: &mut [Known<'a>])
+fn evaluate_each<'a>(
+    config: &'a Config,
+    packet: &Packet,
+    tables: &[Answered<'a>],
+    table: &mut [Known<'a>],
+)
     requires map { IsMap config.now.rulesets }
+    requires tables { AreAnswered packet.now config.now.tables tables.now }
     requires listed { placed_of table.old ≡ config.now.rulesets }
     ensures { table.new ≡ known_by (ruleset_gives config.now packet.now) config.now.rulesets }
 {
@@ -45,7 +53,11 @@ fn evaluate_each<'a>(config: &'a Config, packet: &Packet, table: &mut [Known<'a>
         let all = &*table;
         let next = &all[number];
         let placed = next.placed;
-        let gives = evaluate_known(config, packet, placed, &all[left..]);
+        let known = Findings {
+            rulesets: &all[left..],
+            tables,
+        };
+        let gives = evaluate_known(config, packet, placed, known);
         table[number] = Known { placed, gives };
         left = number;
     }
@@ -65,20 +77,42 @@ fn filled<'a>(any: &'a Placed) -> [Known<'a>; RULESET_LIMIT]
 fn evaluate_in<'a>(
     config: &'a Config,
     packet: &Packet,
+    tables: &[Answered<'a>],
     table: &mut [Known<'a>],
 ) -> Option<Evaluated<Match<'a>>>
-    requires { IsMap config.now.rulesets }
+    requires map { IsMap config.now.rulesets }
+    requires tables { AreAnswered packet.now config.now.tables tables.now }
     ensures { MatchOption result (length table.old < length config.now.rulesets)
         (λ r. r ≡ in_turn (ruleset_gives config.now packet.now) (filter (λ e. same_path [] e.0) config.now.rulesets)) }
 {
     let count = listed(config, table)?;
     let rulesets = &mut table[..count];
-    evaluate_each(config, packet, rulesets);
+    evaluate_each(config, packet, tables, rulesets);
     Some(given_at(rulesets, &Path::main()))
 }
 
-/// What the main ruleset gives for a packet, by evaluating each ruleset once. It takes no memory, and some 120 kilobytes of the stack. None:
-/// there are more rulesets than there may be.
+// The same, where there are tables, of which this is the first: each is asked for each of the packet's addresses once.
+fn evaluate_with_tables<'a>(
+    config: &'a Config,
+    packet: &Packet,
+    first: &'a PlacedTable,
+    answers: &mut [Answered<'a>],
+    table: &mut [Known<'a>],
+) -> Option<Evaluated<Match<'a>>>
+    requires { IsMap config.now.rulesets }
+    ensures { MatchOption result ((length answers.old < length config.now.tables) ⊎ (length table.old < length config.now.rulesets))
+        (λ r. r ≡ in_turn (ruleset_gives config.now packet.now) (filter (λ e. same_path [] e.0) config.now.rulesets)) }
+{
+    // that tables are in order comes with each search
+    let (path, name) = first.key();
+    let _first = config.table_at(path, name);
+    let count = answer_each(config, packet, answers)?;
+    let all = &*answers;
+    evaluate_in(config, packet, &all[..count], table)
+}
+
+/// What the main ruleset gives for a packet, by evaluating each ruleset and asking each table once. It takes no memory, and some 120 kilobytes
+/// of the stack. None: there are more rulesets or tables than there may be.
 #[cold]
 #[inline(never)]
 pub(crate) fn evaluate_in_order<'a>(
@@ -87,9 +121,15 @@ pub(crate) fn evaluate_in_order<'a>(
     packet: &Packet,
 ) -> Option<Evaluated<Match<'a>>>
     requires { IsMap config.now.rulesets }
-    ensures { MatchOption result (RULESET_LIMIT < length config.now.rulesets)
+    ensures { MatchOption result ((TABLE_COUNT_LIMIT < length config.now.tables) ⊎ (RULESET_LIMIT < length config.now.rulesets))
         (λ r. r ≡ in_turn (ruleset_gives config.now packet.now) (filter (λ e. same_path [] e.0) config.now.rulesets)) }
 {
     let mut table = filled(any);
-    evaluate_in(config, packet, &mut table)
+    match config.each_table().next() {
+        Some(first) => {
+            let mut answers = unanswered(first);
+            evaluate_with_tables(config, packet, first, &mut answers, &mut table)
+        }
+        None => evaluate_in(config, packet, &[], &mut table),
+    }
 }

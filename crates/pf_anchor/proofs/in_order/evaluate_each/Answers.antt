@@ -7,8 +7,11 @@ pub evaluate_known-gives-requires : goal.evaluate_known-gives-requires
 evaluate_known-gives-requires c =
     let config = c.args.config.now in
     let loop = c.loop-left in
-    enough_here config.rulesets (matching config.tables c.args.packet.now) loop.table loop.left c.index-all-number.result c.next.inside.placed.now
-    c.requires.map.sorted loop.invariant.listed loop.invariant.known c.loop-left-test.true loop.invariant.few c.index-all-number.is (ap (λ (k : PlainKnown). k.0) c.next.view_is)
+    record {
+      rulesets = enough_here config.rulesets (matching config.tables c.args.packet.now) loop.table loop.left c.index-all-number.result c.next.inside.placed.now
+          c.requires.map.sorted loop.invariant.listed loop.invariant.known c.loop-left-test.true loop.invariant.few c.index-all-number.is (ap (λ (k : PlainKnown). k.0) c.next.view_is);
+      tables = c.requires.tables;
+    }
 
 pub loop-left-preserved : goal.loop-left-preserved
 loop-left-preserved c =

@@ -8,7 +8,7 @@ use Rattle.pf_anchor.proofs.in_order.evaluate_in.Goals as goal
 pub given_at-requires : goal.given_at-requires
 given_at-requires c =
     let back = placed_back (ruleset_gives c.args.config.now c.args.packet.now) c.args.config.now.rulesets in
-    subst IsInOrder (sym c.evaluate_each.ensures) (subst (λ (es : List PlainPlaced). T (is_sorted path_order es)) (sym back) c.requires.sorted)
+    subst IsInOrder (sym c.evaluate_each.ensures) (subst (λ (es : List PlainPlaced). T (is_sorted path_order es)) (sym back) c.requires.map.sorted)
 
 pub returns : goal.returns
 returns c =
