@@ -70,10 +70,11 @@ fn matching_known<'k, 'a>(
     ensures { (i : ℕ) → i < 8 → is_set result i
         ≡ block_match (tables_say question.now.config.now.tables placed.now.0) placed.now.1 question.now.packet.now block i }
 {
+    let path = placed.key();
     let tables = AnsweredTables {
         config: question.config,
         packet: question.packet,
-        path: placed.key(),
+        path,
         known,
     };
     matching_by(&tables, placed, probe, question.packet, block)
