@@ -1,10 +1,13 @@
 pub mod RulesetMaps
 pub mod TableMaps
 pub mod TablesAt
+pub mod TablesAnswered
 pub mod Evaluations
 pub mod PlainRules
 pub mod Turns
+pub mod Siblings
 pub mod GivenAt
+pub mod Listing
 pub mod EachKnown
 pub mod AnchorRules
 pub mod Deciding

@@ -5,6 +5,7 @@ pub mod Forms
 pub mod Limits
 pub mod Matches
 pub mod Evaluation
+pub mod Answered
 pub mod Known
 pub mod Blocks
 pub mod Laws

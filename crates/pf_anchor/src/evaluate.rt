@@ -2,51 +2,107 @@
 ghost use Rattle.std.specs.Prelude.{◌≡◌, ◌<◌, ◌≤◌, ◌*◌, ℕ, true, None, filter, length, IfSome, MatchOption};
 ghost use Rattle.pf_addr.specs.Path.Nested.{is_child};
 ghost use Rattle.pf_lanes.specs.{Masks.is_set, Answered.{block_match, eight_from}, Probes.{PlainProbe, asked}};
-ghost use Rattle.pf_anchor.specs.{Rulesets.targets, Tables.tables_say, Blocks.{AreStops, GivesLast, NoneBetween}, Evaluation.{effected, in_turn, matching, rules_at_path}, Known.{IsEnoughFor, ruleset_gives}};
+ghost use Rattle.pf_anchor.specs.{Rulesets.targets, Tables.tables_say, Blocks.{AreStops, GivesLast, NoneBetween}, Evaluation.{effected, in_turn, matching, rules_at_path}, Answered.AreAnswered, Known.{IsKnownFor, ruleset_gives}};
 
+use crate::answered::{Answered, AnsweredTables};
 use crate::config::Config;
 use crate::evaluated::{Evaluated, Match};
 use crate::known::{Known, given_for};
-use crate::named_tables::NamedTables;
+use crate::named_tables::{CountedTables, NamedTables};
 use crate::rulesets::Placed;
 use crate::work::Work;
 use pf_addr::path::{Path, Reference};
 use pf_lanes::{LANES, Probe, eight_of, first_and_last, is_set, match_one_by_one};
-use pf_rule::{Effect, Packet, Rule};
+use pf_rule::{Effect, Packet, Rule, TableAnswers};
 
-/// What is evaluated, and how what anchor rules lead to is found.
+/// What is known before a ruleset is evaluated.
+#[derive(Clone, Copy)]
+pub(crate) struct Findings<'k, 'a> {
+    /// What the rulesets that its rules lead to give.
+    pub rulesets: &'k [Known<'a>],
+    /// What all tables say of the packet's addresses.
+    pub tables: &'k [Answered<'a>],
+}
+
+/// What is evaluated, and how it is found what anchor rules lead to and what tables say.
 #[derive(Clone, Copy)]
 pub(crate) struct Question<'k, 'a> {
     /// The rulesets and the tables.
     pub config: &'a Config,
     /// The packet.
     pub packet: &'k Packet,
-    /// What the rulesets that the rules lead to give, if it is known. If not, they are evaluated.
-    pub known: Option<&'k [Known<'a>]>,
+    /// What is known. If nothing is, the rulesets that rules lead to are evaluated, and the tables that they name are asked.
+    pub known: Option<Findings<'k, 'a>>,
     /// Whether it ends without an answer once the work that is allowed is done.
     pub is_bounded: bool,
 }
 
-// Which rules of a block match, with tables as the rules of their ruleset name them.
+// Which rules of a block match, by what tables say.
 #[inline(always)]
-fn matching_in(
-    config: &Config,
+fn matching_by<T: TableAnswers>(
+    tables: &T,
     placed: &Placed,
     probe: &Option<Probe<'_>>,
     packet: &Packet,
     block: usize,
 ) -> u8
     requires { IfSome probe.now (λ p. p ≡ asked placed.now.1 packet.now) }
-    ensures { (i : ℕ) → i < 8 → is_set result i ≡ block_match (tables_say config.now.tables placed.now.0) placed.now.1 packet.now block i }
+    ensures { (i : ℕ) → i < 8 → is_set result i ≡ block_match (T.says tables.now) placed.now.1 packet.now block i }
 {
+    match probe {
+        Some(probe) => probe.matching(tables, block),
+        None => match_one_by_one(placed.value().as_slice(), tables, packet, block),
+    }
+}
+
+// Which rules of a block match, where it is known what tables say.
+#[cold]
+#[inline(never)]
+fn matching_known<'k, 'a>(
+    question: &Question<'k, 'a>,
+    known: &'k [Answered<'a>],
+    placed: &'a Placed,
+    probe: &Option<Probe<'_>>,
+    block: usize,
+) -> u8
+    requires known { AreAnswered question.now.packet.now question.now.config.now.tables known.now }
+    requires probe { IfSome probe.now (λ p. p ≡ asked placed.now.1 question.now.packet.now) }
+    ensures { (i : ℕ) → i < 8 → is_set result i
+        ≡ block_match (tables_say question.now.config.now.tables placed.now.0) placed.now.1 question.now.packet.now block i }
+{
+    let path = placed.key();
+    let tables = AnsweredTables {
+        config: question.config,
+        packet: question.packet,
+        path,
+        known,
+    };
+    matching_by(&tables, placed, probe, question.packet, block)
+}
+
+// Which rules of a block match, with tables as the rules of their ruleset name them.
+#[inline(always)]
+fn matching_in<'a>(
+    question: &Question<'_, 'a>,
+    placed: &'a Placed,
+    probe: &Option<Probe<'_>>,
+    block: usize,
+    work: &Work,
+) -> u8
+    requires known { IfSome question.now.known (λ k. AreAnswered question.now.packet.now question.now.config.now.tables k.tables.now) }
+    requires probe { IfSome probe.now (λ p. p ≡ asked placed.now.1 question.now.packet.now) }
+    ensures { (i : ℕ) → i < 8 → is_set result i
+        ≡ block_match (tables_say question.now.config.now.tables placed.now.0) placed.now.1 question.now.packet.now block i }
+{
+    if let Some(known) = question.known {
+        return matching_known(question, known.tables, placed, probe, block);
+    }
     let tables = NamedTables {
-        config,
+        config: question.config,
         path: placed.key(),
     };
-    match probe {
-        Some(probe) => probe.matching(&tables, block),
-        None => match_one_by_one(placed.value().as_slice(), &tables, packet, block),
-    }
+    let counted = CountedTables { tables, work };
+    matching_by(&counted, placed, probe, question.packet, block)
 }
 
 // A packet, prepared for the rules of a ruleset if these have columns.
@@ -119,7 +175,7 @@ pub(crate) fn evaluate<'a>(
     placed: &'a Placed,
     work: &mut Work,
 ) -> Option<Evaluated<Match<'a>>>
-    requires { IfSome question.now.known (λ ks. IsEnoughFor question.now.config.now question.now.packet.now placed.now.0 ks.now) }
+    requires { IfSome question.now.known (λ k. IsKnownFor question.now.config.now question.now.packet.now placed.now.0 k.rulesets.now k.tables.now) }
     ensures { MatchOption result (question.now.is_bounded ≡ true)
         (λ r. r ≡ ruleset_gives question.now.config.now question.now.packet.now placed.now) }
 {
@@ -128,7 +184,10 @@ pub(crate) fn evaluate<'a>(
     let mut last = None;
     let mut block = next_near(&probe, 0);
     while block < blocks {
-        let mask = matching_in(question.config, placed, &probe, question.packet, block);
+        let mask = matching_in(question, placed, &probe, block, work);
+        if has_asked_all(question, work) {
+            return None;
+        }
         if stopping(placed, block, mask) == 0 {
             last = last_match(placed, block, mask).or(last);
         } else {
@@ -153,7 +212,7 @@ fn each_match<'a>(
     mask: u8,
     work: &mut Work,
 ) -> Option<Evaluated<Match<'a>>>
-    requires enough { IfSome question.now.known (λ ks. IsEnoughFor question.now.config.now question.now.packet.now placed.now.0 ks.now) }
+    requires enough { IfSome question.now.known (λ k. IsKnownFor question.now.config.now question.now.packet.now placed.now.0 k.rulesets.now k.tables.now) }
     requires mask { (i : ℕ) → i < 8 → is_set mask i
         ≡ block_match (tables_say question.now.config.now.tables placed.now.0) placed.now.1 question.now.packet.now block i }
     ensures { MatchOption result (question.now.is_bounded ≡ true)
@@ -191,7 +250,7 @@ fn effected<'a>(
     rule: &Rule,
     work: &mut Work,
 ) -> Option<Evaluated<Match<'a>>>
-    requires { IfSome question.now.known (λ ks. IsEnoughFor question.now.config.now question.now.packet.now placed.now.0 ks.now) }
+    requires { IfSome question.now.known (λ k. IsKnownFor question.now.config.now question.now.packet.now placed.now.0 k.rulesets.now k.tables.now) }
     ensures { MatchOption result (question.now.is_bounded ≡ true)
         (λ r. r ≡ effected (ruleset_gives question.now.config.now question.now.packet.now) question.now.config.now.rulesets
         placed.now.0 number rule.now.effect) }
@@ -203,7 +262,7 @@ fn effected<'a>(
             action,
         }))),
         Effect::Evaluate(reference) => match question.known {
-            Some(known) => Some(given_for(known, placed.key(), &reference)),
+            Some(known) => Some(given_for(known.rulesets, placed.key(), &reference)),
             None => evaluate_targets(question, placed.key(), &reference, work),
         },
     }
@@ -215,6 +274,14 @@ fn is_past(question: &Question<'_, '_>, rules: usize, work: &mut Work) -> bool
     ensures { result ≡ true → question.now.is_bounded ≡ true }
 {
     question.is_bounded && !work.takes(question.config, rules)
+}
+
+// Whether the work that is allowed is done since tables were asked as often as they may be.
+#[inline(always)]
+fn has_asked_all(question: &Question<'_, '_>, work: &Work) -> bool
+    ensures { result ≡ true → question.now.is_bounded ≡ true }
+{
+    work.has_asked_all() && question.is_bounded
 }
 
 // A ruleset that a rule leads to, as far as the work that is allowed suffices.
@@ -320,9 +387,9 @@ pub(crate) fn evaluate_known<'k, 'a>(
     config: &'a Config,
     packet: &'k Packet,
     placed: &'a Placed,
-    known: &'k [Known<'a>],
+    known: Findings<'k, 'a>,
 ) -> Evaluated<Match<'a>>
-    requires { IsEnoughFor config.now packet.now placed.now.0 known.now }
+    requires { IsKnownFor config.now packet.now placed.now.0 known.rulesets.now known.tables.now }
     ensures { result ≡ ruleset_gives config.now packet.now placed.now }
 {
     let known = Some(known);

@@ -1,6 +1,6 @@
 //! What an evaluation has found.
 ghost use Rattle.std.specs.Prelude.{◌≡◌};
-ghost use Rattle.pf_anchor.specs.Evaluation.{last_of};
+ghost use Rattle.pf_anchor.specs.Evaluation.{and_then, last_of};
 
 use crate::rulesets::Placed;
 use pf_rule::Action;
@@ -59,6 +59,16 @@ impl<M: Drop> Evaluated<M> {
 }
 
 impl<'a> Evaluated<Match<'a>> {
+    /// This one, and another one after it.
+    pub(crate) fn and_then(&self, later: &Evaluated<Match<'a>>) -> Evaluated<Match<'a>>
+        ensures { result ≡ and_then self.now later.now }
+    {
+        match (self, later) {
+            (Evaluated::Ended(_), _) | (_, Evaluated::Open(None)) => self.copied(),
+            (Evaluated::Open(_), _) => later.copied(),
+        }
+    }
+
     /// The same, once more.
     pub(crate) fn copied(&self) -> Evaluated<Match<'a>>
         ensures { result ≡ self.now }

@@ -10,7 +10,8 @@
 //!
 //! `config` is the type, over what the maps hold: `rulesets`, `tables` and `rule_list`, which don't use it. `judge` is judging, over
 //! `config`: by `evaluate`, from ruleset to ruleset as far as `work` allows, and if that doesn't suffice by `in_order`, each ruleset once,
-//! with what is `known` of those behind it. These use `evaluated` (what was found so far) and `named_tables` (the table that a rule names).
+//! with what is `known` of those behind it and what tables have `answered`. These use `evaluated` (what was found so far) and `named_tables`
+//! (the table that a rule names).
 //! `verdict` is what an evaluation answers, `fault` and `limits` say why something isn't put at a path, and `laws` may use all.
 //!
 //! Proved: what each change leaves of both maps, how many bytes they take, and that `Config::judge` finds what the evaluation of
@@ -21,6 +22,7 @@
 //! Only tests of other crates show that memory runs out only if a growth was refused.
 #![tactic(auto)]
 
+mod answered;
 mod config;
 mod evaluate;
 mod evaluated;

@@ -2,6 +2,7 @@
 ghost use Rattle.pf_anchor.specs.Tables.{tables_say};
 
 use crate::config::Config;
+use crate::work::Work;
 use pf_addr::Addr;
 use pf_addr::path::{Path, TableName};
 use pf_rule::TableAnswers;
@@ -21,5 +22,21 @@ impl<'a> TableAnswers for NamedTables<'a> {
             Some(table) => table.test(address),
             None => false,
         }
+    }
+}
+
+/// The same, where it is counted how often they are asked.
+#[derive(Clone, Copy)]
+pub(crate) struct CountedTables<'a> {
+    pub tables: NamedTables<'a>,
+    pub work: &'a Work,
+}
+
+impl<'a> TableAnswers for CountedTables<'a> {
+    ghost says = { λ t. tables_say t.tables.config.now.tables t.tables.path.now };
+
+    fn holds(&self, name: &TableName, address: Addr) -> bool {
+        self.work.asks();
+        self.tables.holds(name, address)
     }
 }

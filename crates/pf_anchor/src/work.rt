@@ -1,15 +1,21 @@
 //! How much a packet's evaluation may do before each ruleset is evaluated once instead.
 use crate::config::Config;
+use std::cell::Cell;
 
 // How many rules a packet may look at in any configuration. Few packets need more, so that only these pay for counting all rules.
 const AT_FIRST: usize = 1024;
 
-/// How many rules a packet may still look at by going from ruleset to ruleset: first 1,024, and then once as many as there are in all. It
-/// decides nothing of what an evaluation gives.
+// How many times tables may be asked. An answer may take as long as some hundred rules, and the rules of a few rulesets can ask some ten
+// thousand times; few packets ask more than some ten times.
+const ANSWERS: usize = 512;
+
+/// How many rules a packet may still look at by going from ruleset to ruleset: first 1,024, and then once as many as there are in all; and how
+/// many times their rules may still ask tables. It decides nothing of what an evaluation gives.
 #[derive(Drop)]
 pub(crate) struct Work {
     left: usize,
     counts_all: bool,
+    answers_left: Cell<usize>,
 }
 
 impl Work {
@@ -18,6 +24,7 @@ impl Work {
         Work {
             left: AT_FIRST,
             counts_all: false,
+            answers_left: Cell::new(ANSWERS),
         }
     }
 
@@ -26,6 +33,7 @@ impl Work {
         Work {
             left: 0,
             counts_all: true,
+            answers_left: Cell::new(0),
         }
     }
 
@@ -42,6 +50,18 @@ impl Work {
             }
             None => false,
         }
+    }
+
+    /// Counts that a table is asked.
+    pub(crate) fn asks(&self) {
+        let left = self.answers_left.get();
+        self.answers_left.set(left.saturating_sub(1));
+    }
+
+    /// Whether tables were asked as often as they may be.
+    #[inline(always)]
+    pub(crate) fn has_asked_all(&self) -> bool {
+        self.answers_left.get() == 0
     }
 
     // Once, as many more as all rulesets have rules, and one for each of them.

@@ -1,9 +1,10 @@
 use Rattle.std.proofs.{Common.{rules}, lemmas.List.Sorted.{IsPartitionPoint-from_clause}}
 use Rattle.std.specs.Ordering.{is_gt}
-use Rattle.pf_addr.specs.Path.Paths.{path_order}
+use Rattle.pf_anchor.specs.Known.{place_order, place_of}
 use Rattle.pf_anchor.proofs.GivenAt.{parted}
 use Rattle.pf_anchor.proofs.known.count_before.Goals as goal
 
 pub returns-clause-place : goal.returns-clause-place
 returns-clause-place c =
-    IsPartitionPoint-from_clause (λ k. is_gt (path_order c.args.path.now k.0.0)) _ _ c.partition_point.ensures.partitioned (parted c.args.path.now c.args.known.now c.requires) (λ a r q k. search rules)
+    IsPartitionPoint-from_clause (λ k. is_gt (place_order (c.args.depth, c.args.bytes.now) (place_of k.0.0))) _ _ c.partition_point.ensures.partitioned
+    (parted (c.args.depth, c.args.bytes.now) c.args.known.now c.requires) (λ a r q k. search rules)
