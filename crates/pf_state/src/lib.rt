@@ -26,9 +26,9 @@
 //!
 //! Only tests of other crates show that an out-of-memory error comes only when out of memory.
 //!
-//! Read first: `specs/Flows.antt`, `States.antt`, `Steps.antt` and `Bindings.antt` for the table, and `Dues.antt` for how due states are
-//! found; `specs/Peer/Records.antt`, `Groups.antt`, `Messages.antt` and `Streams.antt` for a peer's bytes, `specs/Layouts/` for a store's
-//! bytes, `specs/Failover/` for how states and messages meet.
+//! Read first: `specs/Flows.antt`, `States.antt`, `Steps.antt` and `Bindings.antt` for the table, `Dues.antt` for how due states are found,
+//! and `Ids.antt` for how a batch finds the states that it clears; `specs/Peer/Records.antt`, `Groups.antt`, `Messages.antt` and
+//! `Streams.antt` for a peer's bytes, `specs/Layouts/` for a store's bytes, `specs/Failover/` for how states and messages meet.
 #![tactic(auto)]
 
 mod binding;
