@@ -15,6 +15,7 @@ MAIN = (("main.txt", "src/main.rt"),)
 # The crates that each program of bench/ needs.
 NEEDS = {
     "appends": "pf_journal pf_disk",
+    "judging": "pf_addr pf_rule pf_table pf_anchor",
     "lanes": "pf_addr pf_rule pf_table pf_anchor",
     "no_memory": "pf_book pf_line pf_core pf_state pf_ticket pf_anchor pf_rule pf_lanes pf_addr",
     "saves": "pf_book pf_store pf_line pf_core pf_snap pf_disk",

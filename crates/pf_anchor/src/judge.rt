@@ -16,10 +16,10 @@ impl Config {
     /// The verdict of the rules on a packet: the rule that decides by the main ruleset's evaluation (pf.conf(5), PACKET FILTERING and
     /// ANCHORS), with its ruleset's path and its number there, or the default pass. It takes no memory.
     ///
-    /// Rulesets are evaluated as rules lead to them, until 1,024 rules and once more as many as there are in all were looked at, or tables
-    /// were asked 512 times. If that doesn't suffice, each table is asked for both addresses once, and then each ruleset evaluated once, by
-    /// what is known of those that its rules lead to. So it looks at each rule about twice at most, whatever the anchors, as long as there
-    /// are no more than 1,024 rulesets and 1,024 tables.
+    /// Rulesets are evaluated as rules lead to them, until 1,024 rules and once more as many as there are in all, but no more than 131,072,
+    /// were looked at, or tables were asked 512 times. If that doesn't suffice, each table is asked for both addresses once, and then each
+    /// ruleset evaluated once, by what is known of those that its rules lead to. So it looks at each rule about twice at most, whatever the
+    /// anchors, as long as there are no more than 1,024 rulesets and 1,024 tables.
     #[tactic(auto, using(crate::proofs::Evaluations::default_judged))]
     pub fn judge(&self, packet: &Packet) -> RuleVerdict
         ensures { result ≡ judged self.now packet.now }

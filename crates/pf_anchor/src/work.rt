@@ -5,12 +5,15 @@ use std::cell::Cell;
 // How many rules a packet may look at in any configuration. Few packets need more, so that only these pay for counting all rules.
 const AT_FIRST: usize = 1024;
 
+// How many rules a packet may look at in this way at most. Where there are more in all, evaluating each ruleset once takes longer than this by far.
+const AT_MOST: usize = 131_072;
+
 // How many times tables may be asked. An answer may take as long as some hundred rules, and the rules of a few rulesets can ask some ten
 // thousand times; few packets ask more than some ten times.
 const ANSWERS: usize = 512;
 
-/// How many rules a packet may still look at by going from ruleset to ruleset: first 1,024, and then once as many as there are in all; and how
-/// many times their rules may still ask tables. It decides nothing of what an evaluation gives.
+/// How many rules a packet may still look at by going from ruleset to ruleset: first 1,024, and then once as many as there are in all, up to
+/// 131,072; and how many times their rules may still ask tables. It decides nothing of what an evaluation gives.
 #[derive(Drop)]
 pub(crate) struct Work {
     left: usize,
@@ -64,7 +67,7 @@ impl Work {
         self.answers_left.get() == 0
     }
 
-    // Once, as many more as all rulesets have rules, and one for each of them.
+    // Once, as many more as all rulesets have rules, and one for each of them, up to a limit.
     #[cold]
     #[inline(never)]
     fn count_all(&mut self, config: &Config) {
@@ -76,5 +79,6 @@ impl Work {
             let rules = placed.value().as_slice().len();
             self.left = self.left.saturating_add(rules).saturating_add(1);
         }
+        self.left = self.left.min(AT_MOST);
     }
 }
