@@ -128,7 +128,7 @@ fn evaluate_with_tables<'a>(
     evaluate_in(config, packet, &all[..count], table)
 }
 
-/// What the main ruleset gives for a packet, by evaluating each ruleset and asking each table once. It takes no memory, and some 120 kilobytes
+/// What the main ruleset gives for a packet, by evaluating each ruleset and asking each table once. It takes no memory, and some 450 kilobytes
 /// of the stack. None: there are more rulesets or tables than there may be.
 #[cold]
 #[inline(never)]
