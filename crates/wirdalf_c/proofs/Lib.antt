@@ -1,0 +1,4 @@
+mod Configurations
+mod PacketWords
+mod Verdicts
+mod Values

@@ -1,0 +1,4 @@
+pub mod Held
+pub mod Lending
+pub mod Packets
+pub mod Verdicts
