@@ -1,4 +1,6 @@
 mod Configurations
+mod Kept
+mod Many
 mod PacketWords
-mod Verdicts
 mod Values
+mod Verdicts
