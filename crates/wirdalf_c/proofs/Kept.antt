@@ -1,8 +1,9 @@
 -- What was read is kept for C, or the fault told.
 use Rattle.std.proofs.Common.{◌≡◌, ◌⊎◌, ℕ, List, Some, Result, Ok, Err, IfOk, IfErr, inl, inr}
 use Rattle.pf_core.specs.{Durable.Changes.{PlainDurable}, Laws.Durable.IsWithin}
-use Rattle.pf_store.specs.Stores.{Holds}
-use Rattle.wirdalf_c.specs.{Answers.{IsCopied, IsKept, IsRead}, Images.IsUnread}
+use Rattle.pf_store.specs.{Openings.IsUnopened, Stores.Holds, declared.store.fault.OpenFault.OpenFault}
+use Rattle.pf_store.specs.declared.store.fault.OpenFault.TheVariants as opening
+use Rattle.wirdalf_c.specs.{Answers.{IsCopied, IsKept, IsRead}, Images.{IsUnread, unread}}
 use Rattle.wirdalf_c.specs.declared.{configuration.Configuration.Configuration, fault.ReadFault.{ReadFault, TheVariants.Memory}}
 
 pub read_answered : (made : Result PlainDurable ReadFault) (bytes : List ℕ) (old new : Configuration) (code place : ℕ)
@@ -17,3 +18,13 @@ pub copied_answered : (made : Result PlainDurable ReadFault) (d : PlainDurable) 
 copied_answered (Ok x) d old new code place is (inl kept) = (place, inl (rw (← is) kept))
 copied_answered (Err e) d old new code place is (inl kept) = (place, inr (e, kept))
 copied_answered made d old new code place is (inr kept) = (place, inr (Memory, kept))
+
+pub unread_told : (e : OpenFault) (bytes : List ℕ) → IsUnopened e bytes → IsUnread (unread e) bytes
+unread_told opening.BadSize bytes is = is
+unread_told opening.NoBank bytes is = is
+unread_told (opening.Corrupt at) bytes is = is
+unread_told opening.Memory bytes is = tt
+unread_told opening.Fault bytes is = tt
+unread_told opening.EpochsExhausted bytes is = tt
+unread_told opening.Full bytes is = tt
+unread_told opening.Places bytes is = tt

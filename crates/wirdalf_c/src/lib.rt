@@ -57,7 +57,6 @@ pub extern "C" fn wirdalf_read(
 
 /// The same once more, in a configuration that held nothing: `OK` or `MEMORY`.
 #[unsafe(no_mangle)]
-#[tactic(auto, using(crate::proofs::Kept::copied_answered))]
 pub extern "C" fn wirdalf_clone(
     alloc: Global,
     config: &mut Configuration,
