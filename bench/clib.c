@@ -2,10 +2,10 @@
  * What bench/clib measures the library in C by.
  *
  * clib show < IMAGES: of each image, which stands behind its length in four bytes (the highest first), what pfd show writes.
- * clib judge KIND FILE < PACKETS: for each line, as in-out, interface, protocol's number, address, port, address, port, what pfd's judge
- *     replies. KIND is image or lines, and says what the file is.
- * clib time KIND FILE THREADS ROUNDS < PACKETS: judges the packets so many times in each of so many threads, and writes the nanoseconds of the
- *     clock that a packet took a thread, one at a time and in one array.
+ * clib judge FILE < PACKETS: for each line, as way, interface, protocol's number, address, port, address, port, what pfd's judge
+ *     replies, by what the file of a pfd holds.
+ * clib time FILE THREADS ROUNDS < PACKETS: judges the packets so many times in each of so many threads, and writes the nanoseconds of a
+ *     processor that a packet took, one at a time and in arrays of 256.
  */
 #include <arpa/inet.h>
 #include <inttypes.h>
@@ -45,7 +45,7 @@ static uint32_t fill(FILE *file, uint8_t **bytes, size_t *length)
     return 0;
 }
 
-static struct wirdalf made_of(const char *kind, const char *path)
+static struct wirdalf made_of(const char *path)
 {
     struct wirdalf config = WIRDALF_NONE;
     FILE *file = fopen(path, "rb");
@@ -58,7 +58,7 @@ static struct wirdalf made_of(const char *kind, const char *path)
         stop("input");
     fill(file, &bytes, &length);
     fclose(file);
-    result = (strcmp(kind, "image") == 0 ? wirdalf_read : wirdalf_lines)(bytes, length, &config, &place);
+    result = wirdalf_read(bytes, length, &config, &place);
     free(bytes);
     if (result != WIRDALF_OK) {
         fprintf(stderr, "clib: %" PRIu32 " at %" PRIu64 "\n", result, place);
@@ -192,7 +192,7 @@ static double seconds(void)
 {
     struct timespec now;
 
-    clock_gettime(CLOCK_MONOTONIC, &now);
+    clock_gettime(CLOCK_THREAD_CPUTIME_ID, &now);
     return (double)now.tv_sec + 1e-9 * (double)now.tv_nsec;
 }
 
@@ -249,13 +249,13 @@ int main(int count, char **words)
         show_all();
         return 0;
     }
-    if (count < 4)
+    if (count < 3)
         stop("words");
-    config = made_of(words[2], words[3]);
-    if (count == 4 && strcmp(words[1], "judge") == 0)
+    config = made_of(words[2]);
+    if (count == 3 && strcmp(words[1], "judge") == 0)
         judge_all(&config);
-    else if (count == 6 && strcmp(words[1], "time") == 0)
-        time_all(&config, (size_t)atol(words[4]), (size_t)atol(words[5]));
+    else if (count == 5 && strcmp(words[1], "time") == 0)
+        time_all(&config, (size_t)atol(words[3]), (size_t)atol(words[4]));
     else
         stop("words");
     wirdalf_free(config);

@@ -1,14 +1,14 @@
 /*
  * wirdalf.h: what a Wirdalf control plane keeps, for a packet path in C.
  *
- * A configuration is read once, from the bytes of a file that pfd serves or from lines, and never changes. Judging takes no memory and no
- * lock, and can't fail. wirdalf(3) is the manual.
+ * A configuration is read once, from the bytes of a file that pfd serves, and never changes. Judging takes no memory and no lock, and can't
+ * fail. wirdalf(3) is the manual.
  *
  * What C has to keep to, since no proof looks at C:
  * - Pointers are not null (but for those of empty arrays), aligned as their types want, and point to live values. Arrays have as many
  *   elements as is said. No two arguments of a call overlap, one of which is written to.
- * - A struct wirdalf is WIRDALF_NONE, or was written by wirdalf_read, wirdalf_lines or wirdalf_clone, which returned WIRDALF_OK. Only
- *   these three take one that holds nothing; and one that holds something is freed before it is written to again, or its memory is lost.
+ * - A struct wirdalf is WIRDALF_NONE, or was written by wirdalf_read or wirdalf_clone, which returned WIRDALF_OK. Only what these
+ *   write may hold nothing; and one that holds something is freed before it is written to again, or its memory is lost.
  * - A struct wirdalf is in one call at a time, and isn't copied but moved: after it was assigned or handed to another thread, the old one
  *   isn't used. Each thread that judges has its own, made by wirdalf_clone, which shares what it holds. Handing it over is ordered by a
  *   lock, by the start or the join of a thread, or by a sequentially consistent atomic.
@@ -24,7 +24,7 @@
 extern "C" {
 #endif
 
-/* A configuration; its field is the library's. */
+/* A configuration: one pointer, which may be kept in an atomic; NULL holds nothing. */
 struct wirdalf {
     void *held;
 };
@@ -38,9 +38,7 @@ enum {
     WIRDALF_BAD_SIZE = 1, /* an odd number of bytes, or fewer than 256 or more than 2^30 */
     WIRDALF_NO_BANK = 2,  /* no disk was formatted here */
     WIRDALF_CORRUPT = 3,  /* what begins at a place of the bytes can't have been left there */
-    WIRDALF_MEMORY = 4,   /* out of memory */
-    WIRDALF_REFUSED = 5,  /* a line that pfd refuses */
-    WIRDALF_UNFIT = 6     /* a line that is no begin, add, define, commit or tset */
+    WIRDALF_MEMORY = 4    /* out of memory */
 };
 
 /* Values of fields. */
@@ -94,11 +92,6 @@ struct wirdalf_counts {
 /* What the bytes of a disk hold: a whole file that pfd formatted or serves, read or mapped. It may be any bytes. At WIRDALF_CORRUPT the
  * place is written, from 0. Unless it returns WIRDALF_OK, the configuration is as it was. */
 uint32_t wirdalf_read(const uint8_t *bytes, size_t length, struct wirdalf *config, uint64_t *place);
-
-/* What lines make of nothing, as pfd run does them: begin, add, define, commit and tset, comments and empty lines. They may be any bytes. At
- * WIRDALF_MEMORY, WIRDALF_REFUSED and WIRDALF_UNFIT the number of the line is written, from 1. Unless it returns WIRDALF_OK, the
- * configuration is as it was. */
-uint32_t wirdalf_lines(const uint8_t *text, size_t length, struct wirdalf *config, uint64_t *line);
 
 /* The same once more, for another thread: what it holds is shared. WIRDALF_OK or WIRDALF_MEMORY. */
 uint32_t wirdalf_clone(struct wirdalf *config, struct wirdalf *copy);
