@@ -1,0 +1,263 @@
+/*
+ * What bench/clib measures the library in C by.
+ *
+ * clib show < IMAGES: of each image, which stands behind its length in four bytes (the highest first), what pfd show writes.
+ * clib judge FILE < PACKETS: for each line, as way, interface, protocol's number, address, port, address, port, what pfd's judge
+ *     replies, by what the file of a pfd holds.
+ * clib time FILE THREADS ROUNDS < PACKETS: judges the packets so many times in each of so many threads, and writes the nanoseconds of a
+ *     processor that a packet took, one at a time and in arrays of 256.
+ */
+#include <arpa/inet.h>
+#include <inttypes.h>
+#include <pthread.h>
+#include <stdio.h>
+#include <stdlib.h>
+#include <string.h>
+#include <time.h>
+#include <wirdalf.h>
+
+static void stop(const char *why)
+{
+    fprintf(stderr, "clib: %s\n", why);
+    exit(1);
+}
+
+static void *room(size_t size)
+{
+    void *made = malloc(size > 0 ? size : 1);
+
+    if (made == NULL)
+        stop("memory");
+    return made;
+}
+
+static uint32_t fill(FILE *file, uint8_t **bytes, size_t *length)
+{
+    size_t most = 1 << 16, n;
+
+    *bytes = room(most);
+    *length = 0;
+    while ((n = fread(*bytes + *length, 1, most - *length, file)) > 0) {
+        *length += n;
+        if (*length == most && (*bytes = realloc(*bytes, most *= 2)) == NULL)
+            stop("memory");
+    }
+    return 0;
+}
+
+static struct wirdalf made_of(const char *path)
+{
+    struct wirdalf config = WIRDALF_NONE;
+    FILE *file = fopen(path, "rb");
+    uint64_t place = 0;
+    uint32_t result;
+    uint8_t *bytes;
+    size_t length;
+
+    if (file == NULL)
+        stop("input");
+    fill(file, &bytes, &length);
+    fclose(file);
+    result = wirdalf_read(bytes, length, &config, &place);
+    free(bytes);
+    if (result != WIRDALF_OK) {
+        fprintf(stderr, "clib: %" PRIu32 " at %" PRIu64 "\n", result, place);
+        exit(1);
+    }
+    return config;
+}
+
+static uint8_t address_of(const char *text, uint8_t address[16])
+{
+    if (inet_pton(AF_INET, text, address) == 1)
+        return WIRDALF_V4;
+    return inet_pton(AF_INET6, text, address) == 1 ? WIRDALF_V6 : 0;
+}
+
+static struct wirdalf_packet packet_of(const char *line)
+{
+    struct wirdalf_packet packet;
+    char way[4] = "", from[48] = "", to[48] = "";
+
+    memset(&packet, 0, sizeof packet);
+    if (sscanf(line, "%3s %15s %" SCNu8 " %47s %" SCNu16 " %47s %" SCNu16, way, packet.interface, &packet.protocol, from,
+               &packet.source_port, to, &packet.destination_port) != 7)
+        stop("a line that is no packet");
+    packet.way = strcmp(way, "in") == 0 ? WIRDALF_IN : WIRDALF_OUT;
+    packet.family = address_of(from, packet.source);
+    if (address_of(to, packet.destination) != packet.family)
+        packet.family = 0;
+    return packet;
+}
+
+static struct wirdalf_packet *packets_of(FILE *file, size_t *count)
+{
+    struct wirdalf_packet *packets = NULL;
+    char line[256];
+
+    for (*count = 0; fgets(line, sizeof line, file) != NULL; ++*count) {
+        if ((*count & (*count - 1)) == 0 && (packets = realloc(packets, (*count > 0 ? 2 * *count : 1) * sizeof *packets)) == NULL)
+            stop("memory");
+        packets[*count] = packet_of(line);
+    }
+    return packets;
+}
+
+static void show(const uint8_t *bytes, size_t length)
+{
+    static const char *const faults[] = { "", "bad size", "no bank", "corrupt", "memory" };
+    struct wirdalf config = WIRDALF_NONE;
+    struct wirdalf_counts counts;
+    uint64_t place = 0;
+    uint8_t sum[16];
+    uint32_t result = wirdalf_read(bytes, length, &config, &place);
+
+    if (result == WIRDALF_CORRUPT)
+        printf("pfd: corrupt at %" PRIu64 "\n", place);
+    else if (result != WIRDALF_OK)
+        printf("pfd: %s\n", faults[result]);
+    else {
+        wirdalf_counts(&config, &counts);
+        wirdalf_sum(&config, sum);
+        printf("epoch %" PRIu32 "\nsum ", counts.epoch);
+        for (size_t i = 0; i < sizeof sum; i++)
+            printf("%02x", sum[i]);
+        printf("\nrulesets %" PRIu64 "\ntables %" PRIu64 "\nstates %" PRIu64 "\ntick %" PRIu64 "\n", counts.rulesets, counts.tables,
+               counts.states, wirdalf_tick(&config));
+        wirdalf_free(config);
+    }
+    printf(".\n");
+}
+
+static void show_all(void)
+{
+    uint8_t head[4], *bytes;
+
+    while (fread(head, 1, 4, stdin) == 4) {
+        size_t length = (size_t)head[0] << 24 | (size_t)head[1] << 16 | (size_t)head[2] << 8 | head[3];
+
+        bytes = room(length);
+        if (fread(bytes, 1, length, stdin) != length)
+            stop("input");
+        show(bytes, length);
+        free(bytes);
+    }
+}
+
+static void tell(const struct wirdalf_verdict *verdict)
+{
+    const char *action = verdict->action == WIRDALF_PASS ? "pass" : "block";
+
+    if (verdict->by == WIRDALF_BY_NOTHING)
+        printf("no packet\n");
+    else if (verdict->by == WIRDALF_BY_STATE)
+        printf("%s state %" PRIu64 " %" PRIu32 "\n", action, verdict->state_id, verdict->state_creator);
+    else if (verdict->by == WIRDALF_BY_DEFAULT)
+        printf("%s default\n", action);
+    else if (verdict->path_length == 0)
+        printf("%s rule %" PRIu32 "\n", action, verdict->rule);
+    else
+        printf("%s rule %" PRIu32 " at %s\n", action, verdict->rule, verdict->path);
+}
+
+static void judge_all(struct wirdalf *config)
+{
+    size_t count;
+    struct wirdalf_packet *packets = packets_of(stdin, &count);
+    struct wirdalf_verdict *verdicts = room(count * sizeof *verdicts), one;
+
+    if (wirdalf_judge_many(config, packets, count, verdicts, count) != count)
+        stop("fewer were judged");
+    for (size_t i = 0; i < count; i++) {
+        memset(&one, 0xA5, sizeof one);
+        wirdalf_judge(config, &packets[i], &one);
+        if (one.by != verdicts[i].by || one.action != verdicts[i].action || one.rule != verdicts[i].rule
+            || one.state_id != verdicts[i].state_id || strcmp(one.path, verdicts[i].path) != 0)
+            stop("one and many differ");
+        tell(&one);
+    }
+    free(packets);
+    free(verdicts);
+}
+
+struct run {
+    pthread_t thread;
+    struct wirdalf config;
+    const struct wirdalf_packet *packets;
+    size_t count, rounds;
+    double alone, together;
+};
+
+static double seconds(void)
+{
+    struct timespec now;
+
+    clock_gettime(CLOCK_THREAD_CPUTIME_ID, &now);
+    return (double)now.tv_sec + 1e-9 * (double)now.tv_nsec;
+}
+
+static void *measure(void *argument)
+{
+    struct run *run = argument;
+    struct wirdalf_verdict *verdicts = room(run->count * sizeof *verdicts);
+    double begun = seconds();
+
+    for (size_t round = 0; round < run->rounds; round++)
+        for (size_t i = 0; i < run->count; i++)
+            wirdalf_judge(&run->config, &run->packets[i], &verdicts[0]);
+    run->alone = seconds() - begun;
+    begun = seconds();
+    for (size_t round = 0; round < run->rounds; round++)
+        for (size_t i = 0; i < run->count; i += 256)
+            wirdalf_judge_many(&run->config, run->packets + i, run->count - i < 256 ? run->count - i : 256, verdicts, 256);
+    run->together = seconds() - begun;
+    free(verdicts);
+    return NULL;
+}
+
+static void time_all(struct wirdalf *config, size_t threads, size_t rounds)
+{
+    struct run *runs = room(threads * sizeof *runs);
+    double alone = 0, together = 0;
+    size_t count;
+    struct wirdalf_packet *packets = packets_of(stdin, &count);
+
+    for (size_t i = 0; i < threads; i++) {
+        runs[i] = (struct run){ .packets = packets, .count = count, .rounds = rounds };
+        if (wirdalf_clone(config, &runs[i].config) != WIRDALF_OK)
+            stop("memory");
+    }
+    for (size_t i = 0; i < threads; i++)
+        if (pthread_create(&runs[i].thread, NULL, measure, &runs[i]) != 0)
+            stop("threads");
+    for (size_t i = 0; i < threads; i++) {
+        pthread_join(runs[i].thread, NULL);
+        alone += runs[i].alone;
+        together += runs[i].together;
+        wirdalf_free(runs[i].config);
+    }
+    printf("%.1f %.1f\n", 1e9 * alone / (double)(threads * rounds * count), 1e9 * together / (double)(threads * rounds * count));
+    free(packets);
+    free(runs);
+}
+
+int main(int count, char **words)
+{
+    struct wirdalf config;
+
+    if (count == 2 && strcmp(words[1], "show") == 0) {
+        show_all();
+        return 0;
+    }
+    if (count < 3)
+        stop("words");
+    config = made_of(words[2]);
+    if (count == 3 && strcmp(words[1], "judge") == 0)
+        judge_all(&config);
+    else if (count == 5 && strcmp(words[1], "time") == 0)
+        time_all(&config, (size_t)atol(words[3]), (size_t)atol(words[4]));
+    else
+        stop("words");
+    wirdalf_free(config);
+    return 0;
+}

@@ -1,0 +1,6 @@
+mod Configurations
+mod Kept
+mod Many
+mod PacketWords
+mod Values
+mod Verdicts

@@ -1,0 +1,17 @@
+-- What C gets for a fault.
+use Rattle.std.specs.Prelude.{ℕ}
+use Rattle.wirdalf_c.specs.declared.fault.ReadFault.{ReadFault, TheVariants.{BadSize, NoBank, Corrupt, Memory}}
+use Rattle.wirdalf_c.specs.declared.fault.TheConstants.{BAD_SIZE, NO_BANK, CORRUPT, MEMORY}
+
+abbrev pub code_of : ReadFault → ℕ
+code_of BadSize = BAD_SIZE
+code_of NoBank = NO_BANK
+code_of (Corrupt at) = CORRUPT
+code_of Memory = MEMORY
+
+-- the place that it names, and 0 for each other
+abbrev pub place_of : ReadFault → ℕ
+place_of BadSize = 0
+place_of NoBank = 0
+place_of (Corrupt at) = at
+place_of Memory = 0

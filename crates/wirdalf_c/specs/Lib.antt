@@ -1,0 +1,7 @@
+pub mod Answers
+pub mod Codes
+pub mod Held
+pub mod Images
+pub mod Lending
+pub mod Packets
+pub mod Verdicts

@@ -1,0 +1,82 @@
+//! Verdicts, as C gets them.
+ghost use Rattle.std.specs.Prelude.{◌≡◌, ◌<◌, take, Option, None, Some, length};
+ghost use Rattle.pf_core.specs.declared.durable.verdict.Verdict.TheVariants.{State as Stateful, Rules};
+ghost use Rattle.pf_anchor.specs.declared.verdict.RuleVerdict.TheVariants as ruled;
+ghost use Rattle.wirdalf_c.specs.Verdicts.{IsTold};
+
+use crate::record::{
+    BLOCK, BY_DEFAULT, BY_NOTHING, BY_RULE, BY_STATE, PASS, VerdictRecord,
+};
+use pf_addr::path::Path;
+use pf_anchor::RuleVerdict;
+use pf_core::Verdict;
+use pf_rule::Action;
+use pf_state::StateName;
+
+/// Writes a verdict, or that there is none, since no packet was said.
+pub fn tell(verdict: Option<Verdict>, to: &mut VerdictRecord)
+    ensures { IsTold to.new verdict }
+{
+    match verdict {
+        None => tell_short(BY_NOTHING, BLOCK, to),
+        Some(Verdict::State(name)) => tell_state(name, to),
+        Some(Verdict::Rules(RuleVerdict::Default)) => tell_short(BY_DEFAULT, PASS, to),
+        Some(Verdict::Rules(RuleVerdict::Rule {
+            path,
+            number,
+            action,
+        })) => tell_rule(&path, number, action, to),
+    }
+}
+
+// Writes all but what a state or a rule says.
+fn tell_short(by: u8, action: u8, to: &mut VerdictRecord)
+    ensures by { to.new.by ≡ by }
+    ensures action { to.new.action ≡ action }
+{
+    to.state_id = 0;
+    to.state_creator = 0;
+    to.rule = 0;
+    to.by = by;
+    to.action = action;
+    to.keeps_state = 0;
+    to.path_length = 0;
+    to.path[0] = 0;
+}
+
+fn tell_state(name: StateName, to: &mut VerdictRecord)
+    ensures { IsTold to.new (Some (Stateful name)) }
+{
+    tell_short(BY_STATE, PASS, to);
+    to.state_id = name.id;
+    to.state_creator = name.creator;
+}
+
+fn tell_rule(path: &Path, number: u32, action: Action, to: &mut VerdictRecord)
+    ensures { IsTold to.new (Some (Rules (ruled.Rule path.now number action))) }
+{
+    let (does, keeps_state) = match action {
+        Action::Pass { keeps_state: true } => (PASS, 1),
+        Action::Pass { keeps_state: false } => (PASS, 0),
+        Action::Block => (BLOCK, 0),
+    };
+    to.state_id = 0;
+    to.state_creator = 0;
+    to.rule = number;
+    to.by = BY_RULE;
+    to.action = does;
+    to.keeps_state = keeps_state;
+    to.path_length = tell_path(path, &mut to.path);
+}
+
+// Writes a path with a zero after it, and returns how many bytes it has.
+#[tactic(auto, using(crate::proofs::Verdicts::short_path))]
+fn tell_path(path: &Path, to: &mut [u8; 256]) -> u8
+    ensures path { take result to.new ≡ path.now }
+    ensures whole { result ≡ length path.now }
+{
+    let bytes = path.as_bytes();
+    to[..bytes.len()].copy_from_slice(bytes);
+    to[bytes.len()] = 0;
+    bytes.len() as u8
+}
