@@ -1,11 +1,12 @@
 """The agent: it brings a pfd to what etcd says, and tells etcd how far it is.
 
 What is wanted is read whole at the start, and then followed by two watches, each from the revision behind the last one seen. If etcd has
-compacted that revision, all is read again. What there is in pfd is read at the start, then every `--every` seconds, and whenever an answer of
-pfd's is missing; only the difference is changed. So nothing depends on what the agent remembers. A file is loaded by one commit with its mark
-(firewall.py), so that it is loaded once even where an answer was lost.
+compacted that revision, all is read again. What there is in pfd is read at the start, then every `--every` seconds, and whenever an
+answer of pfd's is missing; only the difference is changed. So nothing depends on what the agent remembers. A file is loaded by one commit
+with its mark (firewall.py), so that it is loaded once even where an answer was lost.
 
-Threads: the main one alone talks to pfd, each watch has one that puts what it sees into a queue, and one keeps the lease and writes the report.
+Threads: the main one alone talks to pfd, each watch has one that puts what it sees into a queue, and one keeps the lease and writes the
+report.
 """
 import json
 import os
@@ -20,7 +21,7 @@ from firewall import CONF, OF_ENTRIES, OF_FILE, TABLES, Busy, Fault, Gone, Mark,
 
 # The seconds of a lease, between two attempts, at least between two reports, and at most between two writes of one.
 LEASE, AGAIN, BETWEEN, ANEW = 10, 0.3, 0.1, 30
-# What is watched: from a name up to another. (`first/` has what some hosts take first; a move from there to `conf/` has to be seen as one.)
+# What is watched: from a name up to another. (`first/` has what some hosts take first; a move to `conf/` has to be seen as one.)
 WATCHED = (("conf/", end_of("first/")), ("tables/", end_of("tables/")))
 
 
@@ -35,7 +36,8 @@ def die(told):
 
 
 class Watch(threading.Thread):
-    """Follows some keys, and puts what it sees into a queue: itself, the revision and the keys, or None for the revision if it can't go on."""
+    """Follows some keys, and puts what it sees into a queue: itself, the revision and the keys, or None for the revision if it can't go
+    on."""
 
     def __init__(self, etcd, bounds, revision, seen):
         super().__init__(daemon=True)
@@ -110,6 +112,7 @@ class Agent:
         # the files that were read, by their marks, and what is told
         self.files, self.faults, self.forces, self.epoch, self.sum, self.report = {}, {}, {}, 0, "", ""
         self.looked = self.tried = self.forgiven = 0
+        self.told = ""
         self.teller = Teller(new_etcd(), self)
 
     def run(self):
@@ -121,8 +124,7 @@ class Agent:
                 self.read_all()
                 self.follow()
             except (Unreachable, Refused) as told:
-                say(told)
-                time.sleep(AGAIN)
+                self.wait_for_etcd(told)
 
     def remember(self):
         """Since when the files are in force, and how many there were before, isn't in the marks: the last report had it."""
@@ -131,11 +133,17 @@ class Agent:
                 known = self.etcd.get(f"known/{self.host}")
                 self.forces = json.loads(known.value)["groups"] if known else {}
                 return
-            except Unreachable as told:
-                say(told)
-                time.sleep(AGAIN)
+            except (Unreachable, Refused) as told:
+                self.wait_for_etcd(told)
             except (ValueError, KeyError):
                 return
+
+    def wait_for_etcd(self, told):
+        """Says once that etcd doesn't answer, and waits a little."""
+        if str(told) != self.told:
+            say(told)
+        self.told = str(told)
+        time.sleep(AGAIN)
 
     # ---- what is wanted
 
@@ -145,6 +153,7 @@ class Agent:
             watch.end()
         self.cluster = self.etcd.cluster()
         self.newest, read = self.etcd.read(*(self.etcd.range(*bounds) for bounds in WATCHED))
+        self.told = ""
         self.keys, self.entries, self.strange = {}, {}, {}
         self.take(self.newest, [key for keys in read for key in keys])
         self.changed = dict.fromkeys([*self.entries, *self.claims], self.newest)

@@ -1,7 +1,7 @@
 """A client of etcd, by its JSON gateway (`/v3/kv/txn` and the like, etcd 3.4 and later) and Python's standard library.
 
-The gateway and not etcdctl: a watch is one connection that stays open, a transaction is one request whose answer says which half of it was
-done, and an agent starts no process for each of them.
+The gateway and not etcdctl: a watch is one connection that stays open, a transaction is one request whose answer says which half of it
+was done, and an agent starts no process for each of them.
 
 Reads are linearizable, which is what the gateway does where nothing else is said: what was answered before is seen. A request goes to one
 member after the other until one answers. If none does in time, it may have been done all the same: whoever changes something says by a
@@ -152,8 +152,8 @@ class Etcd:
         return Key(name, decoded(raw.get("value")), *numbers)
 
     def watch(self, start, end, revision):
-        """What becomes of the keys from one name up to another, from this revision on: for each answer its revision and the keys, whose version
-        is 0 where they were deleted. An answer has whole revisions. It ends where the member does, or is silent for long."""
+        """What becomes of the keys from one name up to another, from this revision on: for each answer its revision and the keys, whose
+        version is 0 where they were deleted. An answer has whole revisions. It ends where the member does, or is silent for long."""
         asked = {"key": encoded(self.prefix + start), "range_end": encoded(self.prefix + end), "start_revision": str(revision)}
         self.watching = self.connect(SILENT)
         try:

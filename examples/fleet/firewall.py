@@ -1,21 +1,22 @@
 """What an agent asks of its pfd: lines and replies, the marks, a file in one commit, and the entries of tables.
 
-A mark is an entry of a table that no rule asks, an address of IPv6: in two bytes what it marks, in six the beginning of a checksum, in eight a
-revision of etcd. All marks are below the path `fleet`:
+A mark is an entry of a table that no rule asks, an address of IPv6: in two bytes what it marks, in six the beginning of a checksum, in
+eight a revision of etcd. All marks are below the path `fleet`:
 
 - `fleet/conf`, a table of each group: the revision of its file that is in force. It is defined in the commit that loads the file.
-- `fleet/conf/GROUP`, a table of each name that this file fills, with the same mark from the same commit. So the next file's commit knows which
-  tables go with it.
+- `fleet/conf/GROUP`, a table of each name that this file fills, with the same mark from the same commit. So the next file's commit knows
+  which tables go with it.
 - `fleet/tables`, a table of each name whose entries come one by one: the revision whose entries are there. It is made before the first of
   them, and renewed after each batch. So entries that are gone from etcd are taken out after a crash too.
 
-A `begin` for them makes void what another agent, or this one before a crash, began on them and has not committed. So where a commit was not
-answered, the next one first begins and then reads the mark: the former can't be done any more between these and its own commit.
+A `begin` for them makes void what another agent, or this one before a crash, began on them and has not committed. So where a commit was
+not answered, the next one first begins and then reads the mark: the former can't be done any more between these and its own commit.
 """
 import hashlib
 import ipaddress
 import os
 import re
+import shutil
 import socket
 import subprocess
 import tempfile
@@ -109,14 +110,17 @@ def program():
 
 def read_file(text, name, path):
     """The file, as `examples/pfctl -n` takes it for the ruleset at this path. Fault, with the file's line and word, if it doesn't."""
+    tried_by = shutil.which(program())
+    if not tried_by:
+        raise Fault(f"files are tried by a pfd, and there is none at {program()}; PFD_PROGRAM may name another")
     with tempfile.TemporaryDirectory() as folder:
         place = os.path.join(folder, name)
         os.makedirs(os.path.dirname(place), exist_ok=True)
         with open(place, "w", encoding="utf-8") as it:
             it.write(text)
-        env = {**os.environ, "FLEET_PFD": os.path.abspath(program()) if "/" in program() else program(), "FLEET_WORK": folder}
+        env = {**os.environ, "PFD_PROGRAM": os.path.join(HERE, "as-pfd"), "FLEET_PFD": os.path.abspath(tried_by), "FLEET_WORK": folder}
         words = [os.path.join(HERE, "..", "pfctl"), "-n", "-a", path, "-f", name]
-        ran = subprocess.run(words, cwd=folder, env={**env, "PFD_PROGRAM": os.path.join(HERE, "as-pfd")}, capture_output=True, text=True)
+        ran = subprocess.run(words, cwd=folder, env=env, capture_output=True, text=True, errors="replace")
         if ran.returncode:
             raise Fault((ran.stderr.strip().splitlines() or ["pfctl failed"])[-1].removeprefix("pfctl: "))
         with open(os.path.join(folder, "lines"), encoding="utf-8") as it:
@@ -259,8 +263,8 @@ class Session:
             raise Fault(f"pfd refuses the mark of <{name}>: {meaning(reply)}")
 
     def fill(self, name, wanted, there):
-        """Brings a main table from what is there to what is wanted. What both have is there all the time. Whatever of it is done already, doing
-        it again comes to the same."""
+        """Brings a main table from what is there to what is wanted. What both have is there all the time. Whatever of it is done already,
+        doing it again comes to the same."""
         turned = {it for it in there - wanted if turn(it) in wanted}
         self.change("tdel", name, turned)
         self.change("tadd", name, wanted - there)

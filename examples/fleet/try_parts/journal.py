@@ -1,5 +1,5 @@
-"""What a pfd was told since its file was formatted, read from the file (docs/DISK.md): a second witness, which no crash can fool. The file has to
-be so large that it was never switched to its other bank."""
+"""What a pfd was told since its file was formatted, read from the file (docs/DISK.md): a second witness, which no crash can fool. The
+file has to be so large that it was never switched to its other bank."""
 import ipaddress
 import typing
 
