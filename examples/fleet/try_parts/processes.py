@@ -14,8 +14,8 @@ from firewall import Fault, Gone, Session
 HOSTS, MEMBERS, GROUP = 8, 3, "edge"
 # Of a pfd: its file, so large that it is never switched, and its connections. The most seconds that a fleet may take to be as it should.
 SIZE, WORKERS, PATIENCE = 4 << 20, 8, 90
-# How many seconds late a line comes.
-LATE = 1.0
+# How many seconds late a line comes; how long a begin waits for a line that is to come before it, and such a line for a begin.
+LATE, SHORTLY, LONG = 1.0, 0.1, 8
 
 
 class Process:
@@ -61,12 +61,12 @@ def free_ports(count, chance):
 
 class Way(threading.Thread):
     """The way from an agent to its pfd. `loses` says what is lost next: the connection `before` a line that begins so, the `answer` to
-    it, or the connection so that the line comes `late`."""
+    it, or the connection so that the line comes `late`, some time later, or `between`, right before the agent's next begin."""
 
     def __init__(self, address, port, chance):
         super().__init__(daemon=True)
         self.address, self.chance, self.loses, self.rate = address, chance, None, 0
-        self.lost, self.late = collections.Counter(), []
+        self.lost, self.late, self.held = collections.Counter(), [], None
         self.listener = socket.create_server(("127.0.0.1", port))
 
     def run(self):
@@ -90,15 +90,27 @@ class Way(threading.Thread):
         if ready[0] is server:
             client.sendall(data)
             return bool(data)
+        if data.startswith(b"begin filter") and self.held:
+            self.held.set()
+            time.sleep(SHORTLY)
         how = self.choose(data)
-        if how == "late":
+        if how in ("late", "between"):
             client.close()
-            time.sleep(LATE)
+            self.wait(how)
         if how != "before" and data:
             server.sendall(data)
-        if how in ("late", "answer"):
-            self.late += [(how, data, server.recv(1 << 16).decode().strip())]
+        if how in ("late", "between", "answer"):
+            self.late.append((how, server.recv(1 << 16).decode().strip()))
         return bool(data) and not how
+
+    def wait(self, how):
+        """Holds a line back."""
+        if how == "late":
+            time.sleep(LATE)
+        else:
+            self.held = threading.Event()
+            self.held.wait(LONG)
+            self.held = None
 
     def choose(self, data):
         """What becomes of lines, which come alone where they change something."""
@@ -107,7 +119,7 @@ class Way(threading.Thread):
         if self.loses and self.loses[1] == word:
             (how, _), self.loses = self.loses, None
         elif word in ("commit", "tadd", "tdel", "tset") and self.chance.random() * 100 < self.rate:
-            how = self.chance.choice(("before", "answer", "late"))
+            how = self.chance.choice(("before", "answer", "late", "between"))
         self.lost[how] += bool(how)
         return how
 
@@ -125,7 +137,7 @@ class Fleet:
         self.members = [self.member(at, clients[at], peers) for at in range(MEMBERS)]
         self.pfds = [Process(host, self.serve(host), folder) for host in self.addresses]
         self.agents = [Process(f"agent-{host}", self.agent(host), folder) for host in self.addresses]
-        self.etcd = Etcd(self.endpoints, "/wirdalf/")
+        self.etcd, self.commands = Etcd(self.endpoints, "/wirdalf/"), []
 
     def member(self, at, port, peers):
         cluster = ",".join(f"m{it}=http://127.0.0.1:{peer}" for it, peer in enumerate(peers))
@@ -158,8 +170,12 @@ class Fleet:
 
     def run(self, *words, given=None):
         """A command's status and what it says."""
-        ran = subprocess.run(self.words(*words), input=given, capture_output=True, text=True)
-        return ran.returncode, ran.stdout.strip(), ran.stderr.strip()
+        pipes = dict.fromkeys(("stdin", "stdout", "stderr"), subprocess.PIPE)
+        with subprocess.Popen(self.words(*words), text=True, **pipes) as command:
+            self.commands.append(command)
+            said, told = command.communicate(given)
+            self.commands.remove(command)
+        return command.returncode, said.strip(), told.strip()
 
     def all(self):
         return [*self.members, *self.pfds, *self.agents]
@@ -173,6 +189,8 @@ class Fleet:
     def end(self):
         for process in reversed(self.all()):
             process.kill()
+        for command in list(self.commands):
+            command.kill()
 
     def session(self, host):
         return Session(self.addresses[host])

@@ -10,6 +10,10 @@ from .journal import Commit, Edit, changes_of
 from .processes import GROUP
 
 
+# The label of rules that somebody else commits.
+STRANGER = "stranger"
+
+
 # ---- files
 
 
@@ -116,7 +120,7 @@ def wrong_in_journal(file, files, revisions):
         if isinstance(change, Edit):
             there, is_idle = edited(there, change)
             idle += is_idle
-        elif isinstance(change, Commit):
+        elif isinstance(change, Commit) and "" in change.rules and change.rules[""] != [STRANGER]:
             told, revision = wrong_in_commit(change, last, is_back, files, revisions)
             wrong += [told] if told else []
             commits += 1
