@@ -21,6 +21,8 @@ from firewall import CONF, OF_ENTRIES, OF_FILE, TABLES, Busy, Fault, Gone, Mark,
 
 # The seconds of a lease, between two attempts, at least between two reports, and at most between two writes of one.
 LEASE, AGAIN, BETWEEN, ANEW = 10, 0.3, 0.1, 30
+# What is told of a group of which nothing is in force.
+NOTHING = {"revision": 0, "version": 0, "since": 0}
 # What is watched: from a name up to another. (`first/` has what some hosts take first; a move to `conf/` has to be seen as one.)
 WATCHED = (("conf/", end_of("first/")), ("tables/", end_of("tables/")))
 
@@ -277,8 +279,9 @@ class Agent:
         mark = self.mark_of(*source) if source else None
         if not source or mark in self.files or self.is_refused(group, mark):
             return
+        wanted = [self.mark_of(*it) for it in map(self.source, self.groups) if it]
+        self.files = {it: file for it, file in self.files.items() if it in wanted}
         try:
-            self.files = {it: file for it, file in self.files.items() if it in self.marks.values()}
             self.files[mark] = read_file(source[1], f"conf/{group}", self.groups[group])
         except (Fault, OSError) as told:
             self.refuse(f"conf/{group}", mark, told)
@@ -359,12 +362,12 @@ class Agent:
         """What is in force of a group, and what isn't and why."""
         mark, path, source = self.marks.get(group), self.groups[group], self.source(group)
         wanted = self.mark_of(*source) if source else None
-        force = self.forces.get(group, {})
+        force = self.forces.get(group, NOTHING)
         if not mark and self.looked:
-            force = {"revision": 0, "version": 0, "since": 0}
+            force = NOTHING
         elif mark and force.get("revision") != mark.revision:
             force = {"revision": mark.revision, "version": version_of(source[0]) if mark == wanted else None, "since": int(time.time())}
-        self.forces[group] = force = {it: force.get(it) for it in ("revision", "version", "since")}
+        self.forces[group] = force = {it: force.get(it) for it in NOTHING}
         refused, told = self.faults.get(f"conf/{group}", (None, ""))
         refused, told = (refused, told) if refused == wanted else (None, "")
         if not source:
