@@ -19,8 +19,9 @@ import traceback
 from etcd import Compacted, Refused, Unreachable, end_of
 from firewall import CONF, OF_ENTRIES, OF_FILE, TABLES, Busy, Fault, Gone, Mark, Session, canonical, digest_of, is_name, read_file
 
-# The seconds of a lease, between two attempts, at least between two reports, and at most between two writes of one.
-LEASE, AGAIN, BETWEEN, ANEW = 10, 0.3, 0.1, 30
+# The seconds of a lease, between two attempts, at least between two reports, between two that differ in their entries alone, and at most
+# between two writes of one.
+LEASE, AGAIN, BETWEEN, ENTRIES, ANEW = 10, 0.3, 0.1, 3, 300
 # What is told of a group of which nothing is in force.
 NOTHING = {"revision": 0, "version": 0, "since": 0}
 # What is watched: from a name up to another. (`first/` has what some hosts take first; a move to `conf/` has to be seen as one.)
@@ -63,11 +64,12 @@ class Watch(threading.Thread):
 
 
 class Teller(threading.Thread):
-    """Writes the agent's report to `hosts/HOST`, under a lease that it keeps, and to `known/HOST`, which stays."""
+    """Writes the agent's report to `hosts/HOST`, under a lease that it keeps, and to `known/HOST`, which stays. With many hosts and many
+    bans most of what etcd writes would be reports, so those that tell of entries alone are fewer, and don't go to `known/`."""
 
     def __init__(self, etcd, agent):
         super().__init__(daemon=True)
-        self.etcd, self.agent, self.lease, self.written, self.kept, self.at = etcd, agent, 0, None, 0, 0
+        self.etcd, self.agent, self.lease, self.written, self.kept, self.at = etcd, agent, 0, {}, 0, 0
         self.news = threading.Event()
 
     def run(self):
@@ -76,10 +78,8 @@ class Teller(threading.Thread):
             self.news.clear()
             try:
                 self.tell()
-            except Refused:
-                self.lease = 0
-                self.news.set()
-            except Unreachable:
+            except (Refused, Unreachable) as told:
+                self.lease = 0 if isinstance(told, Refused) else self.lease
                 self.news.set()
                 time.sleep(AGAIN)
             time.sleep(BETWEEN)
@@ -89,16 +89,21 @@ class Teller(threading.Thread):
             self.lease = self.lease if self.etcd.keep(self.lease) else 0
             self.kept = time.monotonic()
         if not self.lease:
-            self.lease, self.written, self.kept = self.etcd.grant(LEASE), None, time.monotonic()
-        report, newest = self.agent.report, self.agent.newest
+            self.lease, self.written, self.kept = self.etcd.grant(LEASE), {}, time.monotonic()
+        report, newest, silent = self.agent.report, self.agent.newest, time.monotonic() - self.at
+        is_news = {**report, "entries": 0} != {**self.written, "entries": 0}
         # (a write whose answer was lost may come late, over a newer one: so each is written again)
-        if report and (report != self.written or time.monotonic() - self.at > ANEW):
-            host = self.agent.host
-            revision, _, _ = self.etcd.txn([self.etcd.put(f"hosts/{host}", report, self.lease), self.etcd.put(f"known/{host}", report)])
-            self.written, self.at = report, time.monotonic()
-            if revision < newest:
-                say("etcd is at an earlier revision than before: all is read")
-                self.agent.seen.put((None, None, ()))
+        if report and (is_news or report != self.written and silent > ENTRIES or silent > ANEW):
+            self.write(report, newest, is_news or silent > ANEW)
+
+    def write(self, report, newest, is_kept):
+        host, text = self.agent.host, json.dumps(report)
+        kept = [self.etcd.put(f"known/{host}", text)] if is_kept else []
+        revision, _, _ = self.etcd.txn([self.etcd.put(f"hosts/{host}", text, self.lease), *kept])
+        self.written, self.at = report, time.monotonic()
+        if revision < newest:
+            say("etcd is at an earlier revision than before: all is read")
+            self.agent.seen.put((None, None, ()))
 
 
 class Agent:
@@ -112,7 +117,7 @@ class Agent:
         # what there is in pfd, and whether that has to be read
         self.marks, self.claims, self.tables, self.filled, self.is_doubtful = {}, {}, {}, {}, True
         # the files that were read, by their marks, and what is told
-        self.files, self.faults, self.forces, self.epoch, self.sum, self.report = {}, {}, {}, 0, "", ""
+        self.files, self.faults, self.forces, self.epoch, self.sum, self.report = {}, {}, {}, 0, "", {}
         self.looked = self.tried = self.forgiven = 0
         self.told = ""
         self.teller = Teller(new_etcd(), self)
@@ -345,14 +350,14 @@ class Agent:
     # ---- what is told
 
     def make_report(self, fault):
-        """What `hosts/HOST` says, in JSON."""
+        """What `hosts/HOST` says."""
         groups = {group: self.state_of(group) for group in self.groups}
         told = [*self.strange.values(), *(told for name, (_, told) in self.faults.items() if name.startswith("tables/"))]
         told += [f"tables/{name}: conf/{self.filled[name]} fills this table" for name in self.names() if name in self.filled]
         entries = max((mark.revision for mark in self.claims.values() if mark), default=0)
-        what = {"address": self.address, "groups": groups, "entries": entries, "epoch": self.epoch, "sum": self.sum}
-        report = json.dumps({**what, "fault": fault, "tables": "; ".join(sorted(told))[:1000]})
-        if fault and json.loads(self.report or "{}").get("fault") != fault:
+        report = {"address": self.address, "groups": groups, "entries": entries, "epoch": self.epoch, "sum": self.sum}
+        report |= {"fault": fault, "tables": "; ".join(sorted(told))[:1000]}
+        if fault and self.report.get("fault") != fault:
             say(fault)
         if report != self.report:
             self.report = report
