@@ -24,6 +24,7 @@ import shutil
 TOP = os.path.dirname(os.path.dirname(os.path.abspath(__file__)))
 MOST_WORDS = 35_000
 LIBRARIES = "/opt/rattle/rlibs"
+SCRIPTS = ("bench", "bench/hostile_parts", "tools", "examples", "examples/fleet")
 FOLDERS = (".ci", "bench", "crates", "docs", "examples", "man", "tools")
 # What looks like a name of the sources and is another's, as pf(4)'s, each with whose it is.
 NOT_OURS = {}
@@ -38,7 +39,7 @@ def text_of(path):
 @functools.cache
 def scripts():
     """The scripts of this repository."""
-    found = [f"{TOP}/pfd", *(it for folder in ("bench", "bench/hostile_parts", "tools", "examples") for it in glob.glob(f"{TOP}/{folder}/*"))]
+    found = [f"{TOP}/pfd", *(it for folder in SCRIPTS for it in glob.glob(f"{TOP}/{folder}/*"))]
     return list(filter(os.path.isfile, found))
 
 
