@@ -4,8 +4,8 @@
 //!   Book.
 //! - `telling`: answers a line for whatever runs commands (`RunCommands`).
 //! - `engine`: the lines of one reader, by a `Book` of `pf_book`, one history over a device.
-//! - `server`: the lines of many readers at once, and peers' streams, by one Book that they share and come to in turn ([`Shared`]). Each
-//!   session judges packets by a seer of its own, and waits for the Book only with its other commands.
+//! - `server`: the lines of many readers at once, and peers' streams, by one Book that they share. Each session judges packets by a seer of
+//!   its own, and waits for the Book only with its other commands.
 //! - `laws`: what follows for a peer's export that a Book is given, and for what replies say to sessions and peers.
 //!
 //! The crate knows no text of a command or a reply, which are `pf_line`'s, but `err gone`. It doesn't judge, compare, change or keep
@@ -27,4 +27,4 @@ mod telling;
 
 pub use engine::serve_alone;
 pub use line_engine::EngineFault;
-pub use server::{Gate, OpenGate, Shared, serve, serve_from, serve_peer, serve_peer_from};
+pub use server::{Gate, OpenGate, serve, serve_from, serve_peer, serve_peer_from};

@@ -1,7 +1,5 @@
 //! The server: sessions and peers' streams over one Book that all of them share, for any reader and writer.
 //!
-//! - `turns`: callers served in the order in which they came.
-//! - `shared`: a Book under a lock, to which callers come in turn.
 //! - `gate`: what a session passes before each line.
 //! - `caller`: what a session and a stream call.
 //! - `session`: a session's lines, by the Book and the session's seer.
@@ -10,11 +8,8 @@
 mod caller;
 mod gate;
 mod session;
-mod shared;
 mod stream;
-mod turns;
 
 pub use gate::{Gate, OpenGate};
 pub use session::{serve, serve_from};
-pub use shared::Shared;
 pub use stream::{serve_peer, serve_peer_from};

@@ -29,7 +29,7 @@ mod program;
 
 pub use accepting::Accept;
 pub use listener::serve_listener;
-pub use pf_book::{Book, Chapter, Disk, FuseDisk, MemDisk, Opening, Receipt, Seer, format};
+pub use pf_book::{Book, Chapter, Disk, FuseDisk, MemDisk, Opening, Receipt, Seer, Shared, format};
 pub use pf_session::{
     EngineFault, Gate, OpenGate, line_engine, serve, serve_alone, serve_from, serve_peer,
     serve_peer_from,
@@ -39,6 +39,3 @@ pub use program::{
     HISTORY_LIMIT, MEMORY_SIZE, MOST_HISTORY, MOST_WORKERS, WORKERS, open_fresh, run_process,
     start, without_words,
 };
-
-/// A Book over a [`Shower`](pf_book::Shower) that sessions and peers' streams share, to which they come in turn.
-pub type Shared<D, J, R> = pf_session::Shared<D, J, pf_book::Shower<J, R>>;

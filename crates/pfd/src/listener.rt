@@ -2,8 +2,9 @@
 ghost use Rattle.std.specs.Prelude.{◌≡◌, ◌⊎◌, IfErr};
 
 use crate::accepting::{Accept, Acceptor};
+use pf_book::shared::Shared;
 use pf_book::{Chapter, Disk, Publisher, Seer};
-use pf_session::{EngineFault, Gate, Shared, serve, serve_peer};
+use pf_session::{EngineFault, Gate, serve, serve_peer};
 use std::alloc::Global;
 use std::io::{self, BufWriter, ErrorKind, Read};
 use std::net::{Shutdown, TcpListener, TcpStream};

@@ -2,7 +2,7 @@
 ghost use Rattle.std.specs.Option.{option_copied};
 ghost use Rattle.pf_book.specs.{Groups.{IsGroupAnswered, told}, Receipts.IsAnswered};
 
-use crate::server::shared::Shared;
+use pf_book::shared::Shared;
 use pf_book::{Chapter, Disk, Publisher, Receipt};
 use pf_core::{Command, Refusal, Reply};
 use std::sync::Wait;

@@ -8,9 +8,9 @@ ghost use Rattle.pf_session.specs.{LineEngine.Sessions.IsSession, Server.{Sittin
 use crate::line_engine::{self, AnswerLine, EngineFault};
 use crate::server::caller::{CallBook, Caller};
 use crate::server::gate::Gate;
-use crate::server::shared::Shared;
 use crate::telling::{RunCommands, answer, tell};
 use pf_addr::write_text;
+use pf_book::shared::Shared;
 use pf_book::{Chapter, Disk, Gone, Publisher, Receipt, Seer, learn_from};
 use pf_core::{Command, Question, Reply};
 use pf_line::write_judged;

@@ -10,8 +10,8 @@ ghost use Rattle.pf_session.specs.Server.Streams.{IsStream, RunsAll, RunsFed, Ru
 
 use crate::line_engine::EngineFault;
 use crate::server::caller::{CallBook, Caller};
-use crate::server::shared::Shared;
 use crate::telling::refuse;
+use pf_book::shared::Shared;
 use pf_book::{Chapter, Disk, Publisher, Receipt};
 use pf_core::{Command, GROUP_LIMIT, Refusal, Reply, StateCommand};
 use pf_line::write_reply;
