@@ -101,7 +101,7 @@ class Program:
             said = self.process.stderr.read()
         status = self.process.wait()
         self.watch.cancel()
-        return status, "".join(line for line in said.decode().splitlines(keepends=True) if not line.startswith("pfd: the disk is "))
+        return status, said.decode()
 
 
 class Play:

@@ -2,8 +2,7 @@
 ghost use Rattle.std.specs.Prelude.{◌≡◌, ◌⊎◌, IfErr};
 
 use crate::accepting::{Accept, Acceptor};
-use pf_book::shared::Shared;
-use pf_book::{Chapter, Disk, Publisher, Seer};
+use pf_book::{Chapter, Disk, Seer, Shared};
 use pf_session::{EngineFault, Gate, serve, serve_peer};
 use std::alloc::Global;
 use std::io::{self, BufWriter, ErrorKind, Read};
@@ -68,11 +67,11 @@ fn drop_rest(stream: &TcpStream) {
 }
 
 // Serves a connection to its end.
-fn serve_connection<W: Wait, D: Disk + Drop, J: Chapter, S: Publisher<J> + Drop, G: Gate>(
+fn serve_connection<W: Wait, D: Disk + Drop, J: Chapter, H: Wait + Drop, G: Gate>(
     rt: &W,
     alloc: Global,
     stream: &TcpStream,
-    shared: &Shared<D, J, S>,
+    shared: &Shared<D, J, H>,
     seer: &mut Seer<J>,
     gate: &G,
     session: u32,
@@ -120,14 +119,14 @@ trait ServeConnection<J: Chapter> {
 
 /// What serves connections by one Book. Workers needn't name a device, nor what waits.
 #[derive(Clone, Copy)]
-struct Server<'a, W: Wait, D: Disk + Drop, J: Chapter, S: Publisher<J> + Drop, G: Gate> {
+struct Server<'a, W: Wait, D: Disk + Drop, J: Chapter, H: Wait + Drop, G: Gate> {
     rt: &'a W,
-    shared: &'a Shared<D, J, S>,
+    shared: &'a Shared<D, J, H>,
     gate: &'a G,
 }
 
-impl<'a, W: Wait, D: Disk + Drop, J: Chapter, S: Publisher<J> + Drop, G: Gate> ServeConnection<J>
-    for Server<'a, W, D, J, S, G> {
+impl<'a, W: Wait, D: Disk + Drop, J: Chapter, H: Wait + Drop, G: Gate> ServeConnection<J>
+    for Server<'a, W, D, J, H, G> {
     fn serve_connection(
         &self,
         alloc: Global,
@@ -219,13 +218,13 @@ pub fn serve_listener<
     A: Accept<Connection = TcpStream> + Sync,
     D: Disk + Drop + Send,
     J: Chapter + Send + Sync,
-    S: Publisher<J> + Drop + Send,
+    H: Wait + Drop + Send + Sync,
     G: Gate + Sync,
 >(
     rt: &M,
     alloc: Global,
     listener: &A,
-    shared: &Shared<D, J, S>,
+    shared: &Shared<D, J, H>,
     seers: Vec<Seer<J>>,
     gate: &G,
     sessions: u32,
