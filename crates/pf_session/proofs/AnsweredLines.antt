@@ -88,7 +88,7 @@ module _ {S : Type 0} (Takes : List ℕ → S → S → List ℕ → Type 0) whe
 
   -- ---- lines behind lines
 
-  answered-behind : {xs ys : List (List ℕ)} {a b c : S} {h i j : Option (List ℕ)} → Answered (Chain Takes) xs a b h i → Answered (Chain Takes) ys b c i j → Answered (Chain Takes) (xs ++ ys) a c h j
+  pub answered-behind : {xs ys : List (List ℕ)} {a b c : S} {h i j : Option (List ℕ)} → Answered (Chain Takes) xs a b h i → Answered (Chain Takes) ys b c i j → Answered (Chain Takes) (xs ++ ys) a c h j
   answered-behind {xs} {ys} {a} {b} {c} {h} {i} {j} p q = record {
     text = p.text ++ q.text;
     served = chain-then Takes a b c xs ys p.text q.text p.served q.served;
@@ -111,7 +111,7 @@ module _ {S : Type 0} (Takes : List ℕ → S → S → List ℕ → Type 0) whe
     front = q.front;
   }
 
-  cut-longer : {xs : List (List ℕ)} (more : List (List ℕ)) {a b : S} {h i : Option (List ℕ)} → CutOff (Chain Takes) xs a b h i → CutOff (Chain Takes) (xs ++ more) a b h i
+  pub cut-longer : {xs : List (List ℕ)} (more : List (List ℕ)) {a b : S} {h i : Option (List ℕ)} → CutOff (Chain Takes) xs a b h i → CutOff (Chain Takes) (xs ++ more) a b h i
   cut-longer {xs} more q = record {
     earlier = q.earlier;
     last = q.last;
@@ -150,6 +150,21 @@ module _ {S : Type 0} (Takes : List ℕ → S → S → List ℕ → Type 0) whe
     pub all-taken : {A E : Type 0} (r : Result A E) {lines : List (List ℕ)} {a b : S} {w : Q} {h i : Option (List ℕ)} → Waits [] w → Answers (Chain Takes) r lines a b h i → TakesSome (Chain Takes) Waits r lines a b w h i
     all-taken (Ok x) {lines} none all = record { earlier = lines; others = []; lines_are = sym (append-nil lines); answered = all; waits = none }
     all-taken (Err e) none cut = cut
+
+    -- these were answered, and then those taken
+    pub taken-then : {A E : Type 0} (r : Result A E) {lines more : List (List ℕ)} {a b c : S} {w : Q} {h i j : Option (List ℕ)} → Answered (Chain Takes) lines a b h i → TakesSome (Chain Takes) Waits r more b c w i j → TakesSome (Chain Takes) Waits r (lines ++ more) a c w h j
+    taken-then (Ok x) {lines} {more} p t = record {
+      earlier = lines ++ t.earlier;
+      others = t.others;
+      lines_are = ap (λ (l : List (List ℕ)). lines ++ l) t.lines_are ∙ sym (append_assoc lines t.earlier t.others);
+      answered = answered-behind p t.answered;
+      waits = t.waits;
+    }
+    taken-then (Err e) p cut = let failed : Result ℕ ℕ = Err 0 in answers-behind failed p cut
+
+    -- none was answered yet
+    pub still-waiting : {lines : List (List ℕ)} (state : S) {w : Q} (held : Option (List ℕ)) → Waits lines w → Taken (Chain Takes) Waits lines state state w held held
+    still-waiting {lines} state held waits = record { earlier = []; others = lines; lines_are = refl; answered = record { text = []; served = chain-none Takes state; written = Appends-nil held }; waits = waits }
 
     taken-behind : {lines more : List (List ℕ)} {a b c : S} {w w' : Q} {h i j : Option (List ℕ)} (t : Taken (Chain Takes) Waits lines a b w h i) → Taken (Chain Takes) Waits (t.others ++ more) b c w' i j → Taken (Chain Takes) Waits (lines ++ more) a c w' h j
     taken-behind {lines} {more} t u = record {

@@ -1,13 +1,14 @@
 -- Lines of a session whose commands are run one after the other, or as a group.
-use Rattle.std.proofs.{Common.{◌≡◌, ◌∙◌, ℕ, zero, suc, ◌+◌, ◌<◌, List, [], ◌∷◌, ◌++◌, length, Bool, true, Option, Some, None, Result, Ok, Err, IfErr, inl, inr, refl, sym, ap, subst, append_assoc, append-nil, arith, length-append}, KnownBytes.{Appends-nil, Appends-trans}}
+use Rattle.std.proofs.{Common.{◌≡◌, ◌∙◌, ℕ, zero, suc, ◌+◌, ◌<◌, List, [], ◌∷◌, ◌++◌, length, Bool, true, Option, Some, None, Result, Ok, Err, inl, inr, refl, sym, ap, subst, append_assoc, append-nil, arith, length-append}, KnownBytes.{Appends-nil, Appends-trans}}
 use Rattle.std.specs.Io.KnownBytes.{Appends}
 use Rattle.pf_addr.specs.Writing.{Writes, WritesFront}
 use Rattle.pf_core.specs.declared.{command.Command.Command, command.Command.TheVariants.{Transact, Edit, States, Ask, History}, reply.Refusal.Refusal, reply.Refusal.TheVariants.Fault, reply.Reply.TheVariants.Refused}
 use Rattle.pf_core.specs.{Commands.may_be_grouped, Durable.Changes.PlainDurable, Worlds.{Setting, log_of, heard_group}}
-use Rattle.pf_line.specs.{Lines.{Parses, line_at, Refused as IsRefusal}, Reply.Replies.reply_text}
+use Rattle.pf_line.specs.{Grammar.Spoken, Lines.{Means, Parses, line_at}, Reply.Replies.reply_text}
 use Rattle.pf_book.specs.{Groups.{Answered as Receipted, IsGroupAnswered, replies_of}, Receipts.PlainReceipt}
 use Rattle.pf_session.specs.declared.server.session.Session.{Session}
 use Rattle.pf_session.specs.{LineEngine.{Chains.Chain, Lines.seen, Sessions.{Answered, CutOff}}, Server.{Sittings.{IsAnsweredInGroup, Keeps, RunsBy, Sitting, at_next_line, next_line, packet_in}, SessionRuns.{AreMeant, HavePassed, IsMeant, IsSame, TakesInSession, sitting}, Streams.last_receipt}}
+use Rattle.pf_session.specs.Laws.Seeing.{seen-says}
 use Rattle.pf_session.proofs.{Chains.{chain-none, chain-one, chain-then}, Places.as-many, Sitting.{same-still, same-then}}
 
 -- ---- what lines mean
@@ -36,6 +37,20 @@ meant-more [] [] line c all one = (one, tt)
 meant-more [] (k ∷ commands) line c all one = absurd all
 meant-more (l ∷ lines) [] line c all one = absurd all
 meant-more (l ∷ lines) (k ∷ commands) line c all one = (all.0, meant-more lines commands line c all.1 one)
+
+-- what isn't looked at of a line makes no difference
+pub meant-seen : (line whole : List ℕ) (c : Command) → line ≡ seen whole → IsMeant line c → IsMeant whole c
+meant-seen line whole c is meant = record {
+  means = subst (λ (said : Result (Option Spoken) Refusal). Means said (Ok (Some c))) (ap line_at is ∙ seen-says whole) meant.means;
+  unjudged = meant.unjudged;
+}
+
+-- what was read of a line is meant
+pub read-meant : (line : List ℕ) (said : Result (Option Command) Refusal) (c : Command) → Parses said (line_at line) → said ≡ Ok (Some c) → packet_in c ≡ None → IsMeant line c
+read-meant line said c parses is unjudged = by (subst (λ (r : Result (Option Command) Refusal). Parses r (line_at line)) is parses) where
+  by : Parses (Ok (Some c)) (line_at line) → IsMeant line c
+  by (inl means) = record { means = means; unjudged = unjudged }
+  by (inr none) = absurd (cc (none))
 
 -- what a group may have is no question
 pub grouped-unjudged : (c : Command) → may_be_grouped c ≡ true → packet_in c ≡ None

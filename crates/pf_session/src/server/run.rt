@@ -57,16 +57,15 @@ impl<'a, C: CallBook<J>, J: Chapter, G: Gate> Session<'a, C, J, G> {
         waiting: &mut Vec<Command>,
         writer: &mut O,
     ) -> io::Result<()>
-        ensures { (lines : List (List ℕ)) (line : List ℕ) → AreMeant lines waiting.old.items → Parses said (line_at line) → IfErr said (IsRefusal line) →
-            TakesSome (Chain (TakesInSession G.passed J.base J.setting)) (λ ls commands. AreMeant ls commands.items) result (lines ++ line ∷ [])
+        ensures { (lines : List (List ℕ)) (line whole : List ℕ) → AreMeant lines waiting.old.items → Parses said (line_at line) → IfErr said (IsRefusal line)
+            → line ≡ seen whole → TakesSome (Chain (TakesInSession G.passed J.base J.setting)) (λ ls commands. AreMeant ls commands.items) result (lines ++ whole ∷ [])
             self.old self.new waiting.new (O.contents writer.old) (O.contents writer.new) }
     {
         self.answer_waiting(alloc, waiting, writer)?;
         self.answer_alone(said, writer)
     }
 
-    /// Lets the command of a line wait. Those that waited are answered first if they are as many as a group may have, or if there is no
-    /// memory for one more; then this one is answered too.
+    /// Lets the command of a line wait. If as many wait as a group may have, they are answered first.
     pub(super) fn let_wait<O: Write>(
         &mut self,
         alloc: Global,
@@ -74,13 +73,29 @@ impl<'a, C: CallBook<J>, J: Chapter, G: Gate> Session<'a, C, J, G> {
         waiting: &mut Vec<Command>,
         writer: &mut O,
     ) -> io::Result<()>
-        ensures { (lines : List (List ℕ)) (line : List ℕ) → AreMeant lines waiting.old.items → IsMeant line command →
-            TakesSome (Chain (TakesInSession G.passed J.base J.setting)) (λ ls commands. AreMeant ls commands.items) result (lines ++ line ∷ [])
+        ensures { (lines : List (List ℕ)) (line whole : List ℕ) → AreMeant lines waiting.old.items → IsMeant line command → line ≡ seen whole
+            → TakesSome (Chain (TakesInSession G.passed J.base J.setting)) (λ ls commands. AreMeant ls commands.items) result (lines ++ whole ∷ [])
             self.old self.new waiting.new (O.contents writer.old) (O.contents writer.new) }
     {
-        if waiting.len() >= GROUP_LIMIT {
-            self.answer_waiting(alloc, waiting, writer)?;
+        if waiting.len() < GROUP_LIMIT {
+            return self.hold(alloc, command, waiting, writer);
         }
+        self.answer_waiting(alloc, waiting, writer)?;
+        self.hold(alloc, command, waiting, writer)
+    }
+
+    // The same, however many wait. If there is no memory for one more, they are answered, and then this one.
+    fn hold<O: Write>(
+        &mut self,
+        alloc: Global,
+        command: Command,
+        waiting: &mut Vec<Command>,
+        writer: &mut O,
+    ) -> io::Result<()>
+        ensures { (lines : List (List ℕ)) (line whole : List ℕ) → AreMeant lines waiting.old.items → IsMeant line command → line ≡ seen whole
+            → TakesSome (Chain (TakesInSession G.passed J.base J.setting)) (λ ls commands. AreMeant ls commands.items) result (lines ++ whole ∷ [])
+            self.old self.new waiting.new (O.contents writer.old) (O.contents writer.new) }
+    {
         match waiting.push(command) {
             Ok(()) => Ok(()),
             Err(failed) => self.answer_behind(alloc, Ok(Some(failed.value)), waiting, writer),
