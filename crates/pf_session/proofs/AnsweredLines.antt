@@ -95,9 +95,8 @@ module _ {S : Type 0} (Takes : List ℕ → S → S → List ℕ → Type 0) whe
     written = Appends-trans h i j p.text q.text p.written q.written;
   }
 
-  pub answers-behind : {A E : Type 0} (r : Result A E) {xs ys : List (List ℕ)} {a b c : S} {h i j : Option (List ℕ)} → Answered (Chain Takes) xs a b h i → Answers (Chain Takes) r ys b c i j → Answers (Chain Takes) r (xs ++ ys) a c h j
-  answers-behind (Ok x) p q = answered-behind p q
-  answers-behind (Err e) {xs} {ys} p q = record {
+  pub cut-behind : {xs ys : List (List ℕ)} {a b c : S} {h i j : Option (List ℕ)} → Answered (Chain Takes) xs a b h i → CutOff (Chain Takes) ys b c i j → CutOff (Chain Takes) (xs ++ ys) a c h j
+  cut-behind {xs} p q = record {
     earlier = xs ++ q.earlier;
     last = q.last;
     others = q.others;
@@ -112,7 +111,7 @@ module _ {S : Type 0} (Takes : List ℕ → S → S → List ℕ → Type 0) whe
   }
 
   pub cut-longer : {xs : List (List ℕ)} (more : List (List ℕ)) {a b : S} {h i : Option (List ℕ)} → CutOff (Chain Takes) xs a b h i → CutOff (Chain Takes) (xs ++ more) a b h i
-  cut-longer {xs} more q = record {
+  cut-longer more q = record {
     earlier = q.earlier;
     last = q.last;
     others = q.others ++ more;
@@ -126,10 +125,14 @@ module _ {S : Type 0} (Takes : List ℕ → S → S → List ℕ → Type 0) whe
     front = q.front;
   }
 
+  pub answers-behind : {A E : Type 0} (r : Result A E) {xs : List (List ℕ)} (ys : List (List ℕ)) {a b : S} (c : S) {h i : Option (List ℕ)} (j : Option (List ℕ)) → Answered (Chain Takes) xs a b h i → Answers (Chain Takes) r ys b c i j → Answers (Chain Takes) r (xs ++ ys) a c h j
+  answers-behind (Ok x) ys c j p q = answered-behind p q
+  answers-behind (Err e) {xs} ys c j p q = cut-behind p q
+
   -- one line by itself
-  pub line-answers : {A E : Type 0} (r : Result A E) {a b : S} {h i : Option (List ℕ)} (line text : List ℕ) → Takes line a b text → Writes r h i text → Answers (Chain Takes) r (line ∷ []) a b h i
-  line-answers (Ok x) {a} {b} line text takes written = record { text = text; served = chain-one Takes a b line text takes; written = written }
-  line-answers (Err e) {a} {b} {h} {i} line text takes front = record {
+  pub line-answers : {A E : Type 0} (r : Result A E) {a b : S} (h i : Option (List ℕ)) (line text : List ℕ) → Takes line a b text → Writes r h i text → Answers (Chain Takes) r (line ∷ []) a b h i
+  line-answers (Ok x) {a} {b} h i line text takes written = record { text = text; served = chain-one Takes a b line text takes; written = written }
+  line-answers (Err e) {a} {b} h i line text takes front = record {
     earlier = [];
     last = line ∷ [];
     others = [];
@@ -147,27 +150,27 @@ module _ {S : Type 0} (Takes : List ℕ → S → S → List ℕ → Type 0) whe
 
   module _ {Q : Type 0} (Waits : List (List ℕ) → Q → Type 0) where
     -- all were answered
-    pub all-taken : {A E : Type 0} (r : Result A E) {lines : List (List ℕ)} {a b : S} {w : Q} {h i : Option (List ℕ)} → Waits [] w → Answers (Chain Takes) r lines a b h i → TakesSome (Chain Takes) Waits r lines a b w h i
-    all-taken (Ok x) {lines} none all = record { earlier = lines; others = []; lines_are = sym (append-nil lines); answered = all; waits = none }
-    all-taken (Err e) none cut = cut
+    pub all-taken : {A E : Type 0} (r : Result A E) (lines : List (List ℕ)) (a b : S) (w : Q) (h i : Option (List ℕ)) → Waits [] w → Answers (Chain Takes) r lines a b h i → TakesSome (Chain Takes) Waits r lines a b w h i
+    all-taken (Ok x) lines a b w h i none all = record { earlier = lines; others = []; lines_are = sym (append-nil lines); answered = all; waits = none }
+    all-taken (Err e) lines a b w h i none cut = cut
 
     -- these were answered, and then those taken
-    pub taken-then : {A E : Type 0} (r : Result A E) {lines more : List (List ℕ)} {a b c : S} {w : Q} {h i j : Option (List ℕ)} → Answered (Chain Takes) lines a b h i → TakesSome (Chain Takes) Waits r more b c w i j → TakesSome (Chain Takes) Waits r (lines ++ more) a c w h j
-    taken-then (Ok x) {lines} {more} p t = record {
+    pub taken-then : {A E : Type 0} (r : Result A E) {lines : List (List ℕ)} (more : List (List ℕ)) {a b : S} (c : S) (w : Q) {h i : Option (List ℕ)} (j : Option (List ℕ)) → Answered (Chain Takes) lines a b h i → TakesSome (Chain Takes) Waits r more b c w i j → TakesSome (Chain Takes) Waits r (lines ++ more) a c w h j
+    taken-then (Ok x) {lines} more c w j p t = record {
       earlier = lines ++ t.earlier;
       others = t.others;
       lines_are = ap (λ (l : List (List ℕ)). lines ++ l) t.lines_are ∙ sym (append_assoc lines t.earlier t.others);
       answered = answered-behind p t.answered;
       waits = t.waits;
     }
-    taken-then (Err e) p cut = let failed : Result ℕ ℕ = Err 0 in answers-behind failed p cut
+    taken-then (Err e) more c w j p cut = cut-behind p cut
 
     -- none was answered yet
     pub still-waiting : {lines : List (List ℕ)} (state : S) {w : Q} (held : Option (List ℕ)) → Waits lines w → Taken (Chain Takes) Waits lines state state w held held
     still-waiting {lines} state held waits = record { earlier = []; others = lines; lines_are = refl; answered = record { text = []; served = chain-none Takes state; written = Appends-nil held }; waits = waits }
 
-    taken-behind : {lines more : List (List ℕ)} {a b c : S} {w w' : Q} {h i j : Option (List ℕ)} (t : Taken (Chain Takes) Waits lines a b w h i) → Taken (Chain Takes) Waits (t.others ++ more) b c w' i j → Taken (Chain Takes) Waits (lines ++ more) a c w' h j
-    taken-behind {lines} {more} t u = record {
+    taken-behind : {lines : List (List ℕ)} (more : List (List ℕ)) {a b c : S} {w w' : Q} {h i j : Option (List ℕ)} (t : Taken (Chain Takes) Waits lines a b w h i) → Taken (Chain Takes) Waits (t.others ++ more) b c w' i j → Taken (Chain Takes) Waits (lines ++ more) a c w' h j
+    taken-behind {lines} more t u = record {
       earlier = t.earlier ++ u.earlier;
       others = u.others;
       lines_are = ap (λ (l : List (List ℕ)). l ++ more) t.lines_are ∙ append_assoc t.earlier t.others more ∙ ap (λ (l : List (List ℕ)). t.earlier ++ l) u.lines_are ∙ sym (append_assoc t.earlier u.earlier u.others);
@@ -175,11 +178,10 @@ module _ {S : Type 0} (Takes : List ℕ → S → S → List ℕ → Type 0) whe
       waits = u.waits;
     }
 
-    cut-behind : {E : Type 0} (e : E) {lines more : List (List ℕ)} {a b c : S} {w : Q} {h i j : Option (List ℕ)} (t : Taken (Chain Takes) Waits lines a b w h i) → CutOff (Chain Takes) (t.others ++ more) b c i j → CutOff (Chain Takes) (lines ++ more) a c h j
-    cut-behind e {lines} {more} {a} {b} {c} {w} {h} {i} {j} t cut =
-        let failed : Result ℕ ℕ = Err 0 in
+    taken-cut : {lines : List (List ℕ)} (more : List (List ℕ)) {a b c : S} {w : Q} {h i j : Option (List ℕ)} (t : Taken (Chain Takes) Waits lines a b w h i) → CutOff (Chain Takes) (t.others ++ more) b c i j → CutOff (Chain Takes) (lines ++ more) a c h j
+    taken-cut {lines} more {a = a} {c = c} {h = h} {j = j} t cut =
         let whole : t.earlier ++ (t.others ++ more) ≡ lines ++ more = sym (ap (λ (l : List (List ℕ)). l ++ more) t.lines_are ∙ append_assoc t.earlier t.others more) in
-        subst (λ (ls : List (List ℕ)). CutOff (Chain Takes) ls a c h j) whole (answers-behind failed t.answered cut)
+        subst (λ (ls : List (List ℕ)). CutOff (Chain Takes) ls a c h j) whole (cut-behind t.answered cut)
 
     -- the whole lines of the input were taken, and as much as is looked at is kept of the rest
     pub record TakenSoFar (input kept : List ℕ) (old new : S) (waiting : Q) (held held' : Option (List ℕ)) : Type 0 where
@@ -189,8 +191,8 @@ module _ {S : Type 0} (Takes : List ℕ → S → S → List ℕ → Type 0) whe
       pub kept_is : kept ≡ seen rest
       pub taken : Taken (Chain Takes) Waits lines old new waiting held held'
 
-    pub wait-begun : {text kept : List ℕ} {a b : S} {w : Q} {h i : Option (List ℕ)} → Waits [] w → SessionSoFar (Chain Takes) text kept a b h i → TakenSoFar text kept a b w h i
-    wait-begun none s = record {
+    pub wait-begun : {text kept : List ℕ} {a b : S} (w : Q) {h i : Option (List ℕ)} → Waits [] w → SessionSoFar (Chain Takes) text kept a b h i → TakenSoFar text kept a b w h i
+    wait-begun w none s = record {
       lines = s.lines;
       rest = s.rest;
       cut = s.cut;
@@ -201,31 +203,25 @@ module _ {S : Type 0} (Takes : List ℕ → S → S → List ℕ → Type 0) whe
     pub byte-taken : {text kept kept' : List ℕ} {a b : S} {w : Q} {h i : Option (List ℕ)} (byte : ℕ) → byte ≢ newline → ((rest : List ℕ) → kept ≡ seen rest → kept' ≡ seen (rest ++ byte ∷ [])) → TakenSoFar text kept a b w h i → TakenSoFar (text ++ byte ∷ []) kept' a b w h i
     byte-taken byte other more s = record { lines = s.lines; rest = s.rest ++ byte ∷ []; cut = cut-byte byte other s.cut; kept_is = more s.rest s.kept_is; taken = s.taken }
 
-    -- what `take_line` ensures
-    abbrev pub TakesNext : {A E : Type 0} → Result A E → List ℕ → S → S → Q → Q → Option (List ℕ) → Option (List ℕ) → Type 0
-    TakesNext r kept a b w w' h i = (lines : List (List ℕ)) (whole : List ℕ) → Waits lines w → kept ≡ seen whole → TakesSome (Chain Takes) Waits r (lines ++ whole ∷ []) a b w' h i
-
-    pub line-taken : {A E : Type 0} (x : A) {text kept : List ℕ} {a b : S} (c : S) {w : Q} (w' : Q) {h i : Option (List ℕ)} (j : Option (List ℕ)) → TakesNext {E = E} (Ok x) kept b c w w' i j → TakenSoFar text kept a b w h i → TakenSoFar (text ++ newline ∷ []) [] a c w' h j
-    line-taken x c w' j next s = record {
+    pub line-taken : {text kept : List ℕ} {a b : S} (c : S) {w : Q} (w' : Q) {h i : Option (List ℕ)} (j : Option (List ℕ))
+        → ((lines : List (List ℕ)) (whole : List ℕ) → Waits lines w → kept ≡ seen whole → Taken (Chain Takes) Waits (lines ++ whole ∷ []) b c w' i j) → TakenSoFar text kept a b w h i → TakenSoFar (text ++ newline ∷ []) [] a c w' h j
+    line-taken c w' j next s = record {
       lines = s.lines ++ s.rest ∷ [];
       rest = [];
       cut = cut-newline s.cut;
       kept_is = refl;
-      taken = taken-behind s.taken (next s.taken.others s.rest s.taken.waits s.kept_is);
+      taken = taken-behind (s.rest ∷ []) s.taken (next s.taken.others s.rest s.taken.waits s.kept_is);
     }
 
-    pub line-failed : {A E : Type 0} (e : E) {text kept : List ℕ} (more : List ℕ) {a b : S} (c : S) {w : Q} (w' : Q) {h i : Option (List ℕ)} (j : Option (List ℕ)) → TakesNext {A = A} (Err e) kept b c w w' i j → TakenSoFar text kept a b w h i
-        → Failed (Chain Takes) ((text ++ newline ∷ []) ++ more) a c h j
-    line-failed e more c w' j next s =
+    pub line-failed : {text kept : List ℕ} (more : List ℕ) {a b : S} (c : S) {w : Q} {h i : Option (List ℕ)} (j : Option (List ℕ))
+        → ((lines : List (List ℕ)) (whole : List ℕ) → Waits lines w → kept ≡ seen whole → CutOff (Chain Takes) (lines ++ whole ∷ []) b c i j) → TakenSoFar text kept a b w h i → Failed (Chain Takes) ((text ++ newline ∷ []) ++ more) a c h j
+    line-failed more c j next s =
         let (others, rest, cut) = cut-more more (cut-newline s.cut) in
-        record { lines = (s.lines ++ s.rest ∷ []) ++ others; rest = rest; cut = cut; cut_off = cut-longer others (cut-behind e s.taken (next s.taken.others s.rest s.taken.waits s.kept_is)) }
+        record { lines = (s.lines ++ s.rest ∷ []) ++ others; rest = rest; cut = cut; cut_off = cut-longer others (taken-cut (s.rest ∷ []) s.taken (next s.taken.others s.rest s.taken.waits s.kept_is)) }
 
-    -- what `answer_waiting` ensures
-    abbrev pub AnswersAll : {A E : Type 0} → Result A E → S → S → Q → Option (List ℕ) → Option (List ℕ) → Type 0
-    AnswersAll r a b w h i = (lines : List (List ℕ)) → Waits lines w → Answers (Chain Takes) r lines a b h i
-
-    pub wait-ended : {A E : Type 0} (x : A) {text kept : List ℕ} {a b : S} (c : S) {w : Q} {h i : Option (List ℕ)} (j : Option (List ℕ)) → AnswersAll {E = E} (Ok x) b c w i j → TakenSoFar text kept a b w h i → SessionSoFar (Chain Takes) text kept a c h j
-    wait-ended x {a = a} c {h = h} j all s = record {
+    pub wait-ended : {text kept : List ℕ} {a b : S} (c : S) {w : Q} {h i : Option (List ℕ)} (j : Option (List ℕ))
+        → ((lines : List (List ℕ)) → Waits lines w → Answered (Chain Takes) lines b c i j) → TakenSoFar text kept a b w h i → SessionSoFar (Chain Takes) text kept a c h j
+    wait-ended {a = a} c {h = h} j all s = record {
       lines = s.lines;
       rest = s.rest;
       cut = s.cut;
@@ -233,12 +229,11 @@ module _ {S : Type 0} (Takes : List ℕ → S → S → List ℕ → Type 0) whe
       answered = subst (λ (ls : List (List ℕ)). Answered (Chain Takes) ls a c h j) (sym s.taken.lines_are) (answered-behind s.taken.answered (all s.taken.others s.taken.waits));
     }
 
-    pub wait-failed : {A E : Type 0} (e : E) {text kept : List ℕ} {a b : S} (c : S) {w : Q} {h i : Option (List ℕ)} (j : Option (List ℕ)) → AnswersAll {A = A} (Err e) b c w i j → TakenSoFar text kept a b w h i → Failed (Chain Takes) text a c h j
-    wait-failed e {a = a} c {h = h} j all s =
-        let failed : Result ℕ ℕ = Err 0 in
-        record {
-          lines = s.lines;
-          rest = s.rest;
-          cut = s.cut;
-          cut_off = subst (λ (ls : List (List ℕ)). CutOff (Chain Takes) ls a c h j) (sym s.taken.lines_are) (answers-behind failed s.taken.answered (all s.taken.others s.taken.waits));
-        }
+    pub wait-failed : {text kept : List ℕ} {a b : S} (c : S) {w : Q} {h i : Option (List ℕ)} (j : Option (List ℕ))
+        → ((lines : List (List ℕ)) → Waits lines w → CutOff (Chain Takes) lines b c i j) → TakenSoFar text kept a b w h i → Failed (Chain Takes) text a c h j
+    wait-failed {a = a} c {h = h} j all s = record {
+      lines = s.lines;
+      rest = s.rest;
+      cut = s.cut;
+      cut_off = subst (λ (ls : List (List ℕ)). CutOff (Chain Takes) ls a c h j) (sym s.taken.lines_are) (cut-behind s.taken.answered (all s.taken.others s.taken.waits));
+    }

@@ -1,5 +1,5 @@
 -- A command's place in a group.
-use Rattle.std.proofs.{Common.{◌≡◌, ◌∙◌, ℕ, ◌≤◌, List, [], ◌∷◌, ◌++◌, length, Option, Some, None, Result, Ok, Err, inl, inr, refl, sym, ap, subst, append_assoc, append-nil, arith, length-append}, lemmas.{List.Elements.{All-head, All-tail}, List.Sums.fold-append}}
+use Rattle.std.proofs.{Common.{◌≡◌, ◌∙◌, ℕ, ◌+◌, ◌≤◌, List, [], ◌∷◌, ◌++◌, length, Option, Some, None, Result, Ok, Err, inl, inr, refl, sym, ap, subst, append_assoc, append-nil, arith, length-append}, lemmas.{List.Elements.{All-head, All-tail}, List.Sums.fold-append}}
 use Rattle.std.specs.{Prelude.{All, map}, Option.ForSome}
 use mathlib.Core.List.{IsPrefix}
 use Rattle.pf_core.specs.declared.{command.Command.Command, reply.Refusal.Refusal, reply.Outcome.Outcome, reply.Reply.Reply, reply.Reply.TheVariants.Applied}
@@ -26,6 +26,11 @@ behind-all : {A : Type 0} (P : A → Type 0) (front : List A) (x : A) (xs : List
 behind-all P [] x xs all = All-head P x xs all
 behind-all P (y ∷ front) x xs all = behind-all P front x xs (All-tail P y (front ++ x ∷ xs) all)
 
+-- what a receipt says is so after these changes
+pub record IsSoBy (h : CurrentOpening) (changes : List PlainChange) (slip : PlainReceipt) : Type 0 where
+  pub begins : IsPrefix slip.front (log_of h ++ changes)
+  pub acked : slip.acked ≤ length (log_of h ++ changes)
+
 module _ (h : CurrentOpening) (none : h.pending ≡ []) where
   kept-all : log_of h ≡ flat h.acked
   kept-all = ap (λ (gs : List (List PlainChange)). flat (h.acked ++ gs)) none ∙ ap flat (append-nil h.acked)
@@ -40,25 +45,20 @@ module _ (h : CurrentOpening) (none : h.pending ≡ []) where
   front-amid changes shown c r slip one =
       one.front ∙ ap (λ (l : List PlainChange). l ++ changes_of (step_in (amid h changes) c)) (log-amid changes) ∙ append_assoc (log_of h) changes (changes_of (step_in (amid h changes) c))
 
-  -- what a receipt says is so after these changes
-  pub record IsSoBy (changes : List PlainChange) (slip : PlainReceipt) : Type 0 where
-    pub begins : IsPrefix slip.front (log_of h ++ changes)
-    pub acked : slip.acked ≤ length (log_of h ++ changes)
-
-  own-so : (changes shown : List PlainChange) (c : Command) (r : Reply) (slip : PlainReceipt) → IsAnsweredAmid (amid h changes) c shown r slip → IsSoBy (changes_with h changes c) slip
+  own-so : (changes shown : List PlainChange) (c : Command) (r : Reply) (slip : PlainReceipt) → IsAnsweredAmid (amid h changes) c shown r slip → IsSoBy h (changes_with h changes c) slip
   own-so changes shown c r slip one =
       let front : slip.front ≡ log_of h ++ changes_with h changes c = front-amid changes shown c r slip one in
       record { begins = subst (λ (l : List PlainChange). IsPrefix slip.front l) front (prefix_self slip.front); acked = omega (arith, one.acked, ap length front) }
 
   -- so is the last receipt behind these commands
   pub last-so : (changes shown : List PlainChange) (earlier later : List Command) (told others : List Receipted) (last : Option PlainReceipt) → length told ≡ length earlier
-      → AreAnswered h shown changes (earlier ++ later) (told ++ others) → ForSome last (λ l. IsSoBy changes l) → ForSome (last_receipt last (Ok told)) (λ l. IsSoBy (changes_due h changes earlier) l)
+      → AreAnswered h shown changes (earlier ++ later) (told ++ others) → ForSome last (λ l. IsSoBy h changes l) → ForSome (last_receipt last (Ok told)) (λ l. IsSoBy h (changes_due h changes earlier) l)
   last-so changes shown [] later [] others last place are so = so
   last-so changes shown [] later (a ∷ told) others last place are so = absurd (omega (arith, place))
   last-so changes shown (k ∷ earlier) later [] others last place are so = absurd (omega (arith, place))
   last-so changes shown (k ∷ earlier) later (a ∷ told) others last place are so =
       last-so (changes_with h changes k) shown earlier later told others (Some a.1) (omega (arith, place)) are.1
-      (λ slip is. let same : a.1 ≡ slip = cc (is) in subst (λ (s : PlainReceipt). IsSoBy (changes_with h changes k) s) same (own-so changes shown k a.0 a.1 are.0))
+      (λ slip is. let same : a.1 ≡ slip = cc (is) in subst (λ (s : PlainReceipt). IsSoBy h (changes_with h changes k) s) same (own-so changes shown k a.0 a.1 are.0))
 
   -- the answer at a place
   pub at-place : (changes shown : List PlainChange) (earlier later : List Command) (c : Command) (told others : List Receipted) (r : Reply) (slip : PlainReceipt) → length told ≡ length earlier
@@ -89,7 +89,7 @@ module _ (base : PlainDurable) (setting : Setting) (commands : List Command) (an
       ∙ ap (λ (l : List PlainChange). l ++ changes_due h [] commands) (sym (kept-all h none-pending))
 
   -- what was handed in is so where the group begins
-  pub handed-so : ForSome last (λ l. IsSoBy a.before none-pending [] l)
+  pub handed-so : ForSome last (λ l. IsSoBy a.before [] l)
   handed-so slip is =
       let follows = a.follows slip is in
       let whole : log_of a.before ≡ log_of a.before ++ [] = sym (append-nil (log_of a.before)) in
@@ -123,9 +123,9 @@ module _ (base : PlainDurable) (setting : Setting) (c : Command) (r : Reply) (sl
   front : slip.front ≡ log_of h ++ changes_with h so_far c
   front = front-amid h none so_far log c r slip mine
 
-  last_so : ForSome last (λ l. IsSoBy h none so_far l)
+  last_so : ForSome last (λ l. IsSoBy h so_far l)
   last_so =
-      subst (λ (l : Option PlainReceipt). ForSome l (λ s. IsSoBy h none so_far s)) (sym at.last_is)
+      subst (λ (l : Option PlainReceipt). ForSome l (λ s. IsSoBy h so_far s)) (sym at.last_is)
       (last-so h none [] log at.earlier (c ∷ at.later) at.told ((r, slip) ∷ at.others) at.handed at.place at.group.receipts (handed-so base setting commands answers at.handed at.group))
 
   -- the last receipt's front begins that of the reply

@@ -4,6 +4,7 @@ use Rattle.std.specs.Io.KnownBytes.{Appends}
 use Rattle.pf_addr.specs.Writing.{Writes, WritesFront}
 use Rattle.pf_core.specs.declared.{command.Command.Command, command.Command.TheVariants.{Transact, Edit, States, Ask, History}, reply.Refusal.Refusal, reply.Refusal.TheVariants.Fault, reply.Reply.TheVariants.Refused}
 use Rattle.pf_core.specs.{Commands.may_be_grouped, Durable.Changes.PlainDurable, Worlds.{Setting, log_of, heard_group}}
+use Rattle.pf_rule.specs.Packets.{PlainPacket}
 use Rattle.pf_line.specs.{Grammar.Spoken, Lines.{Means, Parses, line_at}, Reply.Replies.reply_text}
 use Rattle.pf_book.specs.{Groups.{Answered as Receipted, IsGroupAnswered, replies_of}, Receipts.PlainReceipt}
 use Rattle.pf_session.specs.declared.server.session.Session.{Session}
@@ -59,6 +60,27 @@ grouped-unjudged (Edit e) may = refl
 grouped-unjudged (States s) may = refl
 grouped-unjudged (Ask q) may = absurd (cc (may))
 grouped-unjudged (History h) may = refl
+
+-- the command of the next answer
+record IsAsked (later : List Command) (left : List Receipted) : Type 0 where
+  c : Command
+  rest : List Command
+  is : later ≡ c ∷ rest
+  long : length left ≡ length rest
+
+asked-first : (later : List Command) (a : Receipted) (left : List Receipted) → length (a ∷ left) ≡ length later → IsAsked later left
+asked-first [] a left long = absurd (omega (arith, long))
+asked-first (c ∷ later) a left long = record { c = c; rest = later; is = refl; long = omega (arith, long) }
+
+-- the next of them
+record IsBehind (commands earlier later : List Command) : Type 0 where
+  c : Command
+  rest : List Command
+  is : later ≡ c ∷ rest
+
+behind-first : (commands earlier later : List Command) (n : ℕ) → commands ≡ earlier ++ later → length earlier ≡ n → n < length commands → IsBehind commands earlier later
+behind-first commands earlier [] n split place low = absurd (omega (arith, place, low, ap length split, length-append earlier []))
+behind-first commands earlier (c ∷ later) n split place low = record { c = c; rest = later; is = refl }
 
 -- ---- the gate
 
@@ -124,7 +146,7 @@ module _ {C J G : Type 0} (passed : G → ℕ → ℕ → Type 0) (base : PlainD
       same = t.same;
       takes = record {
         gate = rw (u.same.gate, u.same.number) u.gates.0;
-        told = inl (Ok (Some c), first.meant.means, subst (λ (o : Option _). RunsBy o base setting c (at_next_line (sitting a)) (sitting b) text) (sym first.meant.unjudged) t.runs);
+        told = inl (Ok (Some c), first.meant.means, subst (λ (o : Option PlainPacket). RunsBy o base setting c (at_next_line (sitting a)) (sitting b) text) (sym first.meant.unjudged) t.runs);
       };
     }
 
@@ -188,17 +210,6 @@ module _ {C J G : Type 0} (passed : G → ℕ → ℕ → Type 0) (base : PlainD
     by [] is way = all-run way
     by (c ∷ later) is way = absurd (omega (arith, is))
 
-  -- the command of the next answer
-  record IsAsked (later : List Command) (left : List Receipted) : Type 0 where
-    c : Command
-    rest : List Command
-    is : later ≡ c ∷ rest
-    long : length left ≡ length rest
-
-  asked-first : (later : List Command) (a : Receipted) (left : List Receipted) → length (a ∷ left) ≡ length later → IsAsked later left
-  asked-first [] a left long = absurd (omega (arith, long))
-  asked-first (c ∷ later) a left long = record { c = c; rest = later; is = refl; long = omega (arith, long) }
-
   module _ {lines : List (List ℕ)} {commands : List Command} {told : List Receipted} (answer : Receipted) (left : List Receipted) {start a : Session C J G} {h i : Option (List ℕ)}
       (group : IsGroupAnswered base setting commands (Ok (told ++ answer ∷ left)) start.last.now) (t : IsTelling lines commands told (answer ∷ left) start a h i) (b : Session C J G) (n : ℕ) (is : n ≡ next_line a.line)
       (same : IsSame (record a { line = n }) b) (keeps : Keeps answer.1 (record (sitting a) { line = n }) (sitting b)) where
@@ -254,16 +265,6 @@ module _ {C J G : Type 0} (passed : G → ℕ → ℕ → Type 0) (base : PlainD
   pub faulting-begun : (lines : List (List ℕ)) (commands : List Command) (start : Session C J G) (held : Option (List ℕ)) → AreMeant lines commands → HavePassed (passed start.gate.now start.number) start.line (length commands)
       → IsFaulting lines commands 0 start start held held
   faulting-begun lines commands start held meant gates = record { earlier = []; later = commands; split = refl; place = refl; last = refl; way = begun lines commands start held meant gates }
-
-  -- the next of them
-  record IsBehind (commands earlier later : List Command) : Type 0 where
-    c : Command
-    rest : List Command
-    is : later ≡ c ∷ rest
-
-  behind-first : (commands earlier later : List Command) (n : ℕ) → commands ≡ earlier ++ later → length earlier ≡ n → n < length commands → IsBehind commands earlier later
-  behind-first commands earlier [] n split place low = absurd (omega (arith, place, low, ap length split, length-append earlier []))
-  behind-first commands earlier (c ∷ later) n split place low = record { c = c; rest = later; is = refl }
 
   pub all-faulted : {lines : List (List ℕ)} {commands : List Command} {count : ℕ} {start now : Session C J G} {h i : Option (List ℕ)} → length commands ≡ count → IsFaulting lines commands count start now h i → Answered Serves lines start now h i
   all-faulted {lines} {commands} {count} {start} {now} {h} {i} all t = by t.later t.split t.way where

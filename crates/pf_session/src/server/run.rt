@@ -122,13 +122,14 @@ impl<'a, C: CallBook<J>, J: Chapter, G: Gate> Session<'a, C, J, G> {
         ensures { (lines : List (List ℕ)) → AreMeant lines commands.items → Answers (Chain (TakesInSession G.passed J.base J.setting)) result lines
             self.old self.new (O.contents writer.old) (O.contents writer.new) }
     {
-        self.pass_each(&commands);
-        if commands.len() < 2 {
+        let asked = commands.as_slice();
+        self.pass_each(asked);
+        if asked.len() < 2 {
             return self.run_each(commands, writer);
         }
-        match self.book.call_group(&commands, self.last.as_ref()) {
+        match self.book.call_group(asked, self.last.as_ref()) {
             Ok(answers) => self.tell_each(answers, writer),
-            Err(Refusal::Fault) => self.tell_fault(&commands, writer),
+            Err(Refusal::Fault) => self.tell_fault(asked, writer),
             Err(_) => self.run_each(commands, writer),
         }
     }

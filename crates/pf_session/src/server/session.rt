@@ -172,9 +172,6 @@ impl<'a, C: CallBook<J>, J: Chapter, G: Gate> AnswerLine for Session<'a, C, J, G
         waiting: &mut Vec<Command>,
         writer: &mut O,
     ) -> io::Result<()> {
-        if waiting.is_empty() {
-            return Ok(());
-        }
         let commands = mem::replace(waiting, Vec::new(alloc));
         self.run_waiting(commands, writer)
     }

@@ -7,7 +7,7 @@ use Rattle.pf_session.proofs.telling.answer_said.Goals as goal
 pub returns-in-Ok-None : goal.returns-in-Ok-None
 returns-in-Ok-None g c = λ line parses refused. (
   [],
-  silence-told g.A.RunCommands.Runs line c.args.runner.now (rw c.in-Ok-None.is at parses),
+  silence-told g.A.RunCommands.Runs line c.args.runner.now (rw (c.in-Ok-None.is, c.in-Ok-None.field-0-is) at parses),
   appends_none (g.W.Write.contents c.args.writer.now),
 )
 
@@ -15,7 +15,7 @@ pub returns-in-Ok-Some : goal.returns-in-Ok-Some
 returns-in-Ok-Some g c = λ line parses refused.
     let (text, runs, written) = c.run_command.ensures in (
       text,
-      command-told g.A.RunCommands.Runs line c.in-Ok-Some.command c.args.runner.now c.run_command.new.self text runs (rw c.in-Ok-Some.is at parses),
+      command-told g.A.RunCommands.Runs line c.in-Ok-Some.command c.args.runner.now c.run_command.new.self text runs (rw (c.in-Ok-Some.is, c.in-Ok-Some.field-0-is) at parses),
       written,
     )
 

@@ -1,4 +1,4 @@
-use Rattle.std.proofs.{Common.{ℕ, List, ◌∷◌, [], subst}, lemmas.Result.err_from_is_err_and}
+use Rattle.std.proofs.{Common.{ℕ, List, ◌∷◌, ◌++◌, [], subst}, lemmas.Result.err_from_is_err_and}
 use Rattle.std.specs.Prelude.{Vec}
 use Rattle.std.specs.declared.alloc.Global.{Global}
 use Rattle.pf_core.specs.declared.command.Command.{Command}
@@ -20,8 +20,9 @@ returns-then-may_judge g c = λ lines whole meant is.
     let old = c.answer_waiting.new.self in
     let new = c.answer_line.new.self in
     let whole_takes = attends-seen passed base setting old new whole text (subst (λ (l : List ℕ). TakesInSession passed base setting l old new text) is takes) in
-    all-taken (TakesInSession passed base setting) (λ (ls : List (List ℕ)) (commands : Vec Command Global). AreMeant ls commands.items) c.answer_line.result c.in_ok-answer_waiting.ensures.none
-    (answers-behind (TakesInSession passed base setting) c.answer_line.result (c.in_ok-answer_waiting.ensures.told lines meant) (line-answers (TakesInSession passed base setting) c.answer_line.result whole text whole_takes written))
+    all-taken (TakesInSession passed base setting) (λ (ls : List (List ℕ)) (commands : Vec Command Global). AreMeant ls commands.items) c.answer_line.result (lines ++ whole ∷ []) c.args.self.now new c.answer_waiting.new.waiting (g.O.Write.contents c.args.writer.now) (g.O.Write.contents c.answer_line.new.writer) c.in_ok-answer_waiting.ensures.none
+    (answers-behind (TakesInSession passed base setting) c.answer_line.result (whole ∷ []) new (g.O.Write.contents c.answer_line.new.writer) (c.in_ok-answer_waiting.ensures.told lines meant)
+    (line-answers (TakesInSession passed base setting) c.answer_line.result (g.O.Write.contents c.answer_waiting.new.writer) (g.O.Write.contents c.answer_line.new.writer) whole text whole_takes written))
 
 pub returns-in-Ok : goal.returns-in-Ok
 returns-in-Ok g c = λ lines whole meant is.

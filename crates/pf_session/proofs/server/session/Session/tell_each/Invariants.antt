@@ -4,7 +4,7 @@ use Rattle.pf_core.specs.declared.command.Command.{Command}
 use Rattle.pf_book.specs.Groups.{IsGroupAnswered}
 use Rattle.pf_session.specs.Server.SessionRuns.{AreMeant, HavePassed}
 use Rattle.pf_session.proofs.Running.{IsTelling}
-use Rattle.pf_session.proofs.server.run.Session.tell_each.Given as goal
+use Rattle.pf_session.proofs.server.session.Session.tell_each.Given as goal
 
 abbrev pub invariant-loop-answer : goal.invariant-loop-answer
 invariant-loop-answer g l = record {

@@ -2,7 +2,7 @@ use Rattle.std.proofs.{Common.{◌≡◌, ◌∙◌, ℕ, List, [], ◌∷◌, l
 use Rattle.std.specs.Vec.Iter.{into_iter_items}
 use Rattle.pf_core.specs.declared.command.Command.{Command}
 use Rattle.pf_session.proofs.Running.{IsUnderWay, IsTurn, begun, one-more, one-cut, all-run, turn-by}
-use Rattle.pf_session.proofs.server.run.Session.run_each.Goals as goal
+use Rattle.pf_session.proofs.server.session.Session.run_each.Goals as goal
 
 pub loop-command-init : goal.loop-command-init
 loop-command-init g c =
@@ -23,7 +23,7 @@ loop-command-preserved g c =
       len = omega (arith);
       way = λ lines meant.
           one-more passed base setting (subst (λ (cs : List Command). IsUnderWay passed base setting lines cs c.args.self.now c.loop-command.self (g.O.Write.contents c.args.writer.now) (g.O.Write.contents c.loop-command.writer)) steps.0 (c.loop-command.invariant.way lines meant))
-          c.run_and_tell.new.self text (g.O.Write.contents c.run_and_tell.new.writer) (turn-by passed base setting c.in-Some.command c.loop-command.self c.run_and_tell.new.self text c.saturating_add.result c.saturating_add.ensures c.run_and_tell.ensures.same (inl run)) written;
+          c.run_and_tell.new.self text (g.O.Write.contents c.run_and_tell.new.writer) (turn-by passed base setting c.in-Some.command c.loop-command.self c.run_and_tell.new.self text c.saturating_add-self.result c.saturating_add-self.ensures c.run_and_tell.ensures.same (inl run)) written;
     }
 
 pub returns-in_err-run_and_tell : goal.returns-in_err-run_and_tell
@@ -36,7 +36,7 @@ returns-in_err-run_and_tell g c = λ lines meant.
     let (text, run, front) = c.run_and_tell.ensures.run in
     rw failed (one-cut passed base setting
     (subst (λ (cs : List Command). IsUnderWay passed base setting lines cs c.args.self.now c.loop-command.self (g.O.Write.contents c.args.writer.now) (g.O.Write.contents c.loop-command.writer)) steps.0 (c.loop-command.invariant.way lines meant))
-    c.run_and_tell.new.self text (g.O.Write.contents c.run_and_tell.new.writer) (turn-by passed base setting c.in-Some.command c.loop-command.self c.run_and_tell.new.self text c.saturating_add.result c.saturating_add.ensures c.run_and_tell.ensures.same (inl run)) front)
+    c.run_and_tell.new.self text (g.O.Write.contents c.run_and_tell.new.writer) (turn-by passed base setting c.in-Some.command c.loop-command.self c.run_and_tell.new.self text c.saturating_add-self.result c.saturating_add-self.ensures c.run_and_tell.ensures.same (inl run)) front)
 
 pub returns : goal.returns
 returns g c = λ lines meant.

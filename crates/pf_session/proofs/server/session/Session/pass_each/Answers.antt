@@ -1,7 +1,7 @@
 use Rattle.std.proofs.Common.{◌≡◌, ℕ, ◌+◌, length, subst, arith}
 use Rattle.pf_session.specs.Server.SessionRuns.{HavePassed}
 use Rattle.pf_session.proofs.Running.{passed-on}
-use Rattle.pf_session.proofs.server.run.Session.pass_each.Goals as goal
+use Rattle.pf_session.proofs.server.session.Session.pass_each.Goals as goal
 
 pub loop-init : goal.loop-init
 loop-init g c = λ k more. let same : 0 + k ≡ k = omega arith in rw same more

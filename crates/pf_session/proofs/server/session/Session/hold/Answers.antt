@@ -4,7 +4,7 @@ use Rattle.std.specs.declared.alloc.Global.{Global}
 use Rattle.pf_core.specs.declared.command.Command.{Command}
 use Rattle.pf_session.specs.Server.SessionRuns.{AreMeant, IsMeant, TakesInSession}
 use Rattle.pf_session.proofs.{AnsweredLines.still-waiting, Running.{meant-more, meant-seen}}
-use Rattle.pf_session.proofs.server.run.Session.hold.Goals as goal
+use Rattle.pf_session.proofs.server.session.Session.hold.Goals as goal
 
 pub returns-in-Ok : goal.returns-in-Ok
 returns-in-Ok g c = λ lines line whole meant one is.

@@ -3,7 +3,7 @@ use Rattle.pf_core.specs.declared.reply.Refusal.TheVariants.{Fault}
 use Rattle.pf_book.specs.Groups.{IsGroupAnswered}
 use Rattle.pf_session.specs.Server.SessionRuns.{AreMeant, HavePassed}
 use Rattle.pf_session.proofs.Running.{IsFaulting}
-use Rattle.pf_session.proofs.server.run.Session.tell_fault.Given as goal
+use Rattle.pf_session.proofs.server.session.Session.tell_fault.Given as goal
 
 abbrev pub invariant-loop : goal.invariant-loop
 invariant-loop g l = (lines : List (List ℕ)) → AreMeant lines l.commands → HavePassed (g.G.Gate.passed l.fn.self.gate.now l.fn.self.number) l.fn.self.line (length l.commands)

@@ -3,7 +3,7 @@ use Rattle.std.specs.Vec.Iter.{into_iter_items}
 use Rattle.pf_core.specs.declared.command.Command.{Command}
 use Rattle.pf_book.specs.Groups.{Answered as Receipted, IsGroupAnswered}
 use Rattle.pf_session.proofs.Running.{IsTelling, telling-begun, one-told, told-cut, all-told}
-use Rattle.pf_session.proofs.server.run.Session.tell_each.Goals as goal
+use Rattle.pf_session.proofs.server.session.Session.tell_each.Goals as goal
 
 pub loop-answer-init : goal.loop-answer-init
 loop-answer-init g c =
@@ -30,7 +30,7 @@ loop-answer-preserved g c =
       way = λ lines commands meant gates group.
           one-told passed base setting c.in-Some.answer left (subst (λ (l : List Receipted). IsGroupAnswered base setting commands (Ok l) c.args.self.now.last.now) whole group)
           (subst (λ (l : List Receipted). IsTelling passed base setting lines commands at.yielded l c.args.self.now at.self (g.O.Write.contents c.args.writer.now) (g.O.Write.contents at.writer)) steps.0 (at.invariant.way lines commands meant gates group))
-          c.tell_one.new.self c.saturating_add.result c.saturating_add.ensures c.tell_one.ensures.same c.tell_one.ensures.kept (g.O.Write.contents c.tell_one.new.writer) c.in_ok-tell_one.ensures.written;
+          c.tell_one.new.self c.saturating_add-self.result c.saturating_add-self.ensures c.tell_one.ensures.same c.tell_one.ensures.kept (g.O.Write.contents c.tell_one.new.writer) c.in_ok-tell_one.ensures.written;
     }
 
 pub returns-in_err-tell_one : goal.returns-in_err-tell_one
@@ -45,7 +45,7 @@ returns-in_err-tell_one g c = λ lines commands meant gates group.
     let whole = sym at.invariant.all ∙ ap (λ (l : List Receipted). at.yielded ++ l) steps.0 in
     rw failed (told-cut passed base setting c.in-Some.answer left (subst (λ (l : List Receipted). IsGroupAnswered base setting commands (Ok l) c.args.self.now.last.now) whole group)
     (subst (λ (l : List Receipted). IsTelling passed base setting lines commands at.yielded l c.args.self.now at.self (g.O.Write.contents c.args.writer.now) (g.O.Write.contents at.writer)) steps.0 (at.invariant.way lines commands meant gates group))
-    c.tell_one.new.self c.saturating_add.result c.saturating_add.ensures c.tell_one.ensures.same c.tell_one.ensures.kept (g.O.Write.contents c.tell_one.new.writer) c.in_err-tell_one.ensures.written)
+    c.tell_one.new.self c.saturating_add-self.result c.saturating_add-self.ensures c.tell_one.ensures.same c.tell_one.ensures.kept (g.O.Write.contents c.tell_one.new.writer) c.in_err-tell_one.ensures.written)
 
 pub returns : goal.returns
 returns g c = λ lines commands meant gates group.

@@ -2,7 +2,7 @@ use Rattle.std.proofs.Common.{◌≡◌, ℕ, List, length}
 use Rattle.std.specs.Vec.Iter.{into_iter_items, into_iter_len}
 use Rattle.pf_session.specs.Server.SessionRuns.{AreMeant}
 use Rattle.pf_session.proofs.Running.{IsUnderWay}
-use Rattle.pf_session.proofs.server.run.Session.run_each.Given as goal
+use Rattle.pf_session.proofs.server.session.Session.run_each.Given as goal
 
 abbrev pub invariant-loop-command : goal.invariant-loop-command
 invariant-loop-command g l = record {
