@@ -18,7 +18,7 @@ loop-command-preserved g c =
     let passed = g.G.Gate.passed in
     let base = g.J.Naming.base in
     let setting = g.J.Chapter.setting in
-    let (text, run, written) = c.run_and_tell.ensures.run in
+    let (text, run, written) = c.in_ok-run_and_tell.ensures.run in
     record {
       len = omega (arith);
       way = λ lines meant.
@@ -33,7 +33,7 @@ returns-in_err-run_and_tell g c = λ lines meant.
     let passed = g.G.Gate.passed in
     let base = g.J.Naming.base in
     let setting = g.J.Chapter.setting in
-    let (text, run, front) = c.run_and_tell.ensures.run in
+    let (text, run, front) = c.in_err-run_and_tell.ensures.run in
     rw failed (one-cut passed base setting
     (subst (λ (cs : List Command). IsUnderWay passed base setting lines cs c.args.self.now c.loop-command.self (g.O.Write.contents c.args.writer.now) (g.O.Write.contents c.loop-command.writer)) steps.0 (c.loop-command.invariant.way lines meant))
     c.run_and_tell.new.self text (g.O.Write.contents c.run_and_tell.new.writer) (turn-by passed base setting c.in-Some.command c.loop-command.self c.run_and_tell.new.self text c.saturating_add-self.result c.saturating_add-self.ensures c.run_and_tell.ensures.same (inl run)) front)
