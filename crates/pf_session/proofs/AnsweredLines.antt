@@ -1,8 +1,8 @@
 -- Lines that were answered, one after another.
 use Rattle.std.proofs.{Common.{◌≡◌, ℕ, suc, ◌+◌, ◌<◌, ◌≤◌, List, [], ◌∷◌, ◌++◌, length, take, drop, get_or, Option, Result, Ok, Err, refl, sym, ap, ◌∙◌, subst, append_assoc, append-nil, arith, length-append}, KnownBytes.{Appends-nil, Appends-trans}, lemmas.Bool.ne_eqb, lemmas.List.{length-take, take_all, take_more, take-append-le, take-append-drop}}
 use Rattle.std.specs.{Prelude.{◌≢◌, ◌==◌, cond}, Io.KnownBytes.{Appends, Keeps}}
-use Rattle.pf_addr.specs.Writing.{WritesFront, Appends-kept}
-use Rattle.pf_session.specs.{LineEngine.Chains.Chain, LineEngine.Lines.{newline, last_line, seen}, LineEngine.Sessions.{Answered, CutOff}, LineEngine.Pieces.{Answers, SessionSoFar, Failed}}
+use Rattle.pf_addr.specs.Writing.{Writes, WritesFront, Appends-kept}
+use Rattle.pf_session.specs.{LineEngine.Chains.Chain, LineEngine.Lines.{IsCut, newline, last_line, seen}, LineEngine.Sessions.{Answered, CutOff}, LineEngine.Pieces.{Answers, SessionSoFar, Failed, Taken, TakesSome}}
 use Rattle.pf_session.proofs.{Chains.{chain-none, chain-one, chain-then}, Cutting.{cut-nothing, cut-newline, cut-byte, cut-more}}
 
 -- what isn't looked at of a line makes no difference
@@ -86,15 +86,154 @@ module _ {S : Type 0} (Takes : List ℕ → S → S → List ℕ → Type 0) whe
   pub still-so_far : {text kept : List ℕ} {a b : S} {h i : Option (List ℕ)} (j : Option (List ℕ)) → Keeps i j → SessionSoFar (Chain Takes) text kept a b h i → SessionSoFar (Chain Takes) text kept a b h j
   still-so_far j keeps s = let ok : Result ℕ ℕ = Ok 0 in record { lines = s.lines; rest = s.rest; cut = s.cut; kept_is = s.kept_is; answered = flushed ok j s.answered keeps }
 
-  pub byte-so_far : {text kept kept' : List ℕ} {a b : S} {h i : Option (List ℕ)} (byte : ℕ) → byte ≢ newline → ((rest : List ℕ) → kept ≡ seen rest → kept' ≡ seen (rest ++ byte ∷ [])) → SessionSoFar (Chain Takes) text kept a b h i → SessionSoFar (Chain Takes) (text ++ byte ∷ []) kept' a b h i
-  byte-so_far byte other more s = record { lines = s.lines; rest = s.rest ++ byte ∷ []; cut = cut-byte byte other s.cut; kept_is = more s.rest s.kept_is; answered = s.answered }
+  -- ---- lines behind lines
 
-  pub line-so_far : TakesSeen Takes → {text kept : List ℕ} (reply : List ℕ) {a b : S} (c : S) {h i : Option (List ℕ)} (j : Option (List ℕ)) → Takes kept b c reply → Appends i j reply → SessionSoFar (Chain Takes) text kept a b h i →
-      SessionSoFar (Chain Takes) (text ++ newline ∷ []) [] a c h j
-  line-so_far law reply c j takes written s = record { lines = s.lines ++ s.rest ∷ []; rest = []; cut = cut-newline s.cut; kept_is = refl; answered = line-answered law s.rest reply c j s.kept_is s.answered takes written }
+  pub answered-behind : {xs ys : List (List ℕ)} {a b c : S} {h i j : Option (List ℕ)} → Answered (Chain Takes) xs a b h i → Answered (Chain Takes) ys b c i j → Answered (Chain Takes) (xs ++ ys) a c h j
+  answered-behind {xs} {ys} {a} {b} {c} {h} {i} {j} p q = record {
+    text = p.text ++ q.text;
+    served = chain-then Takes a b c xs ys p.text q.text p.served q.served;
+    written = Appends-trans h i j p.text q.text p.written q.written;
+  }
 
-  pub line-failed : TakesSeen Takes → {text kept : List ℕ} (reply more : List ℕ) {a b : S} (c : S) {h i : Option (List ℕ)} (j : Option (List ℕ)) → Takes kept b c reply → WritesFront i j reply → SessionSoFar (Chain Takes) text kept a b h i →
-      Failed (Chain Takes) ((text ++ newline ∷ []) ++ more) a c h j
-  line-failed law reply more c j takes front s =
-      let (others, rest, cut) = cut-more more (cut-newline s.cut) in
-      record { lines = (s.lines ++ s.rest ∷ []) ++ others; rest = rest; cut = cut; cut_off = line-cut_off law s.rest others reply c j s.kept_is s.answered takes front }
+  pub cut-behind : {xs ys : List (List ℕ)} {a b c : S} {h i j : Option (List ℕ)} → Answered (Chain Takes) xs a b h i → CutOff (Chain Takes) ys b c i j → CutOff (Chain Takes) (xs ++ ys) a c h j
+  cut-behind {xs} p q = record {
+    earlier = xs ++ q.earlier;
+    last = q.last;
+    others = q.others;
+    lines_are = ap (λ (l : List (List ℕ)). xs ++ l) q.lines_are ∙ sym (append_assoc xs q.earlier (q.last ++ q.others));
+    one = q.one;
+    before = q.before;
+    mid = q.mid;
+    answered = answered-behind p q.answered;
+    text = q.text;
+    served = q.served;
+    front = q.front;
+  }
+
+  pub cut-longer : {xs : List (List ℕ)} (more : List (List ℕ)) {a b : S} {h i : Option (List ℕ)} → CutOff (Chain Takes) xs a b h i → CutOff (Chain Takes) (xs ++ more) a b h i
+  cut-longer more q = record {
+    earlier = q.earlier;
+    last = q.last;
+    others = q.others ++ more;
+    lines_are = ap (λ (l : List (List ℕ)). l ++ more) q.lines_are ∙ append_assoc q.earlier (q.last ++ q.others) more ∙ ap (λ (l : List (List ℕ)). q.earlier ++ l) (append_assoc q.last q.others more);
+    one = q.one;
+    before = q.before;
+    mid = q.mid;
+    answered = q.answered;
+    text = q.text;
+    served = q.served;
+    front = q.front;
+  }
+
+  pub answers-behind : {A E : Type 0} (r : Result A E) {xs : List (List ℕ)} (ys : List (List ℕ)) {a b : S} (c : S) {h i : Option (List ℕ)} (j : Option (List ℕ)) → Answered (Chain Takes) xs a b h i → Answers (Chain Takes) r ys b c i j → Answers (Chain Takes) r (xs ++ ys) a c h j
+  answers-behind (Ok x) ys c j p q = answered-behind p q
+  answers-behind (Err e) {xs} ys c j p q = cut-behind p q
+
+  -- one line by itself
+  pub line-answers : {A E : Type 0} (r : Result A E) {a b : S} (h i : Option (List ℕ)) (line text : List ℕ) → Takes line a b text → Writes r h i text → Answers (Chain Takes) r (line ∷ []) a b h i
+  line-answers (Ok x) {a} {b} h i line text takes written = record { text = text; served = chain-one Takes a b line text takes; written = written }
+  line-answers (Err e) {a} {b} h i line text takes front = record {
+    earlier = [];
+    last = line ∷ [];
+    others = [];
+    lines_are = refl;
+    one = omega arith;
+    before = a;
+    mid = h;
+    answered = record { text = []; served = chain-none Takes a; written = Appends-nil h };
+    text = text;
+    served = chain-one Takes a b line text takes;
+    front = front;
+  }
+
+  -- ---- lines that wait
+
+  module _ {Q : Type 0} (Waits : List (List ℕ) → Q → Type 0) where
+    -- all were answered
+    pub all-taken : {A E : Type 0} (r : Result A E) (lines : List (List ℕ)) (a b : S) (w : Q) (h i : Option (List ℕ)) → Waits [] w → Answers (Chain Takes) r lines a b h i → TakesSome (Chain Takes) Waits r lines a b w h i
+    all-taken (Ok x) lines a b w h i none all = record { earlier = lines; others = []; lines_are = sym (append-nil lines); answered = all; waits = none }
+    all-taken (Err e) lines a b w h i none cut = cut
+
+    -- these were answered, and then those taken
+    pub taken-then : {A E : Type 0} (r : Result A E) {lines : List (List ℕ)} (more : List (List ℕ)) {a b : S} (c : S) (w : Q) {h i : Option (List ℕ)} (j : Option (List ℕ)) → Answered (Chain Takes) lines a b h i → TakesSome (Chain Takes) Waits r more b c w i j → TakesSome (Chain Takes) Waits r (lines ++ more) a c w h j
+    taken-then (Ok x) {lines} more c w j p t = record {
+      earlier = lines ++ t.earlier;
+      others = t.others;
+      lines_are = ap (λ (l : List (List ℕ)). lines ++ l) t.lines_are ∙ sym (append_assoc lines t.earlier t.others);
+      answered = answered-behind p t.answered;
+      waits = t.waits;
+    }
+    taken-then (Err e) more c w j p cut = cut-behind p cut
+
+    -- none was answered yet
+    pub still-waiting : {lines : List (List ℕ)} (state : S) {w : Q} (held : Option (List ℕ)) → Waits lines w → Taken (Chain Takes) Waits lines state state w held held
+    still-waiting {lines} state held waits = record { earlier = []; others = lines; lines_are = refl; answered = record { text = []; served = chain-none Takes state; written = Appends-nil held }; waits = waits }
+
+    taken-behind : {lines : List (List ℕ)} (more : List (List ℕ)) {a b c : S} {w w' : Q} {h i j : Option (List ℕ)} (t : Taken (Chain Takes) Waits lines a b w h i) → Taken (Chain Takes) Waits (t.others ++ more) b c w' i j → Taken (Chain Takes) Waits (lines ++ more) a c w' h j
+    taken-behind {lines} more t u = record {
+      earlier = t.earlier ++ u.earlier;
+      others = u.others;
+      lines_are = ap (λ (l : List (List ℕ)). l ++ more) t.lines_are ∙ append_assoc t.earlier t.others more ∙ ap (λ (l : List (List ℕ)). t.earlier ++ l) u.lines_are ∙ sym (append_assoc t.earlier u.earlier u.others);
+      answered = answered-behind t.answered u.answered;
+      waits = u.waits;
+    }
+
+    taken-cut : {lines : List (List ℕ)} (more : List (List ℕ)) {a b c : S} {w : Q} {h i j : Option (List ℕ)} (t : Taken (Chain Takes) Waits lines a b w h i) → CutOff (Chain Takes) (t.others ++ more) b c i j → CutOff (Chain Takes) (lines ++ more) a c h j
+    taken-cut {lines} more {a = a} {c = c} {h = h} {j = j} t cut =
+        let whole : t.earlier ++ (t.others ++ more) ≡ lines ++ more = sym (ap (λ (l : List (List ℕ)). l ++ more) t.lines_are ∙ append_assoc t.earlier t.others more) in
+        subst (λ (ls : List (List ℕ)). CutOff (Chain Takes) ls a c h j) whole (cut-behind t.answered cut)
+
+    -- the whole lines of the input were taken, and as much as is looked at is kept of the rest
+    pub record TakenSoFar (input kept : List ℕ) (old new : S) (waiting : Q) (held held' : Option (List ℕ)) : Type 0 where
+      pub lines : List (List ℕ)
+      pub rest : List ℕ
+      pub cut : IsCut input lines rest
+      pub kept_is : kept ≡ seen rest
+      pub taken : Taken (Chain Takes) Waits lines old new waiting held held'
+
+    pub wait-begun : {text kept : List ℕ} {a b : S} (w : Q) {h i : Option (List ℕ)} → Waits [] w → SessionSoFar (Chain Takes) text kept a b h i → TakenSoFar text kept a b w h i
+    wait-begun w none s = record {
+      lines = s.lines;
+      rest = s.rest;
+      cut = s.cut;
+      kept_is = s.kept_is;
+      taken = record { earlier = s.lines; others = []; lines_are = sym (append-nil s.lines); answered = s.answered; waits = none };
+    }
+
+    pub byte-taken : {text kept kept' : List ℕ} {a b : S} {w : Q} {h i : Option (List ℕ)} (byte : ℕ) → byte ≢ newline → ((rest : List ℕ) → kept ≡ seen rest → kept' ≡ seen (rest ++ byte ∷ [])) → TakenSoFar text kept a b w h i → TakenSoFar (text ++ byte ∷ []) kept' a b w h i
+    byte-taken byte other more s = record { lines = s.lines; rest = s.rest ++ byte ∷ []; cut = cut-byte byte other s.cut; kept_is = more s.rest s.kept_is; taken = s.taken }
+
+    pub line-taken : {text kept : List ℕ} {a b : S} (c : S) {w : Q} (w' : Q) {h i : Option (List ℕ)} (j : Option (List ℕ))
+        → ((lines : List (List ℕ)) (whole : List ℕ) → Waits lines w → kept ≡ seen whole → Taken (Chain Takes) Waits (lines ++ whole ∷ []) b c w' i j) → TakenSoFar text kept a b w h i → TakenSoFar (text ++ newline ∷ []) [] a c w' h j
+    line-taken c w' j next s = record {
+      lines = s.lines ++ s.rest ∷ [];
+      rest = [];
+      cut = cut-newline s.cut;
+      kept_is = refl;
+      taken = taken-behind (s.rest ∷ []) s.taken (next s.taken.others s.rest s.taken.waits s.kept_is);
+    }
+
+    pub line-failed : {text kept : List ℕ} (more : List ℕ) {a b : S} (c : S) {w : Q} {h i : Option (List ℕ)} (j : Option (List ℕ))
+        → ((lines : List (List ℕ)) (whole : List ℕ) → Waits lines w → kept ≡ seen whole → CutOff (Chain Takes) (lines ++ whole ∷ []) b c i j) → TakenSoFar text kept a b w h i → Failed (Chain Takes) ((text ++ newline ∷ []) ++ more) a c h j
+    line-failed more c j next s =
+        let (others, rest, cut) = cut-more more (cut-newline s.cut) in
+        record { lines = (s.lines ++ s.rest ∷ []) ++ others; rest = rest; cut = cut; cut_off = cut-longer others (taken-cut (s.rest ∷ []) s.taken (next s.taken.others s.rest s.taken.waits s.kept_is)) }
+
+    pub wait-ended : {text kept : List ℕ} {a b : S} (c : S) {w : Q} {h i : Option (List ℕ)} (j : Option (List ℕ))
+        → ((lines : List (List ℕ)) → Waits lines w → Answered (Chain Takes) lines b c i j) → TakenSoFar text kept a b w h i → SessionSoFar (Chain Takes) text kept a c h j
+    wait-ended {a = a} c {h = h} j all s = record {
+      lines = s.lines;
+      rest = s.rest;
+      cut = s.cut;
+      kept_is = s.kept_is;
+      answered = subst (λ (ls : List (List ℕ)). Answered (Chain Takes) ls a c h j) (sym s.taken.lines_are) (answered-behind s.taken.answered (all s.taken.others s.taken.waits));
+    }
+
+    pub wait-failed : {text kept : List ℕ} {a b : S} (c : S) {w : Q} {h i : Option (List ℕ)} (j : Option (List ℕ))
+        → ((lines : List (List ℕ)) → Waits lines w → CutOff (Chain Takes) lines b c i j) → TakenSoFar text kept a b w h i → Failed (Chain Takes) text a c h j
+    wait-failed {a = a} c {h = h} j all s = record {
+      lines = s.lines;
+      rest = s.rest;
+      cut = s.cut;
+      cut_off = subst (λ (ls : List (List ℕ)). CutOff (Chain Takes) ls a c h j) (sym s.taken.lines_are) (cut-behind s.taken.answered (all s.taken.others s.taken.waits));
+    }

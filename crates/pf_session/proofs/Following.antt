@@ -13,8 +13,8 @@ use Rattle.pf_session.specs.declared.line_engine.fault.EngineFault.{EngineFault}
 use Rattle.pf_session.specs.declared.line_engine.fault.EngineFault.TheVariants as fault
 use Rattle.pf_session.specs.LineEngine.Sessions as sessions
 use Rattle.pf_session.specs.Server.Streams as streams
-use Rattle.pf_session.specs.{LineEngine.Chains.Chain, LineEngine.Sessions.{Answered, CutOff}, Server.{Sittings.{RunsBy, Sitting, TakesLine, at_next_line}, Streams.{Part, TakesPart, asked, last_receipt}}, Laws.Receipts.{AreWithin, ChainWithin, IsWithin, SitsWithin, TakesPartWithin, TakesWithin}}
-use Rattle.pf_session.proofs.{Chains.chain-moves, Sitting.line-moves}
+use Rattle.pf_session.specs.{LineEngine.Chains.Chain, LineEngine.Sessions.{Answered, CutOff}, Server.{Sittings.{IsAnsweredInTurn, RunsBy, Sitting, TakesLine, at_next_line}, Streams.{Part, TakesPart, asked, last_receipt}}, Laws.Receipts.{AreWithin, ChainWithin, IsWithin, SitsWithin, TakesPartWithin, TakesWithin}}
+use Rattle.pf_session.proofs.{Chains.chain-moves, Places.{front-amid, none-pending, place-begins}, Sitting.line-moves}
 
 -- ---- two receipts
 
@@ -27,8 +27,9 @@ within-then a b c p q = λ slip is.
     let (last, more, longer) = q mid some in (last, more, prefix_trans slip.front mid.front last.front front longer)
 
 -- what is handed in is within what is given
-within-answer : (base : PlainDurable) (setting : Setting) (c : Command) (r : Reply) (slip : PlainReceipt) (a b : Option PlainReceipt) → IsAnswered base setting c r slip a → b ≡ Some slip → IsWithin a b
-within-answer base setting c r slip a b answered is = λ last some. (slip, is, front-begins answered.before c r answered.came slip last.front answered.front answered.change (answered.follows last some).0)
+within-answer : (base : PlainDurable) (setting : Setting) (c : Command) (r : Reply) (slip : PlainReceipt) (a b : Option PlainReceipt) → IsAnsweredInTurn base setting c r slip a → b ≡ Some slip → IsWithin a b
+within-answer base setting c r slip a b (inl answered) is = λ last some. (slip, is, front-begins answered.before c r answered.came slip last.front answered.front answered.change (answered.follows last some).0)
+within-answer base setting c r slip a b (inr at) is = λ last some. (slip, is, place-begins base setting c r slip a at last some)
 
 -- ---- along a chain
 
@@ -116,17 +117,6 @@ module _ {S : Type 0} (receipt : S → Option PlainReceipt) (Serves : S → S �
 -- ---- a group
 
 module _ (h : CurrentOpening) (none : h.pending ≡ []) where
-  -- the history in the course of a group has what the group wants so far at its end
-  log-amid : (changes : List PlainChange) → log_of (amid h changes) ≡ log_of h ++ changes
-  log-amid changes =
-      let kept : log_of h ≡ flat h.acked = ap (λ (gs : List (List PlainChange)). flat (h.acked ++ gs)) none ∙ ap flat (append-nil h.acked) in
-      ap (λ (gs : List (List PlainChange)). flat ((h.acked ++ grouped changes) ++ gs)) none ∙ ap flat (append-nil (h.acked ++ grouped changes)) ∙ flat-with h.acked changes
-      ∙ ap (λ (l : List PlainChange). l ++ changes) (sym kept)
-
-  front-amid : (changes shown : List PlainChange) (c : Command) (r : Reply) (slip : PlainReceipt) → IsAnsweredAmid (amid h changes) c shown r slip → slip.front ≡ log_of h ++ changes_with h changes c
-  front-amid changes shown c r slip one =
-      one.front ∙ ap (λ (l : List PlainChange). l ++ changes_of (step_in (amid h changes) c)) (log-amid changes) ∙ append_assoc (log_of h) changes (changes_of (step_in (amid h changes) c))
-
   answers-within : (shown changes : List PlainChange) (commands : List Command) (answers : List Receipted) (last : Option PlainReceipt)
       → ForSome last (λ l. IsPrefix l.front (log_of h ++ changes)) → AreAnswered h shown changes commands answers
       → IsWithin last (last_receipt last (Ok answers)) × AreWithin (Ok answers) (last_receipt last (Ok answers))
@@ -136,7 +126,7 @@ module _ (h : CurrentOpening) (none : h.pending ≡ []) where
   answers-within shown changes (c ∷ commands) [] last begins are = absurd are
   answers-within shown changes (c ∷ commands) (a ∷ answers) last begins (one, more) =
       let grown : List PlainChange = changes_with h changes c in
-      let front : a.1.front ≡ log_of h ++ grown = front-amid changes shown c a.0 a.1 one in
+      let front : a.1.front ≡ log_of h ++ grown = front-amid h none changes shown c a.0 a.1 one in
       let new : Option PlainReceipt = last_receipt (Some a.1) (Ok answers) in
       let own : ForSome (Some a.1) (λ l. IsPrefix l.front (log_of h ++ grown)) =
       λ slip is. let same : slip ≡ a.1 = cc (is) in subst (λ (s : PlainReceipt). IsPrefix s.front (log_of h ++ grown)) (sym same) (subst (λ (l : List PlainChange). IsPrefix a.1.front l) front (prefix_self a.1.front)) in
@@ -150,17 +140,9 @@ module _ (h : CurrentOpening) (none : h.pending ≡ []) where
       (within-then last (Some a.1) new first rise, All-cons (λ (b : Receipted). IsWithin (Some b.1) new) a answers rise all)
 
 module _ (base : PlainDurable) (setting : Setting) (commands : List Command) (old : Option PlainReceipt) where
-  -- nothing was pending where a group is answered
-  none-pending : (answers : List Receipted) (answered : IsGroupAnswered base setting commands (Ok answers) old) → answered.before.pending ≡ []
-  none-pending answers answered =
-      let event : Event = called_group commands (replies_of (Ok answers)) answered.came in
-      let legal : LegalGroup answered.before commands (replies_of (Ok answers)) answered.came =
-      subst (λ (st : State). IsLegal st event) answered.comes (in-two (down answered.first) answered.world event [] answered.legal).here in
-      (accepted answered.before commands (map (λ (a : Receipted). a.0) answers) answered.came.failed legal.reply).taken.none
-
   group-within : (result : Result (List Receipted) Refusal) → IsGroupAnswered base setting commands result old → IsWithin old (last_receipt old result) × AreWithin result (last_receipt old result)
   group-within (Ok answers) answered =
-      answers-within answered.before (none-pending answers answered) (log_of (heard_group answered.before commands (replies_of (Ok answers)) answered.came)) [] commands answers old
+      answers-within answered.before (none-pending base setting commands answers old answered) (log_of (heard_group answered.before commands (replies_of (Ok answers)) answered.came)) [] commands answers old
       (λ slip is. subst (λ (l : List PlainChange). IsPrefix slip.front l) (sym (append-nil (log_of answered.before))) (answered.follows slip is).0) answered.receipts
   group-within (Err e) answered = (within-same old old refl, tt)
 
@@ -174,7 +156,8 @@ are-within (Err e) mid last end all = tt
 module _ (base : PlainDurable) (setting : Setting) where
   runs-rise : (o : Option PlainPacket) (c : Command) (a b : Sitting) (text : List ℕ) → RunsBy o base setting c a b text → IsWithin a.last b.last
   runs-rise (Some packet) c a b text judged = within-same a.last b.last (ap (λ (s : Sitting). s.last) judged.same)
-  runs-rise None c a b text run = within-answer base setting c run.reply run.slip a.last b.last run.answered (ap (λ (s : Sitting). s.last) run.kept)
+  runs-rise None c a b text (inl run) = within-answer base setting c run.reply run.slip a.last b.last run.answered (ap (λ (s : Sitting). s.last) run.keeps.kept)
+  runs-rise None c a b text (inr faulted) = within-same a.last b.last (ap (λ (s : Sitting). s.last) faulted.same)
 
   still-rises : (a b : Sitting) → b ≡ a → IsWithin a.last b.last
   still-rises a b same = within-same a.last b.last (ap (λ (s : Sitting). s.last) same)

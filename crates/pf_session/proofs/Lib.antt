@@ -4,6 +4,8 @@ pub mod AnsweredLines
 pub mod Moving
 pub mod LineReplies
 pub mod Sitting
+pub mod Places
+pub mod Running
 pub mod Replying
 pub mod Streaming
 pub mod Joining

@@ -1,5 +1,5 @@
 //! Lines that a Book answers.
-ghost use Rattle.std.specs.Prelude.{◌≡◌, ℕ, List};
+ghost use Rattle.std.specs.Prelude.{◌≡◌, ℕ, List, []};
 ghost use Rattle.pf_disk.specs.Disk.{IsImage};
 ghost use Rattle.pf_core.specs.{WorldBooks.IsAt, Worlds.{CurrentOpening, idle}};
 ghost use Rattle.pf_book.specs.Books.{HoldsLeft, IsOpenable, world_book};
@@ -29,7 +29,12 @@ impl<D: Disk + Drop, J: Chapter, S: Publisher<J> + Drop> RunCommands for Book<D,
     }
 }
 
+// Each line is answered as it comes.
 impl<D: Disk + Drop, J: Chapter, S: Publisher<J> + Drop> AnswerLine for Book<D, J, S> {
+    type Waiting = ();
+
+    ghost Waits = { λ lines waiting. lines ≡ [] };
+
     ghost Takes = { IsToldBy (CallsBook D.fault_count) };
 
     fn answer_line<W: Write>(
@@ -39,6 +44,27 @@ impl<D: Disk + Drop, J: Chapter, S: Publisher<J> + Drop> AnswerLine for Book<D, 
         writer: &mut W,
     ) -> io::Result<()> {
         answer(alloc, line, writer, self)
+    }
+
+    fn none_waiting(_alloc: Global) {}
+
+    fn take_line<W: Write>(
+        &mut self,
+        alloc: Global,
+        _waiting: &mut (),
+        line: &[u8],
+        writer: &mut W,
+    ) -> io::Result<()> {
+        self.answer_line(alloc, line, writer)
+    }
+
+    fn answer_waiting<W: Write>(
+        &mut self,
+        _alloc: Global,
+        _waiting: &mut (),
+        _writer: &mut W,
+    ) -> io::Result<()> {
+        Ok(())
     }
 
     ghost takes_seen = { seen-told (CallsBook D.fault_count) };

@@ -3,10 +3,12 @@
 //! - `gate`: what a session passes before each line.
 //! - `caller`: what a session and a stream call.
 //! - `session`: a session's lines, by the Book and the session's seer.
+//! - `run`: lines of a session that are run together.
 //! - `stream`: a peer's messages in groups, by the Book.
 
 mod caller;
 mod gate;
+mod run;
 mod session;
 mod stream;
 

@@ -1,8 +1,8 @@
 //! The reply to a line, whoever runs the command that it means.
-ghost use Rattle.std.specs.Prelude.{ℕ, List};
+ghost use Rattle.std.specs.Prelude.{ℕ, List, IfErr};
 ghost use Rattle.pf_addr.specs.Writing.{Writes};
 ghost use Rattle.pf_core.specs.declared.{command.Command.Command, command.Command.TheVariants.Ask, command.Question.TheVariants.Judge, reply.Reply.TheVariants.Refused};
-ghost use Rattle.pf_line.specs.Reply.Replies.{reply_text};
+ghost use Rattle.pf_line.specs.{Lines.{Parses, Refused as IsRefusal, line_at}, Reply.Replies.reply_text};
 ghost use Rattle.pf_session.specs.Telling.{IsToldBy};
 
 use pf_core::{Command, Refusal, Reply};
@@ -72,7 +72,19 @@ fn answer_any<A: RunCommands, W: Write>(
     ensures { (text : List ℕ) × IsToldBy A.Runs line.now runner.old runner.new text ×
         Writes result (W.contents writer.old) (W.contents writer.new) text }
 {
-    match parse_line(alloc, line) {
+    answer_said(parse_line(alloc, line), writer, runner)
+}
+
+/// The same, by what was read of a line.
+pub(crate) fn answer_said<A: RunCommands, W: Write>(
+    said: Result<Option<Command>, Refusal>,
+    writer: &mut W,
+    runner: &mut A,
+) -> io::Result<()>
+    ensures { (line : List ℕ) → Parses said (line_at line) → IfErr said (IsRefusal line) →
+        (text : List ℕ) × IsToldBy A.Runs line runner.old runner.new text × Writes result (W.contents writer.old) (W.contents writer.new) text }
+{
+    match said {
         Ok(None) => Ok(()),
         Ok(Some(command)) => runner.run_command(command, writer),
         Err(refusal) => refuse(writer, refusal),

@@ -3,7 +3,7 @@ use Rattle.std.specs.Prelude.{◌≡◌, ℕ, ◌≤◌, List, length, Option, S
 use Rattle.pf_core.specs.declared.{command.Command.Command, reply.Reply.Reply, reply.Reply.TheVariants.{Answer, Applied, Stored, Refused}}
 use Rattle.pf_core.specs.{Durable.Changes.PlainDurable, Worlds.{Setting, flat}}
 use Rattle.pf_book.specs.Receipts.{PlainReceipt}
-use Rattle.pf_session.specs.Server.Sittings.{IsCommandRun, TakesLines, Sitting}
+use Rattle.pf_session.specs.Server.Sittings.{IsCommandRun, TakesLines, Sitting, turn}
 
 -- the number of a change that a reply says is kept
 abbrev pub number_in : Reply → Option ℕ
@@ -26,7 +26,7 @@ abbrev pub AcknowledgesNoLess : (ℕ → Type 0) → Type 0
 AcknowledgesNoLess passed = (base : PlainDurable) (setting : Setting) (old new : Sitting) (lines : List (List ℕ)) (text : List ℕ) (n : ℕ)
     → TakesLines passed base setting old new lines text → Acknowledges n old → Acknowledges n new
 
--- So it is where the session's next call begins.
+-- So it is at the turn of the session's next command.
 abbrev pub FindsAcknowledged : Type 0
 FindsAcknowledged = (base : PlainDurable) (setting : Setting) (c : Command) (old new : Sitting) (text : List ℕ)
-    (run : IsCommandRun base setting c old new text) (n : ℕ) → Acknowledges n old → n ≤ length (flat run.answered.before.acked)
+    (run : IsCommandRun base setting c old new text) (n : ℕ) → Acknowledges n old → n ≤ length (flat (turn run.answered).acked)

@@ -5,7 +5,7 @@ use Rattle.pf_line.specs.{Grammar.Spoken, Lines.{line_at, long_line, Means, Spea
 use Rattle.pf_session.specs.{LineEngine.Lines.seen, Telling.IsToldBy}
 
 -- of a line that is too long as much is looked at as shows that
-seen-says : (line : List ℕ) → line_at (seen line) ≡ line_at line
+pub seen-says : (line : List ℕ) → line_at (seen line) ≡ line_at line
 seen-says line = elim (cases_lt 4097 (length line)) [
   | inl h ↦ long_line (seen line) (omega (arith, length-take 4097 line)) ∙ sym (long_line line (omega arith))
   | inr h ↦ ap line_at (take_all 4097 line h)

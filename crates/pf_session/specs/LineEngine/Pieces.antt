@@ -1,5 +1,5 @@
 -- What the parts of the engine do, wherever a session has come to.
-use Rattle.std.specs.Prelude.{◌≡◌, ℕ, List, Option, Result, Ok, Err}
+use Rattle.std.specs.Prelude.{◌≡◌, ℕ, List, ◌++◌, Option, Result, Ok, Err}
 use Rattle.pf_session.specs.{LineEngine.Lines.{IsCut, seen}, LineEngine.Sessions.{Answered, CutOff}}
 
 -- the lines were answered, or a failed write cut them off
@@ -7,6 +7,21 @@ abbrev pub Answers : {S L A E : Type 0} → (S → S → List L → List ℕ →
     → Result A E → List L → S → S → Option (List ℕ) → Option (List ℕ) → Type 0
 Answers Serves (Ok x) lines old new held held' = Answered Serves lines old new held held'
 Answers Serves (Err e) lines old new held held' = CutOff Serves lines old new held held'
+
+-- Of these lines some were answered, from the front on, and the others wait for their replies.
+pub record Taken {S Q : Type 0} (Serves : S → S → List (List ℕ) → List ℕ → Type 0) (Waits : List (List ℕ) → Q → Type 0)
+    (lines : List (List ℕ)) (old new : S) (waiting : Q) (held held' : Option (List ℕ)) : Type 0 where
+  pub earlier : List (List ℕ)
+  pub others : List (List ℕ)
+  pub lines_are : lines ≡ earlier ++ others
+  pub answered : Answered Serves earlier old new held held'
+  pub waits : Waits others waiting
+
+-- the lines were taken, or a failed write cut them off
+abbrev pub TakesSome : {S Q A E : Type 0} → (S → S → List (List ℕ) → List ℕ → Type 0) → (List (List ℕ) → Q → Type 0)
+    → Result A E → List (List ℕ) → S → S → Q → Option (List ℕ) → Option (List ℕ) → Type 0
+TakesSome Serves Waits (Ok x) lines old new waiting held held' = Taken Serves Waits lines old new waiting held held'
+TakesSome Serves Waits (Err e) lines old new waiting held held' = CutOff Serves lines old new held held'
 
 -- the whole lines of the input were answered, and as much as is looked at is kept of the rest
 pub record SessionSoFar {S : Type 0} (Serves : S → S → List (List ℕ) → List ℕ → Type 0)

@@ -1,14 +1,15 @@
 -- A session over a Book that others use too: which lines come to which calls, and their replies.
-use Rattle.std.specs.{Prelude.{◌≡◌, ℕ, ◌+◌, List, [], ◌∷◌, ◌++◌, codes, min, Option, Some, None, Result, ◌⊎◌}, Option.ForSome}
+use Rattle.std.specs.{Prelude.{◌≡◌, ℕ, ◌+◌, List, [], ◌∷◌, ◌++◌, length, codes, min, Option, Some, None, Result, Ok, Err, ◌⊎◌}, Option.ForSome}
+use Rattle.std.proofs.Common.{inl, inr}
 use mathlib.Core.List.{IsPrefix}
 use Rattle.pf_rule.specs.Packets.{PlainPacket}
-use Rattle.pf_core.specs.declared.{command.Command.Command, command.Command.TheVariants.Ask, command.Question.TheVariants.Judge, reply.Answer.TheVariants.Judged, reply.Reply.Reply, reply.Reply.TheVariants.Answer}
-use Rattle.pf_core.specs.{Durable.Changes.{PlainDurable, after, verdict}, Worlds.Setting}
+use Rattle.pf_core.specs.declared.{command.Command.Command, command.Command.TheVariants.Ask, command.Question.TheVariants.Judge, reply.Answer.TheVariants.Judged, reply.Refusal.TheVariants.Fault, reply.Reply.Reply, reply.Reply.TheVariants.{Answer, Refused}}
+use Rattle.pf_core.specs.{Durable.Changes.{PlainDurable, after, verdict}, Worlds.{Setting, CurrentOpening, amid, changes_due}}
 use Rattle.pf_view.specs.Seers.{PlainSeer}
 use Rattle.pf_line.specs.Reply.Replies.{reply_text}
-use Rattle.pf_book.specs.Receipts.{PlainReceipt, IsAnswered, learns_from}
+use Rattle.pf_book.specs.{Groups.{Answered as Receipted, IsGroupAnswered}, Receipts.{PlainReceipt, IsAnswered, learns_from}}
 use Rattle.pf_session.specs.declared.line_engine.fault.EngineFault.{EngineFault}
-use Rattle.pf_session.specs.{LineEngine.Chains.Chain, LineEngine.Sessions.IsSession, Telling.IsToldBy}
+use Rattle.pf_session.specs.{LineEngine.Chains.Chain, LineEngine.Sessions.IsSession, Server.Streams.last_receipt, Telling.IsToldBy}
 
 -- Where a session has come to: the number of its last line, the receipt of its last call, and what its seer saw and learnt.
 pub record Sitting : Type 0 where
@@ -52,16 +53,52 @@ pub record IsJudged (base : PlainDurable) (packet : PlainPacket) (old new : Sitt
   pub seer : HasJudged base packet old.seer new.seer text
   pub same : new ≡ record old { seer = new.seer }
 
--- The Book ran the command, with the receipt of the session's last call handed in. The session keeps the receipt that it got, and its seer
--- learns the token in it, if there is one: what it learnt then begins with the token, and with all that it had learnt.
-pub record IsCommandRun (base : PlainDurable) (setting : Setting) (c : Command) (old new : Sitting) (text : List ℕ) : Type 0 where
-  pub reply : Reply
-  pub slip : PlainReceipt
-  pub answered : IsAnswered base setting c reply slip old.last
-  pub told : text ≡ reply_text reply
+-- The session keeps the receipt of a reply, and its seer learns the token in it, if there is one: what it learnt then begins with the
+-- token, and with all that it had learnt.
+pub record Keeps (slip : PlainReceipt) (old new : Sitting) : Type 0 where
   pub kept : new ≡ record old { last = Some slip; seer = learns_from slip.token old.seer }
   pub learnt : ForSome slip.token (λ token. IsPrefix token new.seer.learnt)
   pub still : IsPrefix old.seer.learnt new.seer.learnt
+
+-- The Book ran a group that had the command behind these earlier ones, and this is what it was answered at its place. The receipt of the
+-- session's last call is that of the place before, or the one that was handed in. So lines at one group's places get its replies in order.
+pub record IsAnsweredInGroup (base : PlainDurable) (setting : Setting) (c : Command) (r : Reply) (slip : PlainReceipt) (last : Option PlainReceipt) : Type 0 where
+  pub earlier : List Command
+  pub later : List Command
+  -- what the earlier ones and the later ones were answered
+  pub told : List Receipted
+  pub others : List Receipted
+  pub handed : Option PlainReceipt
+  pub group : IsGroupAnswered base setting (earlier ++ c ∷ later) (Ok (told ++ (r, slip) ∷ others)) handed
+  pub place : length told ≡ length earlier
+  pub last_is : last ≡ last_receipt handed (Ok told)
+
+-- The Book answered the command, alone or at its place in a group.
+abbrev pub IsAnsweredInTurn : PlainDurable → Setting → Command → Reply → PlainReceipt → Option PlainReceipt → Type 0
+IsAnsweredInTurn base setting c r slip last = IsAnswered base setting c r slip last ⊎ IsAnsweredInGroup base setting c r slip last
+
+-- the opening as it was at the command's turn: when its call began, or in the middle of its group, behind what the earlier ones want
+abbrev pub turn : {base : PlainDurable} {setting : Setting} {c : Command} {r : Reply} {slip : PlainReceipt} {last : Option PlainReceipt}
+    → IsAnsweredInTurn base setting c r slip last → CurrentOpening
+turn (inl alone) = alone.before
+turn (inr at) = amid at.group.before (changes_due at.group.before [] at.earlier)
+
+-- The Book ran the command, with the receipt of the session's last call handed in, and the session keeps the receipt that it got.
+pub record IsCommandRun (base : PlainDurable) (setting : Setting) (c : Command) (old new : Sitting) (text : List ℕ) : Type 0 where
+  pub reply : Reply
+  pub slip : PlainReceipt
+  pub answered : IsAnsweredInTurn base setting c reply slip old.last
+  pub told : text ≡ reply_text reply
+  pub keeps : Keeps slip old new
+
+-- The device failed in a group that had the command, with the receipt of the session's last call handed in. The changes of the group stand
+-- in the history, not acknowledged. It has no receipt, and the session keeps its own.
+pub record HasFaulted (base : PlainDurable) (setting : Setting) (c : Command) (old new : Sitting) (text : List ℕ) : Type 0 where
+  pub earlier : List Command
+  pub later : List Command
+  pub group : IsGroupAnswered base setting (earlier ++ c ∷ later) (Err Fault) old.last
+  pub told : text ≡ reply_text (Refused Fault)
+  pub same : new ≡ old
 
 -- the packet that a command asks to judge, if it does
 abbrev pub packet_in : Command → Option PlainPacket
@@ -70,9 +107,10 @@ packet_in c = None
 
 abbrev pub RunsBy : Option PlainPacket → PlainDurable → Setting → Command → Sitting → Sitting → List ℕ → Type 0
 RunsBy (Some packet) base setting c old new text = IsJudged base packet old new text
-RunsBy None base setting c old new text = IsCommandRun base setting c old new text
+RunsBy None base setting c old new text = IsCommandRun base setting c old new text ⊎ HasFaulted base setting c old new text
 
--- a packet is judged by the session's seer, any other command is run by the Book: from where the session was to where it then is
+-- A packet is judged by the session's seer. Any other command is run by the Book, alone or in a group: from where the session was to where
+-- it then is.
 abbrev pub Runs : PlainDurable → Setting → Command → Sitting → Sitting → List ℕ → Type 0
 Runs base setting c old new text = RunsBy (packet_in c) base setting c old new text
 

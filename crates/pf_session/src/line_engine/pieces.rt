@@ -6,7 +6,7 @@ use crate::line_engine::answer_line::{AnswerLine, LOOKED_AT};
 use std::alloc::Global;
 use std::io::{self, Write};
 
-/// Answers each line that ends in this piece of the input. The first `kept` bytes of `line` are what is kept of a line that began before
+/// Answers each line that ends in this piece of the input; none waits behind it. The first `kept` bytes of `line` are what is kept of a line that began before
 /// the piece, as far as it is looked at; the result is how many are kept after it. `Err`: a write failed.
 pub fn answer_piece<A: AnswerLine, W: Write>(
     alloc: Global,
@@ -26,15 +26,17 @@ pub fn answer_piece<A: AnswerLine, W: Write>(
         (λ e. Failed (Chain A.Takes) (input ++ piece.now) start answerer.new held (W.contents writer.new)) }
 {
     let mut len = kept;
+    let mut waiting = A::none_waiting(alloc);
     for byte in piece {
         if *byte == b'\n' {
-            answerer.answer_line(alloc, &line[..len], writer)?;
+            answerer.take_line(alloc, &mut waiting, &line[..len], writer)?;
             len = 0;
         } else if len < LOOKED_AT {
             line[len] = *byte;
             len += 1;
         }
     }
+    answerer.answer_waiting(alloc, &mut waiting, writer)?;
     Ok(len)
 }
 

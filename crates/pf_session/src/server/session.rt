@@ -1,34 +1,36 @@
 //! A session over a Book that others use too.
-ghost use Rattle.std.specs.Prelude.{◌≡◌, ℕ, List, None, Option, option_map};
+ghost use Rattle.std.specs.Prelude.{◌≡◌, ℕ, List, Option, None, option_map};
 ghost use Rattle.pf_addr.specs.Writing.{Writes};
 ghost use Rattle.pf_line.specs.Reply.Replies.{reply_text};
 ghost use Rattle.pf_book.specs.Receipts.{PlainReceipt};
-ghost use Rattle.pf_session.specs.{LineEngine.Sessions.IsSession, Server.{Sittings.{HasJudged, IsJudged, IsCommandRun, IsSharedSession, Runs, TakesLines, packet_in}, SessionRuns.{IsSame, RunsInSession, TakesInSession, sitting}}, Laws.Server.attends-seen};
+ghost use Rattle.pf_session.specs.{LineEngine.Sessions.IsSession, Server.{Sittings.{HasJudged, IsJudged, IsCommandRun, IsSharedSession, Keeps, Runs, TakesLines, packet_in}, SessionRuns.{AreMeant, IsSame, RunsInSession, TakesInSession, sitting}}, Laws.Server.attends-seen};
 
 use crate::line_engine::{self, AnswerLine, EngineFault};
 use crate::server::caller::{CallBook, Caller};
 use crate::server::gate::Gate;
+use crate::server::run::command_of;
 use crate::telling::{RunCommands, answer, tell};
 use pf_addr::write_text;
 use pf_book::shared::Shared;
 use pf_book::{Chapter, Disk, Gone, Publisher, Receipt, Seer, learn_from};
 use pf_core::{Command, Question, Reply};
-use pf_line::write_judged;
+use pf_line::{may_judge, parse_line, write_judged};
 use pf_rule::Packet;
 use std::alloc::Global;
 use std::io::{self, Read, Write};
+use std::mem;
 use std::sync::Wait;
 
 /// A session: what it works with, how many lines it had, and the receipt of its last call.
 #[derive(Drop)]
 pub(crate) struct Session<'a, C: CallBook<J>, J: Chapter, G: Gate> {
-    book: &'a C,
-    seer: &'a mut Seer<J>,
-    gate: &'a G,
-    number: u32,
-    line: u32,
+    pub(super) book: &'a C,
+    pub(super) seer: &'a mut Seer<J>,
+    pub(super) gate: &'a G,
+    pub(super) number: u32,
+    pub(super) line: u32,
     // behind a reference, so that a session owns no memory
-    last: &'a mut Option<Receipt<J>>,
+    pub(super) last: &'a mut Option<Receipt<J>>,
 }
 
 // The packet that a command asks to judge, if it does.
@@ -58,14 +60,22 @@ fn write_verdict<J: Chapter, O: Write>(
 }
 
 impl<'a, C: CallBook<J>, J: Chapter, G: Gate> Session<'a, C, J, G> {
+    // Keeps the receipt of a reply.
+    pub(super) fn keep(&mut self, receipt: Receipt<J>)
+        ensures same { IsSame self.old self.new }
+        ensures kept { Keeps receipt (sitting self.old) (sitting self.new) }
+    {
+        learn_from(self.seer, &receipt);
+        *self.last = Some(receipt);
+    }
+
     // Runs a command by the Book.
     fn run(&mut self, command: Command) -> Reply
         ensures same { IsSame self.old self.new }
         ensures run { IsCommandRun J.base J.setting command (sitting self.old) (sitting self.new) (reply_text result) }
     {
         let (reply, receipt) = self.book.call(command, self.last.as_ref());
-        learn_from(self.seer, &receipt);
-        *self.last = Some(receipt);
+        self.keep(receipt);
         reply
     }
 
@@ -91,7 +101,11 @@ impl<'a, C: CallBook<J>, J: Chapter, G: Gate> Session<'a, C, J, G> {
     }
 
     // Runs a command by the Book, and writes the reply.
-    fn run_and_tell<O: Write>(&mut self, command: Command, writer: &mut O) -> io::Result<()>
+    pub(super) fn run_and_tell<O: Write>(
+        &mut self,
+        command: Command,
+        writer: &mut O,
+    ) -> io::Result<()>
         ensures same { IsSame self.old self.new }
         ensures run { (text : List ℕ) × IsCommandRun J.base J.setting command (sitting self.old) (sitting self.new) text ×
             Writes result (O.contents writer.old) (O.contents writer.new) text }
@@ -114,6 +128,10 @@ impl<'a, C: CallBook<J>, J: Chapter, G: Gate> RunCommands for Session<'a, C, J, 
 }
 
 impl<'a, C: CallBook<J>, J: Chapter, G: Gate> AnswerLine for Session<'a, C, J, G> {
+    type Waiting = Vec<Command>;
+
+    ghost Waits = { λ lines commands. AreMeant lines commands.items };
+
     ghost Takes = { TakesInSession G.passed J.base J.setting };
 
     fn answer_line<O: Write>(
@@ -125,6 +143,37 @@ impl<'a, C: CallBook<J>, J: Chapter, G: Gate> AnswerLine for Session<'a, C, J, G
         self.line = self.line.saturating_add(1);
         self.gate.pass(self.number, self.line);
         answer(alloc, line, writer, self)
+    }
+
+    fn none_waiting(alloc: Global) -> Vec<Command> {
+        Vec::new(alloc)
+    }
+
+    fn take_line<O: Write>(
+        &mut self,
+        alloc: Global,
+        waiting: &mut Vec<Command>,
+        line: &[u8],
+        writer: &mut O,
+    ) -> io::Result<()> {
+        if may_judge(line) {
+            self.answer_waiting(alloc, waiting, writer)?;
+            return self.answer_line(alloc, line, writer);
+        }
+        match command_of(parse_line(alloc, line)) {
+            Ok(command) => self.let_wait(alloc, command, waiting, writer),
+            Err(said) => self.answer_behind(alloc, said, waiting, writer),
+        }
+    }
+
+    fn answer_waiting<O: Write>(
+        &mut self,
+        alloc: Global,
+        waiting: &mut Vec<Command>,
+        writer: &mut O,
+    ) -> io::Result<()> {
+        let commands = mem::replace(waiting, Vec::new(alloc));
+        self.run_waiting(commands, writer)
     }
 
     ghost takes_seen = { attends-seen G.passed J.base J.setting };
@@ -147,13 +196,18 @@ fn run_session<C: CallBook<J>, J: Chapter, G: Gate, R: Read, O: Write>(
 
 /// Answers the lines of a reader, as `serve_alone` does, by a Book that other sessions use too, until the reader is at its end.
 ///
-/// Before each line it passes the gate, with the numbers of the session and of the line. The session's seer answers a `judge`, without a
-/// lock; where no published copy could judge, the reply is `err gone`. Every other command goes through `Shared::run` with the receipt of
-/// the session's last call, so that it is answered by no less than that was. Before the reply to a change that is applied is written, the
-/// seer learns it, with all before it.
+/// Before each line's reply it passes the gate, with the numbers of the session and of the line. The session's seer answers a `judge`,
+/// without a lock; where no published copy could judge, the reply is `err gone`. Every other command goes through `Shared::run` with the
+/// receipt of the session's last call, so that it is answered by no less than that was. Before the reply to a change that is applied is
+/// written, the seer learns it, with all before it.
 ///
-/// It waits for the reader, the writer, the gate and the Book's lock, and holds that lock only within `Shared::run`. Faults are those of
-/// [`serve_alone`](crate::serve_alone); what was learnt stays learnt.
+/// Consecutive lines that one read completed go through `Shared::group` instead, up to 64 of them at once, if a group may have their
+/// commands. If the group is refused whole, they go through `Shared::run` one by one. But if the device failed in it each of them is told
+/// so, as the changes may be kept all the same; such a reply has no receipt.
+///
+/// It waits for the reader, the writer, the gate and the Book's lock, and holds that lock only within `Shared::run` and `Shared::group`.
+/// Faults are those of [`serve_alone`](crate::serve_alone); what was learnt stays learnt. At `Err(Write)` the lines behind the last one that
+/// was answered may have been run, if they went in a group with it.
 pub fn serve<
     W: Wait,
     D: Disk + Drop,

@@ -1,0 +1,33 @@
+use Rattle.std.proofs.{Common.{ℕ, List, ◌∷◌, ◌++◌, [], subst}, lemmas.Result.err_from_is_err_and}
+use Rattle.std.specs.Prelude.{Vec}
+use Rattle.std.specs.declared.alloc.Global.{Global}
+use Rattle.pf_core.specs.declared.command.Command.{Command}
+use Rattle.pf_session.specs.{Laws.Server.attends-seen, Server.SessionRuns.{AreMeant, TakesInSession}}
+use Rattle.pf_session.proofs.{AnsweredLines.{all-taken, answers-behind, cut-longer, line-answers}, Running.read-meant}
+use Rattle.pf_session.proofs.server.session.SessionAnswerLine.take_line.Goals as goal
+
+pub returns-in_err-answer_waiting : goal.returns-in_err-answer_waiting
+returns-in_err-answer_waiting g c = λ lines whole meant is.
+    let (e, failed, same) = err_from_is_err_and c.from_residual.result c.from_residual.ensures.1 in
+    rw failed (cut-longer (TakesInSession g.G.Gate.passed g.J.Naming.base g.J.Chapter.setting) (whole ∷ []) (c.in_err-answer_waiting.ensures.told lines meant))
+
+pub returns-then-may_judge : goal.returns-then-may_judge
+returns-then-may_judge g c = λ lines whole meant is.
+    let passed = g.G.Gate.passed in
+    let base = g.J.Naming.base in
+    let setting = g.J.Chapter.setting in
+    let (text, takes, written) = c.answer_line.ensures in
+    let old = c.answer_waiting.new.self in
+    let new = c.answer_line.new.self in
+    let whole_takes = attends-seen passed base setting old new whole text (subst (λ (l : List ℕ). TakesInSession passed base setting l old new text) is takes) in
+    all-taken (TakesInSession passed base setting) (λ (ls : List (List ℕ)) (commands : Vec Command Global). AreMeant ls commands.items) c.answer_line.result (lines ++ whole ∷ []) c.args.self.now new c.answer_waiting.new.waiting (g.O.Write.contents c.args.writer.now) (g.O.Write.contents c.answer_line.new.writer) c.in_ok-answer_waiting.ensures.none
+    (answers-behind (TakesInSession passed base setting) c.answer_line.result (whole ∷ []) new (g.O.Write.contents c.answer_line.new.writer) (c.in_ok-answer_waiting.ensures.told lines meant)
+    (line-answers (TakesInSession passed base setting) c.answer_line.result (g.O.Write.contents c.answer_waiting.new.writer) (g.O.Write.contents c.answer_line.new.writer) whole text whole_takes written))
+
+pub returns-in-Ok : goal.returns-in-Ok
+returns-in-Ok g c = λ lines whole meant is.
+    c.let_wait.ensures lines c.args.line.now whole meant (read-meant c.args.line.now c.parse_line.result c.in-Ok.command c.parse_line.ensures.exact c.in-Ok.ensures.0 c.in-Ok.ensures.1) is
+
+pub returns-in-Err : goal.returns-in-Err
+returns-in-Err g c = λ lines whole meant is.
+    c.answer_behind.ensures lines c.args.line.now whole meant (rw c.in-Err.ensures c.parse_line.ensures.exact) (rw c.in-Err.ensures c.parse_line.ensures.refused) is
