@@ -1,5 +1,5 @@
 //! The lines of a session that wait to be run together.
-ghost use Rattle.std.specs.Prelude.{◌≡◌, ℕ, List, [], ◌∷◌, ◌++◌, length, IfErr, MatchResult, Ok, Err, Some, None};
+ghost use Rattle.std.specs.Prelude.{◌≡◌, ℕ, List, [], ◌∷◌, ◌++◌, length, IfErr, Ok, Err, Some, None};
 ghost use Rattle.pf_addr.specs.Writing.{Writes};
 ghost use Rattle.pf_core.specs.declared.{command.Command.Command, reply.Refusal.TheVariants.Fault};
 ghost use Rattle.pf_line.specs.{Lines.{Parses, Refused as IsRefusal, line_at}, Reply.Replies.reply_text};
@@ -15,24 +15,6 @@ use pf_book::{Chapter, Receipt};
 use pf_core::{Command, GROUP_LIMIT, Refusal, Reply};
 use std::alloc::Global;
 use std::io::{self, Write};
-
-/// The command that was read of a line, if a group may have it, else what was read.
-pub(super) fn command_of(
-    said: Result<Option<Command>, Refusal>,
-) -> Result<Command, Result<Option<Command>, Refusal>>
-    ensures { MatchResult result (λ c. (said ≡ Ok (Some c)) × (packet_in c ≡ None)) (λ other. other ≡ said) }
-{
-    match said {
-        Ok(Some(command)) => {
-            if command.may_be_grouped() {
-                Ok(command)
-            } else {
-                Err(Ok(Some(command)))
-            }
-        }
-        other => Err(other),
-    }
-}
 
 impl<'a, C: CallBook<J>, J: Chapter, G: Gate> Session<'a, C, J, G> {
     // Answers what was read of a line, behind the gate.

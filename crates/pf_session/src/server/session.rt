@@ -1,5 +1,5 @@
 //! A session over a Book that others use too.
-ghost use Rattle.std.specs.Prelude.{◌≡◌, ℕ, List, Option, None, option_map};
+ghost use Rattle.std.specs.Prelude.{◌≡◌, ℕ, List, MatchResult, Ok, Option, Some, None, option_map};
 ghost use Rattle.pf_addr.specs.Writing.{Writes};
 ghost use Rattle.pf_line.specs.Reply.Replies.{reply_text};
 ghost use Rattle.pf_book.specs.Receipts.{PlainReceipt};
@@ -8,12 +8,11 @@ ghost use Rattle.pf_session.specs.{LineEngine.Sessions.IsSession, Server.{Sittin
 use crate::line_engine::{self, AnswerLine, EngineFault};
 use crate::server::caller::{CallBook, Caller};
 use crate::server::gate::Gate;
-use crate::server::run::command_of;
 use crate::telling::{RunCommands, answer, tell};
 use pf_addr::write_text;
 use pf_book::shared::Shared;
 use pf_book::{Chapter, Disk, Gone, Publisher, Receipt, Seer, learn_from};
-use pf_core::{Command, Question, Reply};
+use pf_core::{Command, Question, Refusal, Reply};
 use pf_line::{may_judge, parse_line, write_judged};
 use pf_rule::Packet;
 use std::alloc::Global;
@@ -40,6 +39,24 @@ fn packet_in(command: &Command) -> Option<&Packet>
     match command {
         Command::Ask(Question::Judge(packet)) => Some(packet),
         _ => None,
+    }
+}
+
+// The command that was read of a line, if a group may have it, else what was read.
+fn command_of(
+    said: Result<Option<Command>, Refusal>,
+) -> Result<Command, Result<Option<Command>, Refusal>>
+    ensures { MatchResult result (λ c. (said ≡ Ok (Some c)) × (packet_in c ≡ None)) (λ other. other ≡ said) }
+{
+    match said {
+        Ok(Some(command)) => {
+            if command.may_be_grouped() {
+                Ok(command)
+            } else {
+                Err(Ok(Some(command)))
+            }
+        }
+        other => Err(other),
     }
 }
 
