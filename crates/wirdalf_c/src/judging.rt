@@ -80,7 +80,11 @@ pub fn test(
         None => NO_ENTRY,
         Some(entry) => {
             *prefix_length = entry.net().prefix_len();
-            if entry.is_negated() { NEGATED } else { IN_TABLE }
+            if entry.is_negated() {
+                NEGATED
+            } else {
+                IN_TABLE
+            }
         }
     }
 }
