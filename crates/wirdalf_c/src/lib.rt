@@ -120,7 +120,8 @@ pub extern "C" fn wirdalf_test(
     prefix_length: &mut u8,
 ) -> u32
     requires { IsSome config.old.held }
-    ensures tested { IfSome config.old.held (λ d. IsTested d path.now table.now family address.now prefix_length.old prefix_length.new result) }
+    ensures tested { IfSome config.old.held (λ d. IsTested d path.now table.now family address.now prefix_length.old
+        prefix_length.new result) }
     ensures same { config.new ≡ config.old }
 {
     test(config.lend(), path, table, family, *address, prefix_length)
