@@ -24,7 +24,7 @@ struct worker {
 
 static atomic_bool is_over;
 
-/* Reads a whole file, and what it holds. A file that pfd is writing may be torn: then it is read again, later. */
+/* Reads a whole file, and what it holds. One that pfd is writing may be of two times: the caller looks whether it has changed since. */
 static uint32_t read_file(const char *path, struct wirdalf *config)
 {
     FILE *file = fopen(path, "rb");
@@ -41,6 +41,11 @@ static uint32_t read_file(const char *path, struct wirdalf *config)
     free(bytes);
     fclose(file);
     return result;
+}
+
+static int is_same(const struct timespec *one, const struct timespec *other)
+{
+    return one->tv_sec == other->tv_sec && one->tv_nsec == other->tv_nsec;
 }
 
 /* Where packets would come from. */
@@ -111,15 +116,15 @@ int main(int count, char **words)
             return 1;
     for (int turns = 10 * atoi(words[2]); turns > 0; turns--) {
         struct wirdalf config = WIRDALF_NONE;
-        struct stat about;
+        struct stat before, after;
 
-        if (stat(words[1], &about) == 0
-            && (about.st_mtim.tv_sec != last.tv_sec || about.st_mtim.tv_nsec != last.tv_nsec)
-            && read_file(words[1], &config) == WIRDALF_OK) {
-            last = about.st_mtim;
-            hand_out(&config, workers);
+        if (stat(words[1], &before) == 0 && !is_same(&before.st_mtim, &last) && read_file(words[1], &config) == WIRDALF_OK) {
+            if (stat(words[1], &after) == 0 && is_same(&before.st_mtim, &after.st_mtim)) {
+                last = before.st_mtim;
+                hand_out(&config, workers);
+                read++;
+            }
             wirdalf_free(config);
-            read++;
         }
         nanosleep(&wait, NULL);
     }

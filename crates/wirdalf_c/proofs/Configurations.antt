@@ -1,12 +1,12 @@
--- A handle by value is its pointer and what the pointer owns. Assumes `Logic`.
-use Rattle.std.proofs.Common.{◌≡◌, ℕ, List, [], ◌∷◌, ◌++◌, Option, Some, None, IsSome, refl, sym, ap, ◌∙◌, subst}
+-- A configuration by value is its pointer and what the pointer owns. Assumes `Logic`.
+use Rattle.std.proofs.Common.{◌≡◌, ℕ, List, [], ◌∷◌, ◌++◌, Option, Some, None, IsSome, refl, sym, ap, subst}
 use mir.Raw.{raw as bare}
 use mir.Val.{Val, vptr, vstruct, vcons, vnil, of_list}
 use seplogic.Ra.Ura.{Ura}
 use base.Logic.{never, fst∗}
 use types.Logic.{Logic, sem}
-use types.Kit.{Item, Goal, Seq, Step, step, ‵, ◌$◌, move, drop, fsplit, fjoin, fpick, fpack, rewrite, feq_i, feq_l}
-use denote.RattleType.{RattleType, Valss}
+use types.Kit.{Item, Goal, Seq, Step, step, ‵, ◌$◌, drop, fsplit, fjoin, fpick, fpack, rewrite, feq_i, feq_l}
+use denote.RattleType.{Valss}
 use denote.Builtin.{RawPtr}
 use denote.Memory.{lone}
 use denote.RawPtr.{Ptr, block_ptr, null_ptr, ptr_val, in_a_block}
@@ -45,6 +45,6 @@ module _ {M : Type 1} {𝓤 : Ura M} {𝓛 : Logic 𝓤} {K : Type 0} {Γ : List
       nothing t $ feq_i t (List Val) (vptr b o ∷ []) (ptr_val h.at ∷ []) (ap (λ (p : Ptr). ptr_val p ∷ []) (sym e)) $ fjoin t $ feq_i t (List Val) (word b o ∷ []) (word b o ∷ []) refl $ fjoin t $
       fpack t (Valss (RawPtr ∷ [])) (within (shape configuration.the_type) (h.at, tt) (word b o ∷ [])) (vptr b o ∷ [], tt) $ fjoin t $ s)
 
--- a value that is lent and not written leaves its handle as it was
+-- what is lent and not written leaves its configuration as it was
 pub handed_back : (h : Configuration) (x : PlainDurable) → h.held ≡ Some x → record h { held = Some x } ≡ h
 handed_back h x e = ap (λ (o : Option PlainDurable). record h { held = o }) (sym e)

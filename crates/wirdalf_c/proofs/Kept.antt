@@ -1,5 +1,5 @@
 -- What was read is kept for C, or the fault told.
-use Rattle.std.proofs.Common.{◌≡◌, ◌⊎◌, ℕ, List, Some, Result, Ok, Err, IfOk, IfErr, inl, inr}
+use Rattle.std.proofs.Common.{◌≡◌, ◌⊎◌, ℕ, List, Result, Ok, Err, IfOk, IfErr, inl, inr}
 use Rattle.pf_core.specs.{Durable.Changes.{PlainDurable}, Laws.Durable.IsWithin}
 use Rattle.pf_store.specs.{Openings.IsUnopened, Stores.Holds, declared.store.fault.OpenFault.OpenFault}
 use Rattle.pf_store.specs.declared.store.fault.OpenFault.TheVariants as opening

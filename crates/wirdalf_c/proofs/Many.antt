@@ -1,5 +1,5 @@
 -- A list, of which an element is replaced.
-use Rattle.std.proofs.Common.{◌≡◌, ◌≢◌, ℕ, zero, suc, ◌+◌, ◌<◌, ◌≤◌, List, [], ◌∷◌, length, Option, Some, None, IfSome, arith, slice_get, slice_set, get_or, refl, ap, inl, inr}
+use Rattle.std.proofs.Common.{◌≡◌, ◌≢◌, ℕ, zero, suc, ◌+◌, ◌<◌, List, [], ◌∷◌, length, Option, Some, IfSome, arith, slice_get, slice_set, get_or, refl, ap, inl, inr}
 use Rattle.std.proofs.lemmas.{Bool.cases_lt, Option.slice_get-get_or}
 
 get_set_same : {A : Type 0} (ys : List A) (i : ℕ) (v : A) → i < length ys → slice_get (slice_set ys i v) i ≡ Some v

@@ -1,10 +1,10 @@
 -- The words that are written of C's record are those of its packet.
-use Rattle.std.proofs.{Common.{◌≡◌, ℕ, ◌+◌, ◌<◌, ◌≤◌, ◌^◌, ◌==◌, ◌&&◌, ◌||◌, nat_lt, Bool, true, false, cond, if◌then◌else◌, List, [], ◌∷◌, ◌++◌, length, take, codes, decimal, Option, Some, None, Result, Ok, Err, refl, sym, ap, ◌∙◌, subst, inl, inr, arith, unwrap_or}, lemmas.Fmt.{decimal_is_IsNumeral, length-decimal-le}, lemmas.Bool.lt-leb, lemmas.Bool.Decides.nat_tests}
+use Rattle.std.proofs.{Common.{◌≡◌, ℕ, ◌<◌, ◌≤◌, ◌^◌, ◌==◌, ◌&&◌, ◌||◌, nat_lt, Bool, true, false, if◌then◌else◌, [], ◌∷◌, length, take, codes, decimal, Some, Ok, Err, refl, inr, arith}, lemmas.Fmt.{decimal_is_IsNumeral, length-decimal-le}, lemmas.Bool.Decides.nat_tests}
 use Rattle.std.specs.{List.list_all, Int.{from_be_bytes, w32, w128}, Result.is_ok}
-use Rattle.pf_form.specs.{declared.form.fault.Kind.Kind, declared.form.fault.Kind.TheVariants.{BadWord, NameTooLong}, Form.Words.Word, Form.Forms.reads, Form.Numbers.IsNumber, Form.Numbers.number_of, Laws.Form.Numbers.number_only}
-use Rattle.pf_addr.specs.{declared.addr.Addr.Addr, Address.{IsAddr, family_of, same_family}, Reading.addr_at, Path.Names.is_name_byte, Spelling.addr_text, Laws.Reading.addr_only, Laws.Spelling.addr_text_spells}
+use Rattle.pf_form.specs.{declared.form.fault.Kind.Kind, declared.form.fault.Kind.TheVariants.{BadWord, NameTooLong}, Form.Words.Word, Form.Numbers.number_of, Laws.Form.Numbers.number_only}
+use Rattle.pf_addr.specs.{declared.addr.Addr.Addr, Address.{IsAddr, family_of, same_family}, Path.Names.is_name_byte, Spelling.addr_text, Laws.Reading.addr_only, Laws.Spelling.addr_text_spells}
 use Rattle.pf_addr.specs.declared.addr.Addr.TheVariants as addr
-use Rattle.pf_rule.specs.{Packets.PlainPacket, PacketGrammar.{packet, way}, declared.value.interface.TheConstants.INTERFACE_LIMIT, declared.value.direction.Direction.Direction, declared.value.direction.Direction.TheVariants.{In, Out}, Value.Values.{has_ports, interface_of, protocol_of, address_of, port_of}, Laws.Value.Reading.protocol_only}
+use Rattle.pf_rule.specs.{PacketGrammar.{packet, way}, declared.value.interface.TheConstants.INTERFACE_LIMIT, declared.value.direction.Direction.TheVariants.{In, Out}, Value.Values.{has_ports, interface_of, protocol_of, address_of, port_of}, Laws.Value.Reading.protocol_only}
 use Rattle.wirdalf_c.specs.declared.record.{PacketRecord.PacketRecord, TheConstants.{WAY_IN, WAY_OUT, FAMILY_V4, FAMILY_V6}}
 use Rattle.wirdalf_c.specs.Packets.{AreWordsOf, address_in, is_packet, name_in, ports_fit, said_by}
 
@@ -46,7 +46,7 @@ one_family false m n k l = refl
 seven_read : (b : Bool) (i : Word) (n : ℕ) (s t : Addr) (sp tp : ℕ) (wi wp ws wsp wt wtp : Word) → interface_of wi ≡ Ok i → protocol_of wp ≡ Ok n → address_of ws ≡ Ok s
     → port_of (has_ports n) wsp ≡ Ok sp → address_of wt ≡ Ok t → port_of (has_ports n) wtp ≡ Ok tp → same_family (family_of s) (family_of t) ≡ true
     → AreWordsOf (record { direction = if b then In else Out; interface = i; protocol = n; source = s; source_port = sp; destination = t; destination_port = tp })
-        ((if b then codes "in" else codes "out") ∷ wi ∷ wp ∷ ws ∷ wsp ∷ wt ∷ wtp ∷ [])
+    ((if b then codes "in" else codes "out") ∷ wi ∷ wp ∷ ws ∷ wsp ∷ wt ∷ wtp ∷ [])
 unfolding packet way
 seven_read true i n s t sp tp wi wp ws wsp wt wtp e1 e2 e3 e4 e5 e6 e7 = rw (e1, e2, e3, e4, e5, e6, e7) refl
 seven_read false i n s t sp tp wi wp ws wsp wt wtp e1 e2 e3 e4 e5 e6 e7 = rw (e1, e2, e3, e4, e5, e6, e7) refl
@@ -67,7 +67,7 @@ each_or false false c h = cc
 pub words_of_record : (r : PacketRecord) → r.protocol < 256 → r.source_port < 65536 → r.destination_port < 65536
     → IsAddr (address_in r.family r.source) → IsAddr (address_in r.family r.destination) → is_packet r ≡ true
     → AreWordsOf (said_by r) ((if r.way == WAY_IN then codes "in" else codes "out") ∷ name_in r.interface ∷ decimal r.protocol
-        ∷ addr_text (address_in r.family r.source) ∷ decimal r.source_port ∷ addr_text (address_in r.family r.destination) ∷ decimal r.destination_port ∷ [])
+    ∷ addr_text (address_in r.family r.source) ∷ decimal r.source_port ∷ addr_text (address_in r.family r.destination) ∷ decimal r.destination_port ∷ [])
 words_of_record r low low_s low_t is_s is_t is =
     let parts = last_three ((r.way == WAY_IN) || (r.way == WAY_OUT)) ((r.family == FAMILY_V4) || (r.family == FAMILY_V6)) (nat_lt 0 r.protocol) (ports_fit r) (is_ok (interface_of (name_in r.interface))) is in
     let some : 0 < r.protocol = grind (arith, nat_tests, parts.0) in

@@ -1,5 +1,5 @@
 -- A path is short.
-use Rattle.std.proofs.{Common.{◌≡◌, ℕ, ◌≤◌, Bool, true, false, List, [], ◌∷◌, length, nat_lt, Option, Some, None, refl, arith, if◌then◌else◌}, lemmas.Bool.Decides.nat_tests}
+use Rattle.std.proofs.{Common.{◌≡◌, ℕ, ◌≤◌, Bool, true, false, List, [], ◌∷◌, length, nat_lt, Option, Some, refl, arith, if◌then◌else◌}, lemmas.Bool.Decides.nat_tests}
 use Rattle.std.specs.Option.{is_none, option_or}
 use Rattle.pf_form.specs.declared.form.fault.Kind.{Kind, TheVariants.NameTooLong}
 use Rattle.pf_addr.specs.{declared.path.limits.TheConstants.PATH_LIMIT, Path.Paths.{is_path, components, first_fault, depth_fault}}

@@ -28,7 +28,8 @@ pub fn judge_many(
     verdicts: &mut [VerdictRecord],
 ) -> usize
     ensures count { result ≡ min (length packets.now) (length verdicts.old) }
-    ensures judged { (i : ℕ) → i < result → IfSome (slice_get packets.now i) (λ p. IfSome (slice_get verdicts.new i) (λ v. IsJudged durable.now p v)) }
+    ensures judged { (i : ℕ) → i < result
+        → IfSome (slice_get packets.now i) (λ p. IfSome (slice_get verdicts.new i) (λ v. IsJudged durable.now p v)) }
     ensures rest { (i : ℕ) → result ≤ i → slice_get verdicts.new i ≡ slice_get verdicts.old i }
 {
     let count = packets.len().min(verdicts.len());
@@ -80,7 +81,11 @@ pub fn test(
         None => NO_ENTRY,
         Some(entry) => {
             *prefix_length = entry.net().prefix_len();
-            if entry.is_negated() { NEGATED } else { IN_TABLE }
+            if entry.is_negated() {
+                NEGATED
+            } else {
+                IN_TABLE
+            }
         }
     }
 }

@@ -29,16 +29,16 @@ mod record;
 mod text;
 mod verdict;
 
+ghost use Rattle.std.specs.Prelude.{◌≡◌, ◌<◌, ◌≤◌, ℕ, length, min, slice_get, IsSome, IfSome};
+ghost use Rattle.pf_core.specs.Durable.Changes.{main_sum};
+ghost use Rattle.wirdalf_c.specs.Answers.{AreCounts, IsCopied, IsJudged, IsRead, IsTested};
+
 use configuration::Configuration;
 use image::read_image;
 use judging::{count, judge, judge_many, test};
 use keeping::{keep, shared};
 use record::{CountsRecord, PacketRecord, VerdictRecord};
 use std::alloc::Global;
-
-ghost use Rattle.std.specs.Prelude.{◌≡◌, ◌<◌, ◌≤◌, ℕ, length, min, slice_get, IsSome, IfSome};
-ghost use Rattle.pf_core.specs.Durable.Changes.{main_sum};
-ghost use Rattle.wirdalf_c.specs.Answers.{AreCounts, IsCopied, IsJudged, IsRead, IsTested};
 
 /// What these bytes hold, in a configuration that held nothing. If it isn't `OK`, the configuration is as it was, and the place that the
 /// fault names is written, or 0.
@@ -120,7 +120,8 @@ pub extern "C" fn wirdalf_test(
     prefix_length: &mut u8,
 ) -> u32
     requires { IsSome config.old.held }
-    ensures tested { IfSome config.old.held (λ d. IsTested d path.now table.now family address.now prefix_length.old prefix_length.new result) }
+    ensures tested { IfSome config.old.held (λ d. IsTested d path.now table.now family address.now prefix_length.old
+        prefix_length.new result) }
     ensures same { config.new ≡ config.old }
 {
     test(config.lend(), path, table, family, *address, prefix_length)

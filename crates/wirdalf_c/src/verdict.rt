@@ -4,9 +4,7 @@ ghost use Rattle.pf_core.specs.declared.durable.verdict.Verdict.TheVariants.{Sta
 ghost use Rattle.pf_anchor.specs.declared.verdict.RuleVerdict.TheVariants as ruled;
 ghost use Rattle.wirdalf_c.specs.Verdicts.{IsTold};
 
-use crate::record::{
-    BLOCK, BY_DEFAULT, BY_NOTHING, BY_RULE, BY_STATE, PASS, VerdictRecord,
-};
+use crate::record::{BLOCK, BY_DEFAULT, BY_NOTHING, BY_RULE, BY_STATE, PASS, VerdictRecord};
 use pf_addr::path::Path;
 use pf_anchor::RuleVerdict;
 use pf_core::Verdict;
@@ -21,11 +19,15 @@ pub fn tell(verdict: Option<Verdict>, to: &mut VerdictRecord)
         None => tell_short(BY_NOTHING, BLOCK, to),
         Some(Verdict::State(name)) => tell_state(name, to),
         Some(Verdict::Rules(RuleVerdict::Default)) => tell_short(BY_DEFAULT, PASS, to),
-        Some(Verdict::Rules(RuleVerdict::Rule {
-            path,
-            number,
-            action,
-        })) => tell_rule(&path, number, action, to),
+        Some(
+            Verdict::Rules(
+                RuleVerdict::Rule {
+                    path,
+                    number,
+                    action,
+                },
+            ),
+        ) => tell_rule(&path, number, action, to),
     }
 }
 

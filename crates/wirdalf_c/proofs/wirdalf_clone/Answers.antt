@@ -1,4 +1,3 @@
-use Rattle.std.proofs.Common.{◌≡◌}
 use Rattle.wirdalf_c.proofs.{Configurations.handed_back, Kept.copied_answered}
 use Rattle.wirdalf_c.proofs.wirdalf_clone.Goals as goal
 

@@ -1,4 +1,3 @@
-use Rattle.std.proofs.Common.{◌≡◌}
 use Rattle.wirdalf_c.proofs.Kept.{unread_told}
 use Rattle.wirdalf_c.proofs.image.read_image.Goals as goal
 

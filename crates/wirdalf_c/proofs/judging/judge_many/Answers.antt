@@ -1,4 +1,4 @@
-use Rattle.std.proofs.{Common.{◌≡◌, ◌<◌, ◌≤◌, ◌+◌, ℕ, arith, refl, ◌∙◌, length, min}, Math.Nat.{min-le_left, min-le_right}}
+use Rattle.std.proofs.{Common.{◌<◌, arith, refl, ◌∙◌, length}, Math.Nat.{min-le_left, min-le_right}}
 use Rattle.wirdalf_c.proofs.Many.{get_set_other, pair_more}
 use Rattle.wirdalf_c.specs.Answers.{IsJudged}
 use Rattle.wirdalf_c.proofs.judging.judge_many.Goals as goal
@@ -10,9 +10,10 @@ pub loop-i-preserved : goal.loop-i-preserved
 loop-i-preserved c =
     let here : c.loop-i.i < length c.args.packets.now = omega (arith, c.loop-i-test.true, c.min-count.ensures, min-le_left (length c.args.packets.now) (length c.args.verdicts.now)) in
     let there : c.loop-i.i < length c.loop-i.verdicts =
-        omega (arith, c.loop-i-test.true, c.min-count.ensures, min-le_right (length c.args.packets.now) (length c.args.verdicts.now), c.loop-i.auto.verdicts) in
-    (pair_more (IsJudged c.args.durable.now) c.args.packets.now c.loop-i.verdicts c.loop-i.i c.judge.new.verdict _ here there c.judge.ensures c.loop-i.invariant.0,
-    λ k le. get_set_other c.loop-i.verdicts c.loop-i.i k c.judge.new.verdict (λ e. absurd (omega (arith, e, le))) ∙ c.loop-i.invariant.1 k (omega (arith, le)))
+    omega (arith, c.loop-i-test.true, c.min-count.ensures, min-le_right (length c.args.packets.now) (length c.args.verdicts.now), c.loop-i.auto.verdicts) in (
+      pair_more (IsJudged c.args.durable.now) c.args.packets.now c.loop-i.verdicts c.loop-i.i c.judge.new.verdict _ here there c.judge.ensures c.loop-i.invariant.0,
+      λ k le. get_set_other c.loop-i.verdicts c.loop-i.i k c.judge.new.verdict (λ e. absurd (omega (arith, e, le))) ∙ c.loop-i.invariant.1 k (omega (arith, le)),
+    )
 
 pub returns-clause-judged : goal.returns-clause-judged
 returns-clause-judged c = λ i less. c.loop-i.invariant.0 i (omega (arith, less, c.loop-i-test.false))

@@ -1,12 +1,11 @@
 -- `into_loose` gives the pointer and what it owns.
-use Rattle.std.proofs.Common.{◌≡◌, ℕ, List, [], ◌∷◌, ◌++◌, Some, IsSome, refl, sym, subst}
+use Rattle.std.proofs.Common.{◌≡◌, List, [], ◌∷◌, ◌++◌, Some, IsSome, refl, sym, subst}
 use mir.Syntax.{impl, tnil, dnil}
 use mir.Val.{Val, vptr}
 use base.Logic.{SProp, ent, emp, id⊢}
 use base.Fml.{ftrue}
 use prog.Wp.{WpFn}
-use types.Logic.{sem}
-use types.Kit.{‵, raw, ◌⊛◌, ◌$◌, ◌∵◌, !, qed, by, move, keep, drop, split, fsplit, fjoin, suffices, use0, use1}
+use types.Kit.{‵, raw, ◌⊛◌, ◌$◌, ◌∵◌, !, qed, by, move, keep, split, fsplit, fjoin, suffices, use0}
 use types.Run.{stop, fld, of_opd, no_more, and_then, returns, enter}
 use types.ByLocal.{alloc_all, pass_all, free_all, look_at, get, get_in, sets}
 use types.Part.{agg, sub, whole}
@@ -25,7 +24,7 @@ use Rattle.std.specs.contracts.impls.GlobalAllocator.TheImpl.{ghosts}
 use Rattle.std.proofs.alloc.Global.TheLaws.{the_row_laws as global_laws}
 use Rattle.pf_core.specs.contracts.durable.durable.Durable as durable
 use Rattle.wirdalf_c.specs.contracts.configuration.Configuration as configuration
-use Rattle.wirdalf_c.proofs.Values.{both, Loose, loose_good, loose_in}
+use Rattle.wirdalf_c.proofs.Values.{both, loose_good, loose_in}
 use Rattle.wirdalf_c.proofs.Configurations.{word, some_of, held_out}
 use Rattle.wirdalf_c.specs.contracts.configuration.Configuration.into_loose.{ended, clauses}
 use Rattle.wirdalf_c.specs.contracts.configuration.Configuration.into_loose.Key.{name as #self}

@@ -1,15 +1,14 @@
--- `lend` lends the value, and the handle follows it.
-use Rattle.std.proofs.Common.{◌≡◌, ℕ, List, [], ◌∷◌, ◌++◌, Some, IsSome, refl}
+-- `lend` lends what is held, and the configuration follows it.
+use Rattle.std.proofs.Common.{◌≡◌, ℕ, List, [], ◌∷◌, IsSome, refl}
 use seplogic.Ra.Ura.{Ura}
 use base.Fraction.{full_share}
 use mir.Syntax.{named}
 use mir.Raw.{raw as bare}
 use mir.Val.{Val, vptr}
-use base.Logic.{SProp, ent, sep, id⊢}
-use base.Fml.{Lft, GName, Share, Fml, ftrue, fsep, flft}
-use prog.Wp.{WpFn}
+use base.Logic.{ent, sep, id⊢}
+use base.Fml.{GName, Fml, ftrue, fsep, flft}
 use types.Logic.{Logic, sem}
-use types.Kit.{‵, raw, ◌⊛◌, some, later, at_ret, ◌$◌, ◌∵◌, !, qed, by, move, keep, drop, split, split3, join, group, pick, rewrite, fsplit, fsplit3, fjoin, fpack, suffices, frame, use1, await, done}
+use types.Kit.{‵, raw, ◌⊛◌, some, later, at_ret, ◌$◌, ◌∵◌, !, qed, move, keep, drop, split, split3, join, group, pick, rewrite, fsplit, fsplit3, fjoin, fpack, suffices, frame, use1, await, done}
 use types.Run.{stop, fld, addr, load, of_opd, first, blocks, exec, returns, enter}
 use types.ByLocal.{alloc_all, pass_all, free_all, look_at, get, through, sets, sets_last, env}
 use types.Part.{whole, sub, look_in}
@@ -35,7 +34,7 @@ use Rattle.pf_core.specs.contracts.durable.durable.Durable as durable
 use Rattle.wirdalf_c.specs.declared.configuration.Configuration.{Configuration}
 use Rattle.wirdalf_c.specs.contracts.configuration.Configuration as configuration
 use Rattle.wirdalf_c.proofs.Configurations.{word, some_of, held_out, held_in}
-use Rattle.wirdalf_c.specs.contracts.configuration.Configuration.lend.{ended, signature, clauses}
+use Rattle.wirdalf_c.specs.contracts.configuration.Configuration.lend.{ended, clauses}
 use Rattle.wirdalf_c.specs.contracts.configuration.Configuration.lend.Key.{name as #self}
 use Rattle.wirdalf_c.proofs.configuration.Configuration.lend.Statement.{statement}
 use Rattle.wirdalf_c.proofs.configuration.Configuration.lend.Code as code
@@ -44,7 +43,7 @@ abbrev stayed : Stays ended.signature.params ended.kept
 stayed = (stay_dropped (mut_ref_to (0 ∷ []) tt (plain (λ _. configuration.the_row))) no, tt)
 
 module _ {M : Type 1} {𝓤 : Ura M} (𝓛 : Logic 𝓤) (h : Configuration) (b o rb ro : ℕ) where
-  -- all of the handle but its value
+  -- all of the configuration but what it holds
   abbrev Rest : Fml
   Rest = fsep (ghosts.dealloc_token heap (bare (denote.Memory.lone (durable.the_row).mir)) (block_ptr b o)) (cell_at full_share (configuration.the_row).mir (word b o ∷ []) rb ro)
 
@@ -69,7 +68,7 @@ lend_spec 𝓤 𝓛 𝓜 𝓡 wired =
     split ! $ split ! $ move ! (2 ∷ []) $ fsplit ! $ fsplit3 ! $ drop ! $ move ! (0 ∷ 1 ∷ 3 ∷ []) $
     opens ! tt Ha {h = h} rb ro (λ us. move ! (1 ∷ []) $ held_out ! h x got.1 us (λ b o e ws. fsplit ! $
     rewrite ! 2 (λ (ks : List Val). ‵ (cell_at full_share Ha.mir ks rb ro)) ws refl $
-    -- [the value; the right to free it; the handle's cell; the open borrow, in three entries]
+    -- [the value; the right to free it; the configuration's cell; the open borrow, in three entries]
     first ! $ blocks ! $
     sets ! (of_opd ! (load ! (through ! refl (fld ! refl (stop !))) (look_in ! 2 (sub ! 0 refl (whole !))))) refl (tt, tt) $
     sets ! (of_opd ! (get ! refl)) refl (tt, tt) $
