@@ -1,7 +1,7 @@
 -- Rules eight at a time: what a block gives, and what is left after it.
 use Rattle.std.proofs.Common.{◌≡◌, ◌<◌, ◌≤◌, ℕ, zero, suc, ◌+◌, ◌-◌, ◌*◌, Bool, true, false, cond, ◌&&◌, ◌||◌, List, [], ◌∷◌, length, take, drop, get_or, Option, Some, None, refl, sym, ap, ◌∙◌, arith, ⊎_elim}
-use Rattle.std.specs.{Prelude.{slice_get, bit_and}, Option.option_or}
-use Rattle.std.proofs.lemmas.{Bool.{cases_lt, or_parts}, List.drop-drop, Option.slice_get-get_or}
+use Rattle.std.specs.{Prelude.{slice_get, bit_and}, Int.div_ceil, Option.option_or}
+use Rattle.std.proofs.lemmas.{Bool.{cases_lt, or_parts}, Grind.div_ceil_times, List.drop-drop, Option.slice_get-get_or}
 use Rattle.pf_addr.specs.Path.References.{PlainReference}
 use Rattle.pf_rule.specs.{Rules.PlainRule, declared.{rule.Action.Action, rule.Effect.Effect, rule.Effect.TheVariants.Decide, rule.Effect.TheVariants.Evaluate}}
 use Rattle.pf_lanes.specs.{Masks.{is_set, AreEnds}, Answered.{bit_by, block_mark, eight_from, is_anchor, stops}}
@@ -211,3 +211,8 @@ pub blocks_passed : {M : Type 0} (effect : ℕ → PlainRule → Evaluated M) (t
 blocks_passed effect test rules from to le none =
     so_many_passed effect test rules from (to - from) (λ k i low lt. none k i low (omega (arith, le, lt)))
     ∙ ap (λ (k : ℕ). rules_give effect test (8 * k) (drop (8 * k) rules)) (let z : from + (to - from) ≡ to = omega (arith, le) in z)
+
+-- ---- how many blocks there are
+
+pub block_within : (len blocks block : ℕ) → blocks ≡ div_ceil len 8 → block < blocks → block < len
+block_within len blocks block is lt = let times = div_ceil_times len 8 (omega arith) in omega (arith, is, lt, times.1)

@@ -1,7 +1,6 @@
 -- A table of rulesets in which it becomes known what they give, from the last to the first.
 use Rattle.std.proofs.{Common.{◌≡◌, ℕ, ◌<◌, ◌≤◌, ◌+◌, ◌-◌, T, true, List, [], ◌∷◌, length, take, drop, get_or, set, sym, ap, subst, ◌∙◌, arith}, lemmas.List.{drop_more, drop-map, map-set, get_or-map, set-get_or, drop-set, take_rest, length-set}}
 use Rattle.std.specs.{Prelude.filter, FinMap.is_sorted}
-use Rattle.pf_addr.specs.declared.path.limits.TheConstants.{DEPTH_LIMIT}
 use Rattle.pf_addr.specs.{Path.Paths.same_path, Path.Nested.{depth, is_child}}
 use Rattle.pf_addr.proofs.PathsRead.{same_path_is}
 use Rattle.pf_anchor.specs.{declared.{evaluated.Evaluated.Evaluated}, Matches.PlainMatch, Rulesets.PlainPlaced, Evaluation.{Tests, and_then, in_turn, evaluation}, Known.{PlainKnown, depth_order, placed_of, given, AreGiven, AreOnward, IsEnough, IsListing}}

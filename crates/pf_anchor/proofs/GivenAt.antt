@@ -1,13 +1,13 @@
 -- What is known of rulesets, as the code looks for it: by their depth, and at one depth by their bytes.
-use Rattle.std.proofs.{Common.{◌≡◌, ◌≢◌, ℕ, zero, suc, ◌<◌, ◌≤◌, ◌+◌, ◌-◌, T, Bool, true, false, cond, List, [], ◌∷◌, ◌++◌, length, take, drop, get_or, Option, Some, None, refl, sym, ap, subst, ◌∙◌, append_assoc, lt-ltb, arith}, lemmas.Cmp.{upto, tied_itself, nat_cmp_total, nat_list_cmp_total, on_total, then_total}, lemmas.List.{drop_more, drop_all, take_rest}, lemmas.Bool.{and_parts, Decides.nat_tests}}
-use Rattle.std.specs.{Prelude.{filter, nat_lt, not, if◌then◌else◌}, declared.{cmp.Ordering.Ordering, cmp.Ordering.TheVariants.Less, cmp.Ordering.TheVariants.Equal, cmp.Ordering.TheVariants.Greater}, Ordering.{is_gt, is_ge, is_eq, nat_cmp, ordering_then, ordering_reverse}, Cmp.{IsTotalOrder, Lexicographic.slice_cmp}, FinMap.{is_sorted, nat_cmp-IsAntisymmetric, Entries.below_all}, List.{list_any, Sorted.{IsPartitionedBy, IsPartitionPoint}}, Option.{option_map_or, option_or}}
+use Rattle.std.proofs.{Common.{◌≡◌, ℕ, zero, suc, ◌<◌, ◌≤◌, ◌+◌, T, Bool, true, false, cond, List, [], ◌∷◌, ◌++◌, length, drop, get_or, Option, Some, None, refl, sym, ap, subst, ◌∙◌, lt-ltb, arith}, lemmas.Cmp.{upto, tied_itself, nat_cmp_total, nat_list_cmp_total, on_total, then_total}, lemmas.List.{drop_more, drop_all}, lemmas.Bool.{and_parts, Decides.nat_tests}}
+use Rattle.std.specs.{Prelude.{filter, nat_lt, not}, declared.{cmp.Ordering.Ordering, cmp.Ordering.TheVariants.Less, cmp.Ordering.TheVariants.Equal, cmp.Ordering.TheVariants.Greater}, Ordering.{is_gt, is_ge, nat_cmp, ordering_then, ordering_reverse}, Cmp.{IsTotalOrder, Lexicographic.slice_cmp}, FinMap.{is_sorted, nat_cmp-IsAntisymmetric, Entries.below_all}, List.{list_any, Sorted.{IsPartitionedBy, IsPartitionPoint}}, Option.{option_map_or}}
 use Rattle.pf_key.specs.Keys.{numbers_rise}
 use Rattle.pf_addr.specs.declared.path.limits.TheConstants.{DEPTH_LIMIT}
 use Rattle.pf_addr.specs.{Path.Paths.{path_order, same_path, is_slash}, Path.Nested.{depth, front, within, path_within, is_single, is_child}, Path.References.PlainReference}
 use Rattle.pf_addr.proofs.{PathsRead.same_path_is, Nesting.{child_begins, child_is, has_one_more, leads_deeper}}
 use Rattle.pf_map.proofs.Tests.{first_of, second_of, less_of}
-use Rattle.pf_anchor.specs.{declared.{evaluated.Evaluated.Evaluated, evaluated.Evaluated.TheVariants.Open, evaluated.Evaluated.TheVariants.Ended}, Matches.PlainMatch, Rulesets.{PlainPlaced, leads_from, leads_to, targets}, Evaluation.{Tests, and_then, in_turn, evaluation}, Known.{PlainKnown, place_order, place_of, depth_order, placed_of, given, AreGiven, AreOnward, AreKept, IsEnough, IsListing}}
-use Rattle.pf_anchor.proofs.{Evaluations.{none_and_then, and_then_none, deeper}, Siblings.single_left}
+use Rattle.pf_anchor.specs.{declared.{evaluated.Evaluated.Evaluated, evaluated.Evaluated.TheVariants.Open}, Matches.PlainMatch, Rulesets.{PlainPlaced, leads_from, leads_to}, Evaluation.{Tests, and_then, in_turn, evaluation}, Known.{PlainKnown, place_order, place_of, depth_order, placed_of, given, AreGiven, AreOnward, AreKept, IsEnough, IsListing}}
+use Rattle.pf_anchor.proofs.{Evaluations.{and_then_none, deeper}, Siblings.single_left}
 
 -- ---- one after the other
 

@@ -1,5 +1,5 @@
 -- The rulesets of a map, one depth after the other.
-use Rattle.std.proofs.{Common.{◌≡◌, ◌≢◌, ℕ, zero, suc, ◌<◌, ◌≤◌, ◌+◌, ◌==◌, T, Bool, true, false, cond, List, [], ◌∷◌, ◌++◌, length, take, refl, sym, ap, subst, ◌∙◌, arith, lt-ltb, length-append}, lemmas.{Cmp.{tied_itself, nat_cmp_total}, Bool.Decides.nat_tests, List.{append-nil, length-map, length-take-le}, List.Elements.filter-append}}
+use Rattle.std.proofs.{Common.{◌≡◌, ◌≢◌, ℕ, zero, suc, ◌<◌, ◌≤◌, ◌+◌, ◌==◌, T, Bool, true, false, cond, List, [], ◌∷◌, ◌++◌, length, take, refl, sym, ap, subst, ◌∙◌, arith, length-append}, lemmas.{Cmp.{tied_itself, nat_cmp_total}, Bool.Decides.nat_tests, List.{append-nil, length-map, length-take-le}, List.Elements.filter-append}}
 use Rattle.std.specs.{Prelude.{filter, nat_lt}, declared.{cmp.Ordering.Ordering, cmp.Ordering.TheVariants.Less}, Ordering.{is_lt, nat_cmp, ordering_then}, FinMap.{is_sorted, Entries.below_all}}
 use Rattle.pf_key.specs.Keys.{numbers_rise}
 use Rattle.pf_addr.specs.declared.path.limits.TheConstants.{DEPTH_LIMIT}

@@ -1,9 +1,9 @@
 -- Paths with one parent: where the parent's front ends, and which paths it is the front of.
-use Rattle.std.proofs.{Common.{◌≡◌, ◌≢◌, ℕ, zero, suc, ◌+◌, ◌-◌, ◌<◌, ◌≤◌, ◌==◌, Bool, true, false, cond, not, List, [], ◌∷◌, ◌++◌, length, take, drop, get_or, refl, sym, ap, subst, ◌∙◌, arith}, Math.Seq.{take-append_seam, get_or-append_right, get_or-append_seam}, lemmas.{Bool.and_parts, Bool.Decides.nat_tests, List.{get_or_append_left, length-append}, List.Folds.list_any_at, List.Splits.length-slice_split, List.Sums.{sum_by-append, sum_by-cons}}}
-use Rattle.std.specs.{Prelude.{◌||◌, nat_lt, count_by, ◌&&◌}, List.list_any}
+use Rattle.std.proofs.{Common.{◌≡◌, ◌≢◌, ℕ, zero, suc, ◌+◌, ◌-◌, ◌<◌, ◌≤◌, Bool, true, false, cond, not, List, [], ◌∷◌, ◌++◌, length, take, drop, get_or, refl, sym, ap, ◌∙◌, arith}, Math.Seq.{take-append_seam, get_or-append_right, get_or-append_seam}, lemmas.{Bool.and_parts, List.{get_or_append_left, length-append}, List.Folds.list_any_at, List.Splits.length-slice_split, List.Sums.{sum_by-append, sum_by-cons}}}
+use Rattle.std.specs.{Prelude.{◌||◌, nat_lt, count_by}, List.list_any}
 use Rattle.pf_addr.specs.declared.path.limits.TheConstants.{DEPTH_LIMIT}
 use Rattle.pf_addr.specs.{Path.Paths.{is_slash, is_path}, Path.Nested.{depth, front, within, is_single, is_child}}
-use Rattle.pf_addr.proofs.{Nesting.{path_few as path_few_of, child_is, child_begins, no_child, has_one_more}}
+use Rattle.pf_addr.proofs.{Nesting.{path_few as path_few_of, child_is, child_begins, no_child}}
 
 -- ---- depth
 

@@ -1,12 +1,11 @@
 -- What tables say of a packet's addresses, as the code looks for it: by places in order.
-use Rattle.std.proofs.{Common.{◌≡◌, ℕ, zero, suc, ◌<◌, ◌≤◌, ◌+◌, T, Bool, true, false, cond, List, [], ◌∷◌, length, take, drop, get_or, map, Option, Some, None, refl, sym, ap, subst, ◌∙◌, arith}, lemmas.{Cmp.{upto, tied_itself}, List.{drop_more, drop_all}}}
-use Rattle.std.specs.{declared.{cmp.Ordering.Ordering, cmp.Ordering.TheVariants.Less, cmp.Ordering.TheVariants.Equal, cmp.Ordering.TheVariants.Greater}, Ordering.{is_gt, is_eq, is_lt, eq_by_cmp}, Cmp.IsTotalOrder, FinMap.{find, is_sorted}, FinMap.Entries.below_all, List.Sorted.{IsPartitionedBy, IsPartitionPoint}, Option.{option_map, option_map_or, option_or, unwrap_or}}
+use Rattle.std.proofs.{Common.{◌≡◌, ℕ, zero, suc, ◌<◌, ◌≤◌, ◌+◌, T, Bool, true, false, cond, List, [], ◌∷◌, length, drop, get_or, Option, Some, None, refl, sym, ap, subst, ◌∙◌, arith}, lemmas.{Cmp.{upto, tied_itself}, List.{drop_more, drop_all}}}
+use Rattle.std.specs.{declared.{cmp.Ordering.Ordering, cmp.Ordering.TheVariants.Less, cmp.Ordering.TheVariants.Equal, cmp.Ordering.TheVariants.Greater}, Ordering.{is_gt, is_eq, eq_by_cmp}, Cmp.IsTotalOrder, FinMap.{find, is_sorted}, FinMap.Entries.below_all, List.Sorted.{IsPartitionedBy, IsPartitionPoint}, Option.{option_map, option_map_or, option_or, unwrap_or}}
 use Rattle.pf_addr.specs.declared.addr.Addr.{Addr}
 use Rattle.pf_rule.specs.Packets.{PlainPacket}
 use Rattle.pf_table.specs.{Entries.PlainEntry, Tables.table_holds}
 use Rattle.pf_map.proofs.Tests.{both_of, first_of, second_of, less_of}
 use Rattle.pf_anchor.specs.{Tables.{TableKey, PlainPlacedTable, table_order, table_found, named_table, tables_say}, Answered.{Answers, PlainAnswered, answers, answered_by, AreAnswered}}
-use Rattle.pf_anchor.proofs.TableMaps.{table_order_total}
 
 -- ---- entries in the order of their keys
 

@@ -1,5 +1,5 @@
 -- What tables say of a packet's two addresses, each of them asked once.
-use Rattle.std.specs.{Prelude.{◌≡◌, T, ℕ, Bool, List, map}, FinMap.is_sorted}
+use Rattle.std.specs.{Prelude.{◌≡◌, T, Bool, List, map}, FinMap.is_sorted}
 use Rattle.pf_rule.specs.Packets.{PlainPacket}
 use Rattle.pf_table.specs.{Entries.PlainEntry, Tables.table_holds}
 use Rattle.pf_anchor.specs.Tables.{TableKey, PlainPlacedTable, table_order}

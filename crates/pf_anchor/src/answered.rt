@@ -5,7 +5,7 @@ ghost use Rattle.pf_anchor.specs.{Tables.{table_order, tables_say}, Answered.{Ar
 
 use crate::config::Config;
 use crate::limits::TABLE_COUNT_LIMIT;
-use crate::named_tables::NamedTables;
+use crate::named_tables::{AskedTables, NamedTables};
 use crate::tables::{Place, PlacedTable};
 use pf_addr::Addr;
 use pf_addr::path::{Path, TableName};
@@ -162,5 +162,13 @@ impl<'k, 'a> TableAnswers for AnsweredTables<'k, 'a> {
                 tables.holds(name, address)
             }
         }
+    }
+}
+
+impl<'k, 'a> AskedTables for AnsweredTables<'k, 'a> {
+    /// Never: each of them was asked before.
+    #[inline(always)]
+    fn has_asked_all(&self) -> bool {
+        false
     }
 }

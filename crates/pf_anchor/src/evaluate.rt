@@ -2,13 +2,13 @@
 ghost use Rattle.std.specs.Prelude.{◌≡◌, ◌<◌, ◌≤◌, ◌*◌, ℕ, true, None, filter, length, IfSome, MatchOption};
 ghost use Rattle.pf_addr.specs.Path.Nested.{is_child};
 ghost use Rattle.pf_lanes.specs.{Masks.is_set, Answered.{block_match, eight_from}, Probes.{PlainProbe, asked}};
-ghost use Rattle.pf_anchor.specs.{Rulesets.targets, Tables.tables_say, Blocks.{AreStops, GivesLast, NoneBetween}, Evaluation.{effected, in_turn, matching, rules_at_path}, Answered.AreAnswered, Known.{IsKnownFor, ruleset_gives}};
+ghost use Rattle.pf_anchor.specs.{Rulesets.targets, Tables.tables_say, declared.evaluated.Evaluated.TheVariants.Open, Blocks.{AreStops, GivesLast, NoneBetween, IsStop, given_from}, Evaluation.{effected, in_turn, matching, rules_at_path}, Answered.AreAnswered, Known.{IsKnownFor, ruleset_gives}};
 
 use crate::answered::{Answered, AnsweredTables};
 use crate::config::Config;
 use crate::evaluated::{Evaluated, Match};
 use crate::known::{Known, given_for};
-use crate::named_tables::{CountedTables, NamedTables};
+use crate::named_tables::{AskedTables, CountedTables, NamedTables};
 use crate::rulesets::Placed;
 use crate::work::Work;
 use pf_addr::path::{Path, Reference};
@@ -53,56 +53,6 @@ fn matching_by<T: TableAnswers>(
         Some(probe) => probe.matching(tables, block),
         None => match_one_by_one(placed.value().as_slice(), tables, packet, block),
     }
-}
-
-// Which rules of a block match, where it is known what tables say.
-#[cold]
-#[inline(never)]
-fn matching_known<'k, 'a>(
-    question: &Question<'k, 'a>,
-    known: &'k [Answered<'a>],
-    placed: &'a Placed,
-    probe: &Option<Probe<'_>>,
-    block: usize,
-) -> u8
-    requires known { AreAnswered question.now.packet.now question.now.config.now.tables known.now }
-    requires probe { IfSome probe.now (λ p. p ≡ asked placed.now.1 question.now.packet.now) }
-    ensures { (i : ℕ) → i < 8 → is_set result i
-        ≡ block_match (tables_say question.now.config.now.tables placed.now.0) placed.now.1 question.now.packet.now block i }
-{
-    let path = placed.key();
-    let tables = AnsweredTables {
-        config: question.config,
-        packet: question.packet,
-        path,
-        known,
-    };
-    matching_by(&tables, placed, probe, question.packet, block)
-}
-
-// Which rules of a block match, with tables as the rules of their ruleset name them.
-#[inline(always)]
-fn matching_in<'a>(
-    question: &Question<'_, 'a>,
-    placed: &'a Placed,
-    probe: &Option<Probe<'_>>,
-    block: usize,
-    work: &Work,
-) -> u8
-    requires known { IfSome question.now.known (λ k. AreAnswered question.now.packet.now question.now.config.now.tables k.tables.now) }
-    requires probe { IfSome probe.now (λ p. p ≡ asked placed.now.1 question.now.packet.now) }
-    ensures { (i : ℕ) → i < 8 → is_set result i
-        ≡ block_match (tables_say question.now.config.now.tables placed.now.0) placed.now.1 question.now.packet.now block i }
-{
-    if let Some(known) = question.known {
-        return matching_known(question, known.tables, placed, probe, block);
-    }
-    let tables = NamedTables {
-        config: question.config,
-        path: placed.key(),
-    };
-    let counted = CountedTables { tables, work };
-    matching_by(&counted, placed, probe, question.packet, block)
 }
 
 // A packet, prepared for the rules of a ruleset if these have columns.
@@ -162,6 +112,109 @@ fn last_match<'a>(placed: &'a Placed, block: usize, mask: u8) -> Option<Match<'a
     }
 }
 
+/// A block in which a quick or an anchor rule may match.
+#[derive(Clone, Copy)]
+struct Stop {
+    block: usize,
+    /// Which of its rules match.
+    mask: u8,
+}
+
+/// The blocks before a stop, or all if there is none: the last match so far.
+#[derive(Drop)]
+struct Passed<'a> {
+    last: Option<Match<'a>>,
+    stop: Option<Stop>,
+}
+
+// Passes blocks from one on, up to the next in which a quick or an anchor rule may match. None: it is bounded, and tables were asked as often
+// as they may be.
+#[tactic(auto, using(crate::proofs::Evaluations::none_and_then))]
+fn pass_blocks<'a, T: AskedTables>(
+    question: &Question<'_, 'a>,
+    tables: &T,
+    placed: &'a Placed,
+    probe: &Option<Probe<'_>>,
+    from: usize,
+    before: Option<Match<'a>>,
+) -> Option<Passed<'a>>
+    requires tables { T.says tables.now ≡ tables_say question.now.config.now.tables placed.now.0 }
+    requires probe { IfSome probe.now (λ p. p ≡ asked placed.now.1 question.now.packet.now) }
+    ensures { MatchOption result (question.now.is_bounded ≡ true) (λ r. MatchOption r.stop
+        (given_from question.now.config.now question.now.packet.now placed.now from before.entry ≡ Open r.last)
+        (λ s. IsStop question.now.config.now question.now.packet.now placed.now from before.entry r.last s.block s.mask)) }
+{
+    let blocks = placed.value().as_slice().len().div_ceil(LANES);
+    let mut last = before;
+    let mut block = next_near(probe, from);
+    while block < blocks {
+        let mask = matching_by(tables, placed, probe, question.packet, block);
+        if tables.has_asked_all() && question.is_bounded {
+            return None;
+        }
+        if stopping(placed, block, mask) != 0 {
+            let stop = Some(Stop { block, mask });
+            return Some(Passed { last, stop });
+        }
+        last = last_match(placed, block, mask).or(last);
+        block = next_near(probe, block + 1);
+    }
+    Some(Passed { last, stop: None })
+}
+
+// The same, where it is known what tables say.
+#[cold]
+#[inline(never)]
+fn pass_known<'k, 'a>(
+    question: &Question<'k, 'a>,
+    known: &'k [Answered<'a>],
+    placed: &'a Placed,
+    probe: &Option<Probe<'_>>,
+    from: usize,
+    before: Option<Match<'a>>,
+) -> Option<Passed<'a>>
+    requires known { AreAnswered question.now.packet.now question.now.config.now.tables known.now }
+    requires probe { IfSome probe.now (λ p. p ≡ asked placed.now.1 question.now.packet.now) }
+    ensures { MatchOption result (question.now.is_bounded ≡ true) (λ r. MatchOption r.stop
+        (given_from question.now.config.now question.now.packet.now placed.now from before.entry ≡ Open r.last)
+        (λ s. IsStop question.now.config.now question.now.packet.now placed.now from before.entry r.last s.block s.mask)) }
+{
+    let tables = AnsweredTables {
+        config: question.config,
+        packet: question.packet,
+        path: placed.key(),
+        known,
+    };
+    pass_blocks(question, &tables, placed, probe, from, before)
+}
+
+// The same, with tables as the ruleset's rules name them.
+#[inline(always)]
+fn pass<'a>(
+    question: &Question<'_, 'a>,
+    placed: &'a Placed,
+    probe: &Option<Probe<'_>>,
+    from: usize,
+    before: Option<Match<'a>>,
+    work: &Work,
+) -> Option<Passed<'a>>
+    requires known { IfSome question.now.known (λ k. AreAnswered question.now.packet.now question.now.config.now.tables k.tables.now) }
+    requires probe { IfSome probe.now (λ p. p ≡ asked placed.now.1 question.now.packet.now) }
+    ensures { MatchOption result (question.now.is_bounded ≡ true) (λ r. MatchOption r.stop
+        (given_from question.now.config.now question.now.packet.now placed.now from before.entry ≡ Open r.last)
+        (λ s. IsStop question.now.config.now question.now.packet.now placed.now from before.entry r.last s.block s.mask)) }
+{
+    if let Some(known) = question.known {
+        return pass_known(question, known.tables, placed, probe, from, before);
+    }
+    let tables = NamedTables {
+        config: question.config,
+        path: placed.key(),
+    };
+    let counted = CountedTables { tables, work };
+    pass_blocks(question, &counted, placed, probe, from, before)
+}
+
 /// What a ruleset gives for a packet: its rules in order, and in place of each anchor rule that matches what it leads to (pf.conf(5),
 /// PACKET FILTERING and ANCHORS). It takes no memory, and recurses no deeper than a path has components; if what the rules lead to is
 /// known, it doesn't recurse. None: it is bounded, and the work that is allowed doesn't suffice.
@@ -169,37 +222,30 @@ fn last_match<'a>(placed: &'a Placed, block: usize, mask: u8) -> Option<Match<'a
 /// Eight rules are looked at together, and blocks in which none can match are skipped. The last rule that matches stands, and those before
 /// it are looked at only if a quick or an anchor rule is among them.
 #[cycle(evaluate)]
-#[tactic(auto, using(crate::proofs::Evaluations::none_and_then))]
 pub(crate) fn evaluate<'a>(
     question: &Question<'_, 'a>,
     placed: &'a Placed,
-    work: &mut Work,
+    work: &Work,
 ) -> Option<Evaluated<Match<'a>>>
     requires { IfSome question.now.known (λ k. IsKnownFor question.now.config.now question.now.packet.now placed.now.0 k.rulesets.now k.tables.now) }
     ensures { MatchOption result (question.now.is_bounded ≡ true)
         (λ r. r ≡ ruleset_gives question.now.config.now question.now.packet.now placed.now) }
 {
     let probe = prepared(placed, question.packet);
-    let blocks = placed.value().as_slice().len().div_ceil(LANES);
     let mut last = None;
-    let mut block = next_near(&probe, 0);
-    while block < blocks {
-        let mask = matching_in(question, placed, &probe, block, work);
-        if has_asked_all(question, work) {
-            return None;
+    let mut block = 0;
+    loop {
+        let passed = pass(question, placed, &probe, block, last, work)?;
+        last = passed.last;
+        let Some(stop) = passed.stop else {
+            return Some(Evaluated::Open(last));
+        };
+        match each_match(question, placed, stop.block, stop.mask, work)? {
+            Evaluated::Open(latest) => last = latest.or(last),
+            Evaluated::Ended(end) => return Some(Evaluated::Ended(end)),
         }
-        if stopping(placed, block, mask) == 0 {
-            last = last_match(placed, block, mask).or(last);
-        } else {
-            match each_match(question, placed, block, mask, work)? {
-                Evaluated::Open(Some(latest)) => last = Some(latest),
-                Evaluated::Open(None) => {}
-                Evaluated::Ended(end) => return Some(Evaluated::Ended(end)),
-            }
-        }
-        block = next_near(&probe, block + 1);
+        block = stop.block + 1;
     }
-    Some(Evaluated::Open(last))
 }
 
 // What the matching rules of a block give, in order.
@@ -210,7 +256,7 @@ fn each_match<'a>(
     placed: &'a Placed,
     block: usize,
     mask: u8,
-    work: &mut Work,
+    work: &Work,
 ) -> Option<Evaluated<Match<'a>>>
     requires enough { IfSome question.now.known (λ k. IsKnownFor question.now.config.now question.now.packet.now placed.now.0 k.rulesets.now k.tables.now) }
     requires mask { (i : ℕ) → i < 8 → is_set mask i
@@ -248,7 +294,7 @@ fn effected<'a>(
     placed: &'a Placed,
     number: u32,
     rule: &Rule,
-    work: &mut Work,
+    work: &Work,
 ) -> Option<Evaluated<Match<'a>>>
     requires { IfSome question.now.known (λ k. IsKnownFor question.now.config.now question.now.packet.now placed.now.0 k.rulesets.now k.tables.now) }
     ensures { MatchOption result (question.now.is_bounded ≡ true)
@@ -270,18 +316,10 @@ fn effected<'a>(
 
 // Whether the work that is allowed is done once so many rules more are looked at.
 #[inline(always)]
-fn is_past(question: &Question<'_, '_>, rules: usize, work: &mut Work) -> bool
+fn is_past(question: &Question<'_, '_>, rules: usize, work: &Work) -> bool
     ensures { result ≡ true → question.now.is_bounded ≡ true }
 {
     question.is_bounded && !work.takes(question.config, rules)
-}
-
-// Whether the work that is allowed is done since tables were asked as often as they may be.
-#[inline(always)]
-fn has_asked_all(question: &Question<'_, '_>, work: &Work) -> bool
-    ensures { result ≡ true → question.now.is_bounded ≡ true }
-{
-    work.has_asked_all() && question.is_bounded
 }
 
 // A ruleset that a rule leads to, as far as the work that is allowed suffices.
@@ -290,7 +328,7 @@ fn has_asked_all(question: &Question<'_, '_>, work: &Work) -> bool
 fn evaluate_further<'a>(
     question: &Question<'_, 'a>,
     placed: &'a Placed,
-    work: &mut Work,
+    work: &Work,
 ) -> Option<Evaluated<Match<'a>>>
     requires { question.now.known ≡ None }
     ensures { MatchOption result (question.now.is_bounded ≡ true)
@@ -309,7 +347,7 @@ fn evaluate_targets<'a>(
     question: &Question<'_, 'a>,
     path: &Path,
     reference: &Reference,
-    work: &mut Work,
+    work: &Work,
 ) -> Option<Evaluated<Match<'a>>>
     requires { question.now.known ≡ None }
     ensures { MatchOption result (question.now.is_bounded ≡ true)
@@ -332,7 +370,7 @@ fn evaluate_joined<'a>(
     question: &Question<'_, 'a>,
     path: &Path,
     reference: &Reference,
-    work: &mut Work,
+    work: &Work,
 ) -> Option<Evaluated<Match<'a>>>
     requires { question.now.known ≡ None }
     ensures { MatchOption result (question.now.is_bounded ≡ true)
@@ -359,7 +397,7 @@ fn evaluate_joined<'a>(
 fn evaluate_children<'a>(
     question: &Question<'_, 'a>,
     path: &Path,
-    work: &mut Work,
+    work: &Work,
 ) -> Option<Evaluated<Match<'a>>>
     requires { question.now.known ≡ None }
     ensures { MatchOption result (question.now.is_bounded ≡ true)
@@ -399,6 +437,5 @@ pub(crate) fn evaluate_known<'k, 'a>(
         known,
         is_bounded: false,
     };
-    let mut work = Work::none();
-    evaluate(&question, placed, &mut work).unwrap()
+    evaluate(&question, placed, &Work::none()).unwrap()
 }

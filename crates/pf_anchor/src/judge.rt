@@ -49,7 +49,7 @@ fn deciding<'a>(config: &'a Config, main: &'a Placed, packet: &Packet) -> Option
         known: None,
         is_bounded: true,
     };
-    match evaluate(&question, main, &mut Work::allowed()) {
+    match evaluate(&question, main, &Work::allowed()) {
         Some(Evaluated::Open(last)) => last,
         Some(Evaluated::Ended(found)) => Some(found),
         None => evaluate_main_in_order(config, main, packet).last(),
@@ -78,5 +78,5 @@ fn evaluate_main_in_order<'a>(
         known: None,
         is_bounded: false,
     };
-    evaluate(&question, main, &mut Work::none()).unwrap()
+    evaluate(&question, main, &Work::none()).unwrap()
 }

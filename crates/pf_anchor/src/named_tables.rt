@@ -7,6 +7,12 @@ use pf_addr::Addr;
 use pf_addr::path::{Path, TableName};
 use pf_rule::TableAnswers;
 
+/// Tables of which it may be counted how often they are asked.
+pub(crate) trait AskedTables: TableAnswers {
+    /// Whether they were asked as often as they may be.
+    fn has_asked_all(&self) -> bool;
+}
+
 /// The tables as the rules of the ruleset at a path name them.
 #[derive(Clone, Copy)]
 pub(crate) struct NamedTables<'a> {
@@ -38,5 +44,12 @@ impl<'a> TableAnswers for CountedTables<'a> {
     fn holds(&self, name: &TableName, address: Addr) -> bool {
         self.work.asks();
         self.tables.holds(name, address)
+    }
+}
+
+impl<'a> AskedTables for CountedTables<'a> {
+    #[inline(always)]
+    fn has_asked_all(&self) -> bool {
+        self.work.has_asked_all()
     }
 }

@@ -16,8 +16,8 @@ const ANSWERS: usize = 512;
 /// 131,072; and how many times their rules may still ask tables. It decides nothing of what an evaluation gives.
 #[derive(Drop)]
 pub(crate) struct Work {
-    left: usize,
-    counts_all: bool,
+    left: Cell<usize>,
+    counts_all: Cell<bool>,
     answers_left: Cell<usize>,
 }
 
@@ -25,8 +25,8 @@ impl Work {
     /// What each packet may do.
     pub(crate) fn allowed() -> Work {
         Work {
-            left: AT_FIRST,
-            counts_all: false,
+            left: Cell::new(AT_FIRST),
+            counts_all: Cell::new(false),
             answers_left: Cell::new(ANSWERS),
         }
     }
@@ -34,21 +34,21 @@ impl Work {
     /// Nothing.
     pub(crate) fn none() -> Work {
         Work {
-            left: 0,
-            counts_all: true,
+            left: Cell::new(0),
+            counts_all: Cell::new(true),
             answers_left: Cell::new(0),
         }
     }
 
     /// Takes so many from what is left. If there are fewer, it is false.
     #[inline(always)]
-    pub(crate) fn takes(&mut self, config: &Config, rules: usize) -> bool {
-        if self.left < rules {
+    pub(crate) fn takes(&self, config: &Config, rules: usize) -> bool {
+        if self.left.get() < rules {
             self.count_all(config);
         }
-        match self.left.checked_sub(rules) {
+        match self.left.get().checked_sub(rules) {
             Some(left) => {
-                self.left = left;
+                self.left.set(left);
                 true
             }
             None => false,
@@ -70,15 +70,16 @@ impl Work {
     // Once, as many more as all rulesets have rules, and one for each of them, up to a limit.
     #[cold]
     #[inline(never)]
-    fn count_all(&mut self, config: &Config) {
-        if self.counts_all {
+    fn count_all(&self, config: &Config) {
+        if self.counts_all.get() {
             return;
         }
-        self.counts_all = true;
+        self.counts_all.set(true);
+        let mut left = self.left.get();
         for placed in config.each_ruleset() {
             let rules = placed.value().as_slice().len();
-            self.left = self.left.saturating_add(rules).saturating_add(1);
+            left = left.saturating_add(rules).saturating_add(1);
         }
-        self.left = self.left.min(AT_MOST);
+        self.left.set(left.min(AT_MOST));
     }
 }

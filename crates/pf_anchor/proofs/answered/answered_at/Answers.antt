@@ -1,6 +1,6 @@
-use Rattle.std.proofs.Common.{◌≡◌, Option, Some, sym, ap, ◌∙◌}
+use Rattle.std.proofs.Common.{◌≡◌, sym, ap, ◌∙◌}
 use Rattle.std.specs.Ordering.{eq_by_cmp}
-use Rattle.pf_anchor.specs.{Tables.{TableKey, table_order}, Answered.{PlainAnswered, Answers}}
+use Rattle.pf_anchor.specs.{Tables.{TableKey, table_order}, Answered.{PlainAnswered}}
 use Rattle.pf_anchor.proofs.{TableMaps.table_order_total, TablesAnswered.{found_there, none_past, none_there}}
 use Rattle.pf_anchor.proofs.answered.answered_at.Goals as goal
 

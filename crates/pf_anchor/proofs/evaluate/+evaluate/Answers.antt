@@ -1,66 +1,73 @@
-use Rattle.std.proofs.{Common.{◌≡◌, ◌==◌, ◌<◌, ℕ, ◌≤◌, ◌+◌, ◌*◌, List, [], ◌∷◌, Bool, Option, Some, None, drop, length, ap, true, false, refl, sym, subst, ◌∙◌, arith}, lemmas.{Bool.Decides.nat_tests, Grind.common_steps}}
+use Rattle.std.proofs.{Common.{◌≡◌, ◌==◌, ◌<◌, ℕ, ◌+◌, ◌*◌, List, [], ◌∷◌, Bool, Option, Some, None, drop, length, ap, true, false, refl, sym, subst, ◌∙◌, arith}, lemmas.{Bool.Decides.nat_tests, Grind.common_steps, Option.MatchOption-at_some}}
 use Rattle.std.specs.Option.{MatchOption}
-use Rattle.pf_lanes.specs.{Answered.eight_from, Probes.asked}
+use Rattle.pf_lanes.specs.Answered.{eight_from}
 use Rattle.std.specs.Prelude.{filter}
 use Rattle.pf_addr.specs.Path.Nested.{depth, path_within, is_child}
 use Rattle.pf_addr.proofs.Nesting.{leads_deeper}
 use Rattle.pf_rule.specs.{Packets.PlainPacket, Rules.PlainRule}
-use Rattle.pf_anchor.specs.{declared.{evaluated.Evaluated.Evaluated, evaluated.Evaluated.TheVariants.Open, evaluated.Evaluated.TheVariants.Ended}, Matches.PlainMatch, Rulesets.{PlainPlaced, ruled, targets}, Tables.{PlainPlacedTable, tables_say}, Blocks.NoneBetween, Evaluation.{and_then, settled, rules_give, rules_at_path, effected, in_turn, evaluation, evaluate_with, matching}}
+use Rattle.pf_anchor.specs.{declared.{evaluate.Stop.{Stop}, evaluated.Evaluated.Evaluated, evaluated.Evaluated.TheVariants.Open, evaluated.Evaluated.TheVariants.Ended}, Matches.PlainMatch, Rulesets.{PlainPlaced, ruled, targets}, Configurations.PlainConfig, Blocks.{IsStop, given_from}, Known.ruleset_gives, Evaluation.{and_then, settled, rules_give, effected, in_turn, evaluation, evaluate_with, matching}}
 use Rattle.pf_anchor.proofs.{Evaluations.{unrolled, none_and_then, no_rules}, Turns.{rule_goes_on, rule_passed, child_deeper, then_open, child_step, no_child_step, no_targets, targets_from, plain_turn}}
-use Rattle.pf_anchor.proofs.Blocks.{block_goes_on, block_ends, rule_ends, none_stops, lane_says, blocks_passed}
-use Rattle.pf_anchor.proofs.evaluate.+evaluate.Goals.{evaluate-then-stopping-eq0, evaluate-else-stopping-eq0+in_ok-latest+in-Open-Some, evaluate-else-stopping-eq0+in_ok-latest+in-Open-None, each_match-then-is_set+in_ok-latest+in-Open-None, each_match-then-is_set+in_ok-latest+in-Open-Some+else-is_quick, each_match-else-is_set}
+use Rattle.pf_anchor.proofs.Blocks.{block_goes_on, block_ends, rule_ends, lane_says}
+use Rattle.pf_anchor.proofs.evaluate.+evaluate.Goals.{each_match-then-is_set+in_ok-latest+in-Open-None, each_match-then-is_set+in_ok-latest+in-Open-Some+else-is_quick, each_match-else-is_set}
 use Rattle.pf_anchor.proofs.evaluate.+evaluate.Goals as goal
 
 -- what is said of an answer, by another spelling of it
 carried : {x y : Evaluated PlainMatch} (o : Option (Evaluated PlainMatch)) (P : Type 0) → x ≡ y → MatchOption o P (λ r. r ≡ x) → MatchOption o P (λ r. r ≡ y)
 carried o P e h = subst (λ (z : Evaluated PlainMatch). MatchOption o P (λ r. r ≡ z)) e h
 
--- the blocks that a step skips
-passes : (rulesets : List PlainPlaced) (tables : List PlainPlacedTable) (packet : PlainPacket) (placed : PlainPlaced) (last : Option PlainMatch) (from to : ℕ) → from ≤ to → NoneBetween (asked placed.1 packet) from to →
-    and_then (Open last) (rules_at_path (evaluation rulesets (matching tables packet)) rulesets (matching tables packet) placed.0 (8 * from) (drop (8 * from) placed.1))
-    ≡ and_then (Open last) (rules_at_path (evaluation rulesets (matching tables packet)) rulesets (matching tables packet) placed.0 (8 * to) (drop (8 * to) placed.1))
-passes rulesets tables packet placed last from to le none =
-    let tests = matching tables packet in
-    ap (and_then (Open last)) (blocks_passed (λ n r. effected (evaluation rulesets tests) rulesets placed.0 n r.effect) (tests placed.0) placed.1 from to le (none (tables_say tables placed.0)))
+pub evaluate-loop-passed-init : goal.evaluate-loop-passed-init
+evaluate-loop-passed-init t c =
+    let config = c.args.question.now.config.now in
+    let packet = c.args.question.now.packet.now in
+    unrolled config.rulesets (matching config.tables packet) c.args.placed.now
+    ∙ sym (none_and_then (evaluate_with (evaluation config.rulesets (matching config.tables packet)) config.rulesets (matching config.tables packet) c.args.placed.now))
 
-pub evaluate-loop-block-init : goal.evaluate-loop-block-init
-evaluate-loop-block-init t c =
-    unrolled c.args.question.now.config.now.rulesets (matching c.args.question.now.config.now.tables c.args.question.now.packet.now) c.args.placed.now
-    ∙ sym (none_and_then (evaluate_with (evaluation c.args.question.now.config.now.rulesets (matching c.args.question.now.config.now.tables c.args.question.now.packet.now)) c.args.question.now.config.now.rulesets (matching c.args.question.now.config.now.tables c.args.question.now.packet.now) c.args.placed.now))
-    ∙ passes c.args.question.now.config.now.rulesets c.args.question.now.config.now.tables c.args.question.now.packet.now c.args.placed.now None 0 c.next_near-block.result c.next_near-block.ensures.later
-    (c.next_near-block.ensures.none (asked c.args.placed.now.1 c.args.question.now.packet.now) c.prepared-probe.ensures)
+-- what is said of a stop, if there is one
+said : (c : PlainConfig) (packet : PlainPacket) (e : PlainPlaced) (from : ℕ) (before last : Option PlainMatch) {stop : Option Stop} (s : Stop) → stop ≡ Some s →
+    MatchOption stop (given_from c packet e from before ≡ Open last) (λ s. IsStop c packet e from before last s.block s.mask) → IsStop c packet e from before last s.block s.mask
+said c packet e from before last s is h =
+    MatchOption-at_some (given_from c packet e from before ≡ Open last) (λ s. IsStop c packet e from before last s.block s.mask) s is h
+
+pub evaluate-each_match-requires : goal.evaluate-each_match-requires
+evaluate-each_match-requires t c =
+    let s = said c.args.question.now.config.now c.args.question.now.packet.now c.args.placed.now c.loop-passed.block c.loop-passed.last c.in_ok-passed.passed.last c.in-Some.stop c.in-Some.is c.in_ok-passed.ensures in
+    (omega (arith, c.decreases), (c.requires, s.matching))
+
+pub evaluate-overflow_add-block : goal.evaluate-overflow_add-block
+evaluate-overflow_add-block t c =
+    let s = said c.args.question.now.config.now c.args.question.now.packet.now c.args.placed.now c.loop-passed.block c.loop-passed.last c.in_ok-passed.passed.last c.in-Some.stop c.in-Some.is c.in_ok-passed.ensures in
+    let few = s.few in
+    omega (arith, few)
+
+pub evaluate-loop-passed-smaller : goal.evaluate-loop-passed-smaller
+evaluate-loop-passed-smaller t c =
+    let s = said c.args.question.now.config.now c.args.question.now.packet.now c.args.placed.now c.loop-passed.block c.loop-passed.last c.in_ok-passed.passed.last c.in-Some.stop c.in-Some.is c.in_ok-passed.ensures in
+    let later = s.later in
+    let within = s.within in
+    omega (arith, later, within)
+
+pub evaluate-loop-passed-preserved : goal.evaluate-loop-passed-preserved
+evaluate-loop-passed-preserved t c =
+    let config = c.args.question.now.config.now in
+    let packet = c.args.question.now.packet.now in
+    let placed = c.args.placed.now in
+    let s = said config packet placed c.loop-passed.block c.loop-passed.last c.in_ok-passed.passed.last c.in-Some.stop c.in-Some.is c.in_ok-passed.ensures in
+    let effect : ℕ → PlainRule → Evaluated PlainMatch = λ n r. effected (ruleset_gives config packet) config.rulesets placed.0 n r.effect in
+    let test = matching config.tables packet placed.0 in
+    let later : Option PlainMatch → Evaluated PlainMatch = λ o. given_from config packet placed (c.in-Some.stop.block + 1) o in
+    c.loop-passed.invariant ∙ s.gives
+    ∙ block_goes_on effect test c.in_ok-passed.passed.last c.in-Open.latest c.in-Some.stop.block placed.1 (sym c.in-Open.is ∙ c.in_ok-latest.ensures)
+    ∙ ap later (sym c.or-last.ensures)
 
 pub evaluate-returns-in-Ended : goal.evaluate-returns-in-Ended
 evaluate-returns-in-Ended t c =
-    let tests = matching c.args.question.now.config.now.tables c.args.question.now.packet.now in
-    let f = evaluation c.args.question.now.config.now.rulesets tests in
-    let effect : ℕ → PlainRule → Evaluated PlainMatch = λ n r. effected f c.args.question.now.config.now.rulesets c.args.placed.now.0 n r.effect in
-    let test = tests c.args.placed.now.0 in
-    sym (c.loop-block.invariant ∙ block_ends effect test c.loop-block.last c.in-Ended.end c.loop-block.block c.args.placed.now.1 (sym c.in-Ended.is ∙ c.in_ok-latest.ensures))
-
-pub evaluate-loop-block-preserved : goal.evaluate-loop-block-preserved
-evaluate-loop-block-preserved t c =
-    let tests = matching c.args.question.now.config.now.tables c.args.question.now.packet.now in
-    let f = evaluation c.args.question.now.config.now.rulesets tests in
-    let effect : ℕ → PlainRule → Evaluated PlainMatch = λ n r. effected f c.args.question.now.config.now.rulesets c.args.placed.now.0 n r.effect in
-    let test = tests c.args.placed.now.0 in
-    let rules = c.args.placed.now.1 in
-    let b = c.loop-block.block in
-    let mask = c.matching_in-mask.result in
-    let later : Option PlainMatch → Evaluated PlainMatch = λ o. and_then (Open o) (rules_give effect test (8 * (b + 1)) (drop (8 * (b + 1)) rules)) in
-    c.loop-block.invariant ∙ elim c.if-stopping-eq0.branch [
-      | evaluate-then-stopping-eq0 w ↦ block_goes_on effect test c.loop-block.last w.last_match.result b rules
-          (w.last_match.ensures f c.args.question.now.config.now.rulesets tests c.matching_in-mask.ensures (none_stops rules b mask c.stopping.result c.stopping.ensures w.if-stopping-eq0.true))
-          ∙ ap later (sym (w.last-is ∙ w.or-last.ensures))
-      | evaluate-else-stopping-eq0+in_ok-latest+in-Open-Some w ↦ block_goes_on effect test c.loop-block.last (Some w.in-Open-Some.latest) b rules
-          (ap (λ (o : Option PlainMatch). Open o) (sym w.in-Open-Some.field-0-is) ∙ sym w.in-Open-Some.is ∙ w.in_ok-latest.ensures)
-          ∙ ap later (sym w.last-is)
-      | evaluate-else-stopping-eq0+in_ok-latest+in-Open-None w ↦ block_goes_on effect test c.loop-block.last None b rules
-          (ap (λ (o : Option PlainMatch). Open o) (sym w.in-Open-None.field-0-is) ∙ sym w.in-Open-None.is ∙ w.in_ok-latest.ensures)
-          ∙ ap later (sym w.last-is)
-    ]
-    ∙ passes c.args.question.now.config.now.rulesets c.args.question.now.config.now.tables c.args.question.now.packet.now c.args.placed.now c.if-stopping-eq0.last (b + 1) c.next_near-block-in-loop-block.result c.next_near-block-in-loop-block.ensures.later
-    (c.next_near-block-in-loop-block.ensures.none (asked c.args.placed.now.1 c.args.question.now.packet.now) c.prepared-probe.ensures)
+    let config = c.args.question.now.config.now in
+    let packet = c.args.question.now.packet.now in
+    let placed = c.args.placed.now in
+    let s = said config packet placed c.loop-passed.block c.loop-passed.last c.in_ok-passed.passed.last c.in-Some.stop c.in-Some.is c.in_ok-passed.ensures in
+    let effect : ℕ → PlainRule → Evaluated PlainMatch = λ n r. effected (ruleset_gives config packet) config.rulesets placed.0 n r.effect in
+    let test = matching config.tables packet placed.0 in
+    sym (c.loop-passed.invariant ∙ s.gives ∙ block_ends effect test c.in_ok-passed.passed.last c.in-Ended.end c.in-Some.stop.block placed.1 (sym c.in-Ended.is ∙ c.in_ok-latest.ensures))
 
 pub each_match-loop-lane-init : goal.each_match-loop-lane-init
 each_match-loop-lane-init t c =

@@ -1,10 +1,11 @@
 use Rattle.std.proofs.Common.{◌≡◌, ◌+◌, ◌-◌, ◌*◌, drop}
-use Rattle.std.specs.Prelude.{filter}
+use Rattle.std.specs.Prelude.{filter, length}
 use Rattle.pf_addr.specs.declared.path.limits.TheConstants.{DEPTH_LIMIT}
 use Rattle.pf_addr.specs.Path.Nested.{depth, is_child}
 use Rattle.pf_lanes.specs.Answered.{eight_from}
 use Rattle.pf_anchor.specs.declared.evaluated.Evaluated.TheVariants.{Open}
 use Rattle.pf_anchor.specs.Evaluation.{and_then, in_turn, effected, rules_at_path, rules_give, evaluation, matching}
+use Rattle.pf_anchor.specs.{Blocks.{given_from}, Known.{ruleset_gives}}
 use Rattle.pf_anchor.proofs.evaluate.+evaluate.Given as goal
 
 -- what a ruleset leads to is deeper
@@ -30,15 +31,11 @@ abbrev pub decreases-evaluate_children : goal.decreases-evaluate_children
 decreases-evaluate_children l = 6 * (DEPTH_LIMIT - depth l.path.now) + 1
 
 -- what the remaining rules give comes after the last match so far
-abbrev pub invariant-evaluate-loop-block : goal.invariant-evaluate-loop-block
-invariant-evaluate-loop-block l =
-    let c = l.question.config.now in
-    let tests = matching c.tables l.question.packet.now in
-    evaluation c.rulesets tests l.placed
-    ≡ and_then (Open l.last) (rules_give (λ n r. effected (evaluation c.rulesets tests) c.rulesets l.placed.0 n r.effect) (tests l.placed.0) (8 * l.block) (drop (8 * l.block) l.placed.1))
+abbrev pub invariant-evaluate-loop-passed : goal.invariant-evaluate-loop-passed
+invariant-evaluate-loop-passed l = ruleset_gives l.question.config.now l.question.packet.now l.placed ≡ given_from l.question.config.now l.question.packet.now l.placed l.block l.last
 
-abbrev pub decreases-evaluate-loop-block : goal.decreases-evaluate-loop-block
-decreases-evaluate-loop-block l = l.blocks - l.block
+abbrev pub decreases-evaluate-loop-passed : goal.decreases-evaluate-loop-passed
+decreases-evaluate-loop-passed l = length l.placed.1 - l.block
 
 abbrev pub invariant-each_match-loop-lane : goal.invariant-each_match-loop-lane
 invariant-each_match-loop-lane l =

@@ -1,5 +1,5 @@
-use Rattle.std.proofs.Common.{◌≡◌, sym, ap, subst, ◌∙◌, List}
-use Rattle.pf_anchor.specs.{declared.{evaluated.Evaluated.Evaluated}, Matches.PlainMatch, Rulesets.PlainPlaced, Evaluation.matching, Known.{placed_of, ruleset_gives, IsListing}}
+use Rattle.std.proofs.Common.{sym, ap, subst, ◌∙◌}
+use Rattle.pf_anchor.specs.{declared.{evaluated.Evaluated.Evaluated}, Matches.PlainMatch, Rulesets.PlainPlaced, Evaluation.matching, Known.{ruleset_gives, IsListing}}
 use Rattle.pf_anchor.proofs.EachKnown.{enough_here, sorted_here, still_few, still_listed, one_more_given, one_more_onward}
 use Rattle.pf_anchor.proofs.in_order.evaluate_each.Goals as goal
 

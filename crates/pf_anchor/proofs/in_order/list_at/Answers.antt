@@ -1,4 +1,4 @@
-use Rattle.std.proofs.Common.{◌≡◌, sym, ap, ◌∙◌}
+use Rattle.std.proofs.Common.{sym, ap, ◌∙◌}
 use Rattle.pf_addr.specs.Path.Nested.{depth}
 use Rattle.pf_anchor.specs.Rulesets.{PlainPlaced}
 use Rattle.pf_anchor.proofs.Listing.{no_room}

@@ -1,4 +1,4 @@
-use Rattle.std.proofs.Common.{◌≡◌, take, sym, ap, ◌∙◌}
+use Rattle.std.proofs.Common.{◌≡◌, sym, ap, ◌∙◌}
 use Rattle.pf_addr.specs.Path.Nested.{is_child}
 use Rattle.pf_anchor.specs.Known.{PlainKnown}
 use Rattle.pf_anchor.proofs.GivenAt.{past_front, children_there, no_children_there, no_children_past}

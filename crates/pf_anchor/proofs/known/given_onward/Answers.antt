@@ -1,7 +1,6 @@
 use Rattle.std.proofs.Common.{◌≡◌, sym, ap, ◌∙◌}
 use Rattle.pf_addr.specs.Path.Nested.{is_child}
 use Rattle.pf_anchor.specs.Known.{PlainKnown}
-use Rattle.pf_anchor.specs.Rulesets.{PlainPlaced}
 use Rattle.pf_anchor.proofs.GivenAt.{next_is_none}
 use Rattle.pf_anchor.proofs.known.given_onward.Goals as goal
 

@@ -1,5 +1,5 @@
-use Rattle.std.proofs.Common.{◌≡◌, ◌++◌, List, ℕ, take, sym, ap, ◌∙◌}
-use Rattle.pf_addr.specs.Path.Nested.{front, is_child}
+use Rattle.std.proofs.Common.{sym, ap, ◌∙◌}
+use Rattle.pf_addr.specs.Path.Nested.{is_child}
 use Rattle.pf_anchor.proofs.Siblings.{front_is, sibling_is, no_sibling}
 use Rattle.pf_anchor.proofs.known.is_sibling.Goals as goal
 
