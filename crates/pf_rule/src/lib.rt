@@ -42,7 +42,7 @@ pub use laws::{
     a_refusal_is_one, different_rules_have_different_texts, hosts_without_tables_ask_none,
     rules_and_packets_are_read_as_spelled, what_is_spelled_is_kept, what_is_written_is_read_again,
 };
-pub use packet::Packet;
+pub use packet::{Packet, PacketParts};
 pub use pf_addr::path::{Reference, TableName};
 pub use rule::{Action, Effect, Rule};
 pub use sum::{rule_bytes, ruleset_sum};

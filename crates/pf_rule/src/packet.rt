@@ -1,7 +1,7 @@
 //! Packets.
-ghost use Rattle.std.specs.Prelude.{◌≡◌};
+ghost use Rattle.std.specs.Prelude.{◌≡◌, Some, None, if◌then◌else◌};
 ghost use Rattle.pf_form.specs.{Form.Readers.Moves, Form.Words.{words_of, texts}};
-ghost use Rattle.pf_rule.specs.{PacketGrammar.{packet, way}, Refusals.{IsAnswer, reading}, Packets.{PlainPacket, IsPacket}};
+ghost use Rattle.pf_rule.specs.{PacketGrammar.{packet, way}, Refusals.{IsAnswer, reading}, Packets.{PlainPacket, IsPacket, is_packet}};
 
 use crate::fault::{Mistake, TextFault, tell};
 use crate::value::{
@@ -15,21 +15,21 @@ use std::marker::Model;
 /// What the filter sees of a packet, which is what rules test (pf.conf(5), PACKET FILTERING). Contracts see a [`Packet`] as these fields
 /// (`PlainPacket`), each as they see its type. That a packet is a value and carries no flags is this project's own.
 #[derive(Clone, Copy)]
-struct PacketParts {
+pub struct PacketParts {
     /// Which way it goes through the interface.
-    direction: Direction,
+    pub direction: Direction,
     /// The interface that it goes through, by its name of 1 to 15 bytes.
-    interface: Interface,
+    pub interface: Interface,
     /// Its protocol, as a number from 1 to 255.
-    protocol: Protocol,
+    pub protocol: Protocol,
     /// The address that it comes from.
-    source: Addr,
+    pub source: Addr,
     /// The port that it comes from, 0 to 65535; 0 if the protocol has no ports.
-    source_port: u16,
+    pub source_port: u16,
     /// The address that it goes to, of the source's family.
-    destination: Addr,
+    pub destination: Addr,
     /// The port that it goes to, as `source_port`.
-    destination_port: u16,
+    pub destination_port: u16,
 }
 
 /// A packet. Its addresses are of one family, and its ports are 0 unless it is TCP or UDP.
@@ -49,6 +49,21 @@ impl Model for Packet {
 }
 
 impl Packet {
+    /// The packet of these parts.
+    ///
+    /// `None`: the addresses are of different families, or there is a port that isn't 0 and the protocol has none.
+    pub fn new(parts: PacketParts) -> Option<Packet>
+        ensures { result ≡ if is_packet parts then Some parts else None }
+    {
+        let has_ports = parts.protocol.has_ports();
+        let are_ports_fit = has_ports || (parts.source_port == 0 && parts.destination_port == 0);
+        if parts.source.family() == parts.destination.family() && are_ports_fit {
+            Some(Packet(parts))
+        } else {
+            None
+        }
+    }
+
     /// Reads a packet from the front of the remaining words. Doesn't allocate.
     ///
     /// A refusal is at the first word at which no packet's text can continue. Its kind is the one that [`Packet::parse`] names, and it
