@@ -69,7 +69,7 @@ def without_number(reply):
 class Client:
     def __init__(self, number, ticket, edits):
         self.number, self.ticket, self.edits = number, ticket, edits
-        self.told, self.left, self.model = [], [], Session()
+        self.told, self.left, self.model, self.is_late = [], [], Session(), False
         for line in BEFORE:
             self.model.reply(line.encode())
         # (as if this one had been given, in an opening behind that of these lines)
@@ -95,6 +95,8 @@ class Client:
                     has_ended = self.told[-1][1] is None
         except ConnectionError:
             self.told = [(line, None) for lines in pieces for line in lines]
+        except TimeoutError:
+            self.is_late = True
 
     def numbers(self):
         """Those of its changes."""
@@ -102,6 +104,8 @@ class Client:
         return [int(it[1]) for it in found if it]
 
     def wrong(self, kept):
+        if self.is_late:
+            return f"client {self.number}: no reply in {SECONDS} seconds"
         ahead = [line for line, said in self.told if said is None]
         for line, said in self.told[: len(self.told) - len(ahead)]:
             if said == REFUSAL:
