@@ -114,11 +114,11 @@ def machine():
 
 
 def replaced(text, tables, line, whole):
-    """A document's text with these tables in place of its own, and the names of those that it has no place for. Where they are all that is measured,
-    `line` becomes the document's; a table that is then of another run, or is replaced alone, says so."""
+    """A document's text with these tables in place of its own, and the names of those that it has no place for. Where they are all that is measured, or all
+    that the document has, `line` becomes the document's; a table that is then of another run, or is replaced alone, says so."""
     places = {name: body for _, name, body, _ in MARKED.findall(text)}
     old = places.get("machine", "").strip()
-    now = line if whole or not old else old
+    now = line if whole or not old or places.keys() - {"machine"} <= tables.keys() else old
 
     def block(match):
         begin, name, body, end = match.groups()

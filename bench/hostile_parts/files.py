@@ -1,10 +1,10 @@
 """A real file whose calls fail: the program under a small library (break.c) that breaks the k-th call of a kind, for each k until none is met,
-over `pfd run --disk` and `pfd serve`.
+over `pfd run --disk` and `pfd serve`. To a server some lines come together, as many as are kept in one group.
 
-Until the call breaks every reply is that of an undisturbed run. The line that meets it is told `err fault`, or the program ends with
-`pfd: fault` where it was opening; every change behind it is told `err halted`, and questions are answered by what was acknowledged. No later
-call reaches the file. What is left is what was acknowledged, or that with the change that met the fault, and the next start holds it, with
-the bytes that docs/DISK.md says. So it is too where the process is killed within a call, with what it wrote since the last fdatasync all there,
+Until the call breaks every reply is that of an undisturbed run. The line that meets it is told `err fault`, and so is each of its group, or
+the program ends with `pfd: fault` where it was opening; every change behind it is told `err halted`, and questions are answered by what was
+acknowledged. No later call reaches the file. What is left is what was acknowledged, or that with the changes that met the fault, and the next
+start holds it, with the bytes that docs/DISK.md says. So it is too where the process is killed within a call, with what it wrote since the last fdatasync all there,
 lost, or half lost. A write that is short or interrupted, and a read that is short, change nothing at all.
 
 What a device under the file loses without a word no library can play, and that an fdatasync does what it says isn't seen here.
@@ -46,6 +46,12 @@ OLDER = 2048, [
 EXPIRING = 2048, [
     "tset - t 10.0.0.0/8", "begin filter -", "add - 1.1 pass all label x", "commit filter - 1.1",
     "track 7 1 in em0 tcp 198.51.100.7 40000 192.0.2.1 80 until 9", "expire 8", "show states", "expire 9", "show states"]
+# Lines that come together, of each kind that is kept so, and then 50 of which each group switches the file.
+TOGETHER = 4096, [
+    "begin filter -", "add - 1.1 pass out proto udp all keep state", "commit filter - 1.1", "begin filter web", "add web 1.2 block all",
+    ["tset - t 10.0.0.0/8", "tadd - t 10.1.0.0/16", "tdel - t 10.1.0.0/16", "commit filter web 1.2", "tset - u 10.0.0.1", "tkill - u",
+     "track 7 1 out em0 udp 198.51.100.7 40000 192.0.2.1 80 until 9", f"peer {EXAMPLE.hex()}", "kill 7 1", "expire 8"],
+    *[[f"tset - t 10.{turn}.{place}.0/24" for place in range(50)] for turn in range(3)], "show tables -"]
 
 
 class Program:
@@ -71,6 +77,16 @@ class Program:
             self.given.write(line.encode() + b"\n")
             self.given.flush()
             return self.read(self.told, count)
+        except OSError:
+            return []
+
+    def ask_together(self, lines):
+        """The replies to lines of one line each that are sent at once, or fewer where the program has ended."""
+        try:
+            self.given.write("".join(f"{line}\n" for line in lines).encode())
+            self.given.flush()
+            said = [self.told.readline().decode().rstrip("\n") for _ in lines]
+            return said if said[0] else []
         except OSError:
             return []
 
@@ -152,6 +168,9 @@ class Play:
             if isinstance(line, bytes):
                 should = session.stream(read_stream(line)[0])
                 said = program.stream(line)
+            elif isinstance(line, list):
+                should = [reply for one in line for reply in session.reply(one.encode())]
+                said = program.ask_together(line)
             else:
                 should = session.reply(line.encode())
                 said = program.ask(line, len(should))
@@ -167,7 +186,7 @@ class Play:
         if self.kind in KILLING:
             self.check(f"{line!r}: {said}, and not {should}", said in ([], [""], ["(reset)"]))
             return
-        self.check(f"{line!r}: {said}, and not {should}", said == ["err fault"] * (len(should) if isinstance(line, bytes) else 1))
+        self.check(f"{line!r}: {said}, and not {should}", said == ["err fault"] * (1 if isinstance(line, str) else len(should)))
         self.halted(program, before, count)
 
     def halted(self, program, before, count):
@@ -258,7 +277,7 @@ def play(options):
     with new_folder() as folder:
         shim = compiled("hostile_parts/break.c", folder)
         scripts = [("run", "a small file", SMALL), ("serve", "groups", with_groups(chance(options.seed, "groups")))]
-        scripts += [("run", "a file of version 1", OLDER), ("run", "a file of version 2", EXPIRING)]
+        scripts += [("run", "a file of version 1", OLDER), ("run", "a file of version 2", EXPIRING), ("serve", "lines together", TOGETHER)]
         if not options.is_quick:
             scripts += [("run", "all kinds", ALL_KINDS), ("serve", "a small file", SMALL), ("serve", "all kinds", ALL_KINDS)]
             scripts += [("serve", "a file of version 1", OLDER), ("serve", "a file of version 2", EXPIRING)]

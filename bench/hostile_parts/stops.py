@@ -144,7 +144,8 @@ class Maker(lines.Maker):
         if how < 4:
             return self.transaction()
         if how == 9:
-            return "group " + GROUPED.join(self.change() for _ in range(self.random.randrange(1, 5)))
+            most = self.random.choice((5, 5, 5, 65))
+            return "group " + GROUPED.join(self.change() for _ in range(self.random.randrange(1, most)))
         return self.one_of(self.edit, self.edit, self.state_change)()
 
 
