@@ -1,6 +1,6 @@
 mod Configurations
+mod Interfaces
 mod Kept
 mod Many
-mod PacketWords
 mod Values
 mod Verdicts

@@ -1,12 +1,12 @@
 -- What calls answer.
-use Rattle.std.specs.{Prelude.{◌≡◌, ◌==◌, ◌||◌, ◌⊎◌, ℕ, Bool, true, false, List, length, Option, None, Some, Result, Ok, Err, if◌then◌else◌}, Option.option_map}
+use Rattle.std.specs.{Prelude.{◌≡◌, ◌⊎◌, ℕ, Bool, true, false, List, length, Option, None, Some, Result, Ok, Err, if◌then◌else◌}, Option.option_map}
 use Rattle.pf_form.specs.declared.form.fault.Kind.{Kind}
 use Rattle.pf_addr.specs.{declared.addr.Addr.Addr, Path.{Names.table_name_of, Paths.path_of}}
 use Rattle.pf_table.specs.{Entries.PlainEntry, Tables.deciding}
 use Rattle.pf_core.specs.{Durable.Changes.{PlainDurable, entries_at, verdict}, Laws.Durable.IsWithin}
 use Rattle.pf_store.specs.Stores.{Holds}
-use Rattle.wirdalf_c.specs.{Codes.{code_of, place_of}, Images.IsUnread, Packets.{address_in, packet_in}, Verdicts.IsTold}
-use Rattle.wirdalf_c.specs.declared.{configuration.Configuration.Configuration, fault.ReadFault.ReadFault, fault.TheConstants.OK, judging.TheConstants.{NO_ENTRY, IN_TABLE, NEGATED, BAD_NAME}, record.CountsRecord.CountsRecord, record.PacketRecord.PacketRecord, record.TheConstants.{FAMILY_V4, FAMILY_V6}, record.VerdictRecord.VerdictRecord}
+use Rattle.wirdalf_c.specs.{Codes.{code_of, place_of}, Images.IsUnread, Packets.{address_in, is_family, packet_in}, Verdicts.IsTold}
+use Rattle.wirdalf_c.specs.declared.{configuration.Configuration.Configuration, fault.ReadFault.ReadFault, fault.TheConstants.OK, judging.TheConstants.{NO_ENTRY, IN_TABLE, NEGATED, BAD_NAME}, record.CountsRecord.CountsRecord, record.PacketRecord.PacketRecord, record.VerdictRecord.VerdictRecord}
 
 -- The record of a verdict is that on the packet of another record; there is none if that says no packet.
 unfoldable pub IsJudged : PlainDurable → PacketRecord → VerdictRecord → Type 0
@@ -37,9 +37,6 @@ IsFound d (Ok path) (Ok table) a before after code =
     let entry = deciding (entries_at d path table) a in (code ≡ entry_code entry) × (after ≡ length_after before entry)
 IsFound d (Ok path) (Err kind) a before after code = (code ≡ BAD_NAME) × (after ≡ before)
 IsFound d (Err kind) table a before after code = (code ≡ BAD_NAME) × (after ≡ before)
-
-abbrev pub is_family : ℕ → Bool
-is_family family = (family == FAMILY_V4) || (family == FAMILY_V6)
 
 -- and if the address has a family
 pub record IsTested (d : PlainDurable) (path table : List ℕ) (family : ℕ) (address : List ℕ) (before after code : ℕ) : Type 0 where

@@ -5,7 +5,7 @@
 //!
 //! - `loose`: a box as its pointer; `configuration`: what C holds, [`Configuration`](configuration::Configuration). These two alone follow
 //!   pointers, in five functions of a line or two that are proved by hand.
-//! - `record`: the structs that C gives and gets; `text`, `packet`: which packet one of them says; `verdict`: a verdict as another.
+//! - `record`: the structs that C gives and gets; `packet`: which packet one of them says; `verdict`: a verdict as another.
 //! - `fault`, `image`: what the bytes of a disk hold, or why not; `keeping`: what was made is put where C wants it.
 //! - `judging`: what a configuration says.
 //!
@@ -26,7 +26,6 @@ mod keeping;
 mod loose;
 mod packet;
 mod record;
-mod text;
 mod verdict;
 
 ghost use Rattle.std.specs.Prelude.{◌≡◌, ◌<◌, ◌≤◌, ℕ, length, min, slice_get, IsSome, IfSome};
