@@ -34,4 +34,5 @@ said_by r = record {
 
 -- the packet, if they say one
 abbrev pub packet_in : PacketRecord → Option PlainPacket
-packet_in r = if has_known_numbers r && (is_ok (interface_of (name_in r.interface)) && is_packet (said_by r)) then Some (said_by r) else None
+packet_in r =
+    if has_known_numbers r && (is_ok (interface_of (name_in r.interface)) && is_packet (said_by r)) then Some (said_by r) else None
