@@ -2,8 +2,11 @@
  * What bench/clib measures the library in C by.
  *
  * clib show < IMAGES: of each image, which stands behind its length in four bytes (the highest first), what pfd show writes.
+ * clib lines < TEXTS: of each text, given in the same way, the sum of the main rules that its lines make, or the number of the line that
+ *     isn't done, with its reply.
  * clib judge FILE < PACKETS: for each line, as way, interface, protocol's number, address, port, address, port, what pfd's judge
  *     replies, by what the file of a pfd holds.
+ * clib judge-lines FILE < PACKETS: the same by a file of lines.
  * clib time FILE THREADS ROUNDS < PACKETS: judges the packets so many times in each of so many threads, and writes the nanoseconds of a
  *     processor that a packet took, one at a time and in arrays of 256.
  */
@@ -31,7 +34,7 @@ static void *room(size_t size)
     return made;
 }
 
-static uint32_t fill(FILE *file, uint8_t **bytes, size_t *length)
+static void fill(FILE *file, uint8_t **bytes, size_t *length)
 {
     size_t most = 1 << 16, n;
 
@@ -42,12 +45,12 @@ static uint32_t fill(FILE *file, uint8_t **bytes, size_t *length)
         if (*length == most && (*bytes = realloc(*bytes, most *= 2)) == NULL)
             stop("memory");
     }
-    return 0;
 }
 
-static struct wirdalf made_of(const char *path)
+static struct wirdalf made_of(const char *path, int is_lines)
 {
     struct wirdalf config = WIRDALF_NONE;
+    struct wirdalf_fault fault = { .line = 0 };
     FILE *file = fopen(path, "rb");
     uint64_t place = 0;
     uint32_t result;
@@ -58,10 +61,10 @@ static struct wirdalf made_of(const char *path)
         stop("input");
     fill(file, &bytes, &length);
     fclose(file);
-    result = wirdalf_read(bytes, length, &config, &place);
+    result = is_lines ? wirdalf_lines(bytes, length, &config, &fault) : wirdalf_read(bytes, length, &config, &place);
     free(bytes);
     if (result != WIRDALF_OK) {
-        fprintf(stderr, "clib: %" PRIu32 " at %" PRIu64 "\n", result, place);
+        fprintf(stderr, "clib: %" PRIu32 " at %" PRIu64 "\n", result, is_lines ? fault.line : place);
         exit(1);
     }
     return config;
@@ -103,13 +106,23 @@ static struct wirdalf_packet *packets_of(FILE *file, size_t *count)
     return packets;
 }
 
+static void write_sum(struct wirdalf *config)
+{
+    uint8_t sum[16];
+
+    wirdalf_sum(config, sum);
+    printf("sum ");
+    for (size_t i = 0; i < sizeof sum; i++)
+        printf("%02x", sum[i]);
+    printf("\n");
+}
+
 static void show(const uint8_t *bytes, size_t length)
 {
     static const char *const faults[] = { "", "bad size", "no bank", "corrupt", "memory" };
     struct wirdalf config = WIRDALF_NONE;
     struct wirdalf_counts counts;
     uint64_t place = 0;
-    uint8_t sum[16];
     uint32_t result = wirdalf_read(bytes, length, &config, &place);
 
     if (result == WIRDALF_CORRUPT)
@@ -118,18 +131,38 @@ static void show(const uint8_t *bytes, size_t length)
         printf("pfd: %s\n", faults[result]);
     else {
         wirdalf_counts(&config, &counts);
-        wirdalf_sum(&config, sum);
-        printf("epoch %" PRIu32 "\nsum ", counts.epoch);
-        for (size_t i = 0; i < sizeof sum; i++)
-            printf("%02x", sum[i]);
-        printf("\nrulesets %" PRIu64 "\ntables %" PRIu64 "\nstates %" PRIu64 "\ntick %" PRIu64 "\n", counts.rulesets, counts.tables,
+        printf("epoch %" PRIu32 "\n", counts.epoch);
+        write_sum(&config);
+        printf("rulesets %" PRIu64 "\ntables %" PRIu64 "\nstates %" PRIu64 "\ntick %" PRIu64 "\n", counts.rulesets, counts.tables,
                counts.states, wirdalf_tick(&config));
         wirdalf_free(config);
     }
     printf(".\n");
 }
 
-static void show_all(void)
+static void do_lines(const uint8_t *text, size_t length)
+{
+    struct wirdalf config = WIRDALF_NONE;
+    struct wirdalf_fault fault;
+    uint32_t result;
+
+    memset(&fault, 0xA5, sizeof fault);
+    result = wirdalf_lines(text, length, &config, &fault);
+    if (result == WIRDALF_OK) {
+        write_sum(&config);
+        wirdalf_free(config);
+    } else if (config.held != NULL || strlen(fault.reply) != fault.reply_length)
+        stop("a fault");
+    else if (result == WIRDALF_REFUSED)
+        printf("line %" PRIu64 ": %s\n", fault.line, fault.reply);
+    else if (result == WIRDALF_UNFIT && fault.reply_length == 0)
+        printf("unfit %" PRIu64 "\n", fault.line);
+    else
+        stop("memory");
+    printf(".\n");
+}
+
+static void do_all(void (*what)(const uint8_t *, size_t))
 {
     uint8_t head[4], *bytes;
 
@@ -139,7 +172,7 @@ static void show_all(void)
         bytes = room(length);
         if (fread(bytes, 1, length, stdin) != length)
             stop("input");
-        show(bytes, length);
+        what(bytes, length);
         free(bytes);
     }
 }
@@ -245,14 +278,14 @@ int main(int count, char **words)
 {
     struct wirdalf config;
 
-    if (count == 2 && strcmp(words[1], "show") == 0) {
-        show_all();
+    if (count == 2 && (strcmp(words[1], "show") == 0 || strcmp(words[1], "lines") == 0)) {
+        do_all(words[1][0] == 's' ? show : do_lines);
         return 0;
     }
     if (count < 3)
         stop("words");
-    config = made_of(words[2]);
-    if (count == 3 && strcmp(words[1], "judge") == 0)
+    config = made_of(words[2], strcmp(words[1], "judge-lines") == 0);
+    if (count == 3 && strncmp(words[1], "judge", 5) == 0)
         judge_all(&config);
     else if (count == 5 && strcmp(words[1], "time") == 0)
         time_all(&config, (size_t)atol(words[3]), (size_t)atol(words[4]));

@@ -1,14 +1,14 @@
 /*
  * wirdalf.h: what a Wirdalf control plane keeps, for a packet path in C.
  *
- * A configuration is read once, from the bytes of a file that pfd serves, and never changes. Judging takes no memory and no lock, and can't
- * fail. wirdalf(3) is the manual.
+ * A configuration is read once, from the bytes of a file that pfd serves or from lines, and never changes. Judging takes no memory and no
+ * lock, and can't fail. wirdalf(3) is the manual.
  *
  * What C has to keep to, since no proof looks at C:
  * - Pointers are not null (but for those of empty arrays), aligned as their types want, and point to live values. Arrays have as many
  *   elements as is said. No two arguments of a call overlap, one of which is written to.
- * - A struct wirdalf is WIRDALF_NONE, or was written by wirdalf_read or wirdalf_clone, which returned WIRDALF_OK. Only what these
- *   write may hold nothing; and one that holds something is freed before it is written to again, or its memory is lost.
+ * - A struct wirdalf is WIRDALF_NONE, or was written by wirdalf_read, wirdalf_lines or wirdalf_clone, which returned WIRDALF_OK. Only what
+ *   these write may hold nothing; and one that holds something is freed before it is written to again, or its memory is lost.
  * - A struct wirdalf is in one call at a time, and isn't copied but moved: after it was assigned or handed to another thread, the old one
  *   isn't used. Each thread that judges has its own, made by wirdalf_clone, which shares what it holds. Handing it over is ordered by a
  *   lock, by the start or the join of a thread, or by a sequentially consistent atomic.
@@ -38,7 +38,9 @@ enum {
     WIRDALF_BAD_SIZE = 1, /* an odd number of bytes, or fewer than 256 or more than 2^30 */
     WIRDALF_NO_BANK = 2,  /* no disk was formatted here */
     WIRDALF_CORRUPT = 3,  /* what begins at a place of the bytes can't have been left there */
-    WIRDALF_MEMORY = 4    /* out of memory */
+    WIRDALF_MEMORY = 4,   /* out of memory */
+    WIRDALF_REFUSED = 5,  /* a line that pfd refuses */
+    WIRDALF_UNFIT = 6     /* a line that is another command than begin, add, define, commit and tset */
 };
 
 /* Values of fields. */
@@ -89,9 +91,21 @@ struct wirdalf_counts {
     uint32_t epoch;
 };
 
+/* A line that isn't done. */
+struct wirdalf_fault {
+    uint64_t line;        /* its number, from 1 */
+    uint8_t reply_length; /* how long the reply is; 0 where pfd doesn't refuse the line */
+    char reply[64];       /* what pfd replies to it, as "err word 4", with a zero after it */
+};
+
 /* What the bytes of a disk hold: a whole file that pfd formatted or serves, read or mapped. It may be any bytes. At WIRDALF_CORRUPT the
  * place is written, from 0. Unless it returns WIRDALF_OK, the configuration is as it was. */
 uint32_t wirdalf_read(const uint8_t *bytes, size_t length, struct wirdalf *config, uint64_t *place);
+
+/* What lines make of nothing, each done in turn as pfd run does it: begin, add, define, commit and tset, comments and empty lines. They may
+ * be any bytes. The first line to which pfd wouldn't reply ok or applied is WIRDALF_REFUSED, and another command is WIRDALF_UNFIT: then
+ * nothing is made, the configuration is as it was, and the fault is written. At WIRDALF_MEMORY the fault has no meaning. */
+uint32_t wirdalf_lines(const uint8_t *text, size_t length, struct wirdalf *config, struct wirdalf_fault *fault);
 
 /* The same once more, for another thread: what it holds is shared. WIRDALF_OK or WIRDALF_MEMORY. */
 uint32_t wirdalf_clone(struct wirdalf *config, struct wirdalf *copy);

@@ -3,6 +3,8 @@
  * judge has it, without that word, but for its protocol, which is a number:
  *
  *     in em0 6 10.0.0.1 1234 192.0.2.1 80
+ *
+ * judge -l FILE: the same by a file of lines as pfd run takes them: begin, add, define, commit and tset.
  */
 #include <arpa/inet.h>
 #include <fcntl.h>
@@ -14,25 +16,49 @@
 #include <unistd.h>
 #include <wirdalf.h>
 
-/* Reads what a file holds. Returns what wirdalf_read does, or -1 where there is no such file. */
-static int read_file(const char *path, struct wirdalf *config, uint64_t *place)
+/* What the bytes of a file hold, which is named where they are refused. */
+static int read_image(const char *path, const uint8_t *bytes, size_t length, struct wirdalf *config)
+{
+    uint64_t place = 0;
+    uint32_t result = wirdalf_read(bytes, length, config, &place);
+
+    if (result != WIRDALF_OK)
+        fprintf(stderr, "judge: %s: can't be read: %" PRIu32 " at %" PRIu64 "\n", path, result, place);
+    return result == WIRDALF_OK;
+}
+
+/* What the lines of a file make; the one that is refused is named. */
+static int read_lines(const char *path, const uint8_t *text, size_t length, struct wirdalf *config)
+{
+    struct wirdalf_fault fault;
+    uint32_t result = wirdalf_lines(text, length, config, &fault);
+
+    if (result == WIRDALF_REFUSED)
+        fprintf(stderr, "judge: %s: line %" PRIu64 ": %s\n", path, fault.line, fault.reply);
+    else if (result == WIRDALF_UNFIT)
+        fprintf(stderr, "judge: %s: line %" PRIu64 ": not a line that makes rules or tables\n", path, fault.line);
+    else if (result != WIRDALF_OK)
+        fprintf(stderr, "judge: %s: out of memory\n", path);
+    return result == WIRDALF_OK;
+}
+
+/* Reads a file's bytes by one of these two. Returns whether there is a configuration. */
+static int read_file(const char *path, int is_lines, struct wirdalf *config)
 {
     struct stat about;
-    int file = open(path, O_RDONLY), result = -1;
+    int file = open(path, O_RDONLY), is_read = 0;
+    void *bytes = MAP_FAILED;
 
-    if (file < 0)
-        return -1;
-    if (fstat(file, &about) == 0 && about.st_size > 0) {
-        size_t length = (size_t)about.st_size;
-        void *bytes = mmap(NULL, length, PROT_READ, MAP_PRIVATE, file, 0);
-
-        if (bytes != MAP_FAILED) {
-            result = (int)wirdalf_read(bytes, length, config, place);
-            munmap(bytes, length);
-        }
-    }
-    close(file);
-    return result;
+    if (file >= 0 && fstat(file, &about) == 0 && about.st_size > 0)
+        bytes = mmap(NULL, (size_t)about.st_size, PROT_READ, MAP_PRIVATE, file, 0);
+    if (bytes != MAP_FAILED) {
+        is_read = (is_lines ? read_lines : read_image)(path, bytes, (size_t)about.st_size, config);
+        munmap(bytes, (size_t)about.st_size);
+    } else
+        fprintf(stderr, "judge: %s: can't be opened, or is empty\n", path);
+    if (file >= 0)
+        close(file);
+    return is_read;
 }
 
 /* Reads an address, and says of which family it is; 0 for none. */
@@ -80,19 +106,15 @@ int main(int count, char **words)
     struct wirdalf config = WIRDALF_NONE;
     struct wirdalf_packet packet;
     struct wirdalf_verdict verdict;
-    uint64_t place = 0;
     char line[256];
-    int result;
+    int is_lines = count == 3 && strcmp(words[1], "-l") == 0;
 
-    if (count != 2) {
-        fprintf(stderr, "usage: judge FILE\n");
+    if (count != 2 && !is_lines) {
+        fprintf(stderr, "usage: judge FILE\n       judge -l FILE\n");
         return 2;
     }
-    result = read_file(words[1], &config, &place);
-    if (result != WIRDALF_OK) {
-        fprintf(stderr, "judge: %s: can't be read: %d at %" PRIu64 "\n", words[1], result, place);
+    if (!read_file(words[count - 1], is_lines, &config))
         return 1;
-    }
     while (fgets(line, sizeof line, stdin) != NULL) {
         read_packet(line, &packet);
         wirdalf_judge(&config, &packet, &verdict);

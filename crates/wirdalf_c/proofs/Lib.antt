@@ -1,6 +1,9 @@
 mod Configurations
+mod Fronts
+mod Interfaces
 mod Kept
+mod LineSteps
+mod LineWords
 mod Many
-mod PacketWords
 mod Values
 mod Verdicts

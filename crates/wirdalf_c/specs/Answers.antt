@@ -1,12 +1,12 @@
 -- What calls answer.
-use Rattle.std.specs.{Prelude.{◌≡◌, ◌==◌, ◌||◌, ◌⊎◌, ℕ, Bool, true, false, List, length, Option, None, Some, Result, Ok, Err, if◌then◌else◌}, Option.option_map}
+use Rattle.std.specs.{Prelude.{◌≡◌, ◌⊎◌, ℕ, Bool, true, false, List, length, take, Option, None, Some, Result, Ok, Err, if◌then◌else◌}, Option.option_map}
 use Rattle.pf_form.specs.declared.form.fault.Kind.{Kind}
 use Rattle.pf_addr.specs.{declared.addr.Addr.Addr, Path.{Names.table_name_of, Paths.path_of}}
 use Rattle.pf_table.specs.{Entries.PlainEntry, Tables.deciding}
 use Rattle.pf_core.specs.{Durable.Changes.{PlainDurable, entries_at, verdict}, Laws.Durable.IsWithin}
 use Rattle.pf_store.specs.Stores.{Holds}
-use Rattle.wirdalf_c.specs.{Codes.{code_of, place_of}, Images.IsUnread, Packets.{address_in, packet_in}, Verdicts.IsTold}
-use Rattle.wirdalf_c.specs.declared.{configuration.Configuration.Configuration, fault.ReadFault.ReadFault, fault.TheConstants.OK, judging.TheConstants.{NO_ENTRY, IN_TABLE, NEGATED, BAD_NAME}, record.CountsRecord.CountsRecord, record.PacketRecord.PacketRecord, record.TheConstants.{FAMILY_V4, FAMILY_V6}, record.VerdictRecord.VerdictRecord}
+use Rattle.wirdalf_c.specs.{Codes.{code_of, line_code, place_of}, Images.IsUnread, Lines.{AreMade, reply_of}, Packets.{address_in, is_family, packet_in}, Verdicts.IsTold}
+use Rattle.wirdalf_c.specs.declared.{configuration.Configuration.Configuration, fault.ReadFault.ReadFault, fault.TheConstants.OK, judging.TheConstants.{NO_ENTRY, IN_TABLE, NEGATED, BAD_NAME}, lines.LineFault.LineFault, record.CountsRecord.CountsRecord, record.FaultRecord.FaultRecord, record.PacketRecord.PacketRecord, record.TheConstants.REPLY_LIMIT, record.VerdictRecord.VerdictRecord}
 
 -- The record of a verdict is that on the packet of another record; there is none if that says no packet.
 unfoldable pub IsJudged : PlainDurable → PacketRecord → VerdictRecord → Type 0
@@ -38,9 +38,6 @@ IsFound d (Ok path) (Ok table) a before after code =
 IsFound d (Ok path) (Err kind) a before after code = (code ≡ BAD_NAME) × (after ≡ before)
 IsFound d (Err kind) table a before after code = (code ≡ BAD_NAME) × (after ≡ before)
 
-abbrev pub is_family : ℕ → Bool
-is_family family = (family == FAMILY_V4) || (family == FAMILY_V6)
-
 -- and if the address has a family
 pub record IsTested (d : PlainDurable) (path table : List ℕ) (family : ℕ) (address : List ℕ) (before after code : ℕ) : Type 0 where
   pub found : is_family family ≡ true → IsFound d (path_of path) (table_name_of table) (address_in family address) before after code
@@ -63,3 +60,17 @@ IsRead bytes old new code place =
 abbrev pub IsCopied : PlainDurable → (old new : Configuration) → (code : ℕ) → Type 0
 IsCopied d old new code =
     (place : ℕ) × (IsKept (Ok d) old new code place ⊎ ((fault : ReadFault) × IsKept (Err fault) old new code place))
+
+-- ---- lines
+
+-- C's record tells the fault: the number of the line, and what pfd replies to it, as far as there is room.
+pub record IsFaultTold (fault : LineFault) (returned : ℕ) (r : FaultRecord) : Type 0 where
+  pub code : returned ≡ line_code fault.why
+  pub line : r.line ≡ fault.line
+  pub reply : take r.reply_length r.reply ≡ take REPLY_LIMIT (reply_of fault.why)
+
+-- What lines make is there, or the fault tells the first that isn't done.
+abbrev pub IsLined : List ℕ → (old new : Configuration) → (code : ℕ) → FaultRecord → Type 0
+IsLined text old new code r =
+    ((d : PlainDurable) × AreMade text (Ok d) × (new.held ≡ Some d) × (code ≡ OK))
+    ⊎ ((fault : LineFault) × AreMade text (Err fault) × (new ≡ old) × IsFaultTold fault code r)

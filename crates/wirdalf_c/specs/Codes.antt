@@ -1,7 +1,9 @@
 -- What C gets for a fault.
 use Rattle.std.specs.Prelude.{ℕ}
 use Rattle.wirdalf_c.specs.declared.fault.ReadFault.{ReadFault, TheVariants.{BadSize, NoBank, Corrupt, Memory}}
-use Rattle.wirdalf_c.specs.declared.fault.TheConstants.{BAD_SIZE, NO_BANK, CORRUPT, MEMORY}
+use Rattle.wirdalf_c.specs.declared.fault.TheConstants.{BAD_SIZE, NO_BANK, CORRUPT, MEMORY, REFUSED, UNFIT}
+use Rattle.wirdalf_c.specs.declared.lines.LineRefusal.{LineRefusal}
+use Rattle.wirdalf_c.specs.declared.lines.LineRefusal.TheVariants as line
 
 abbrev pub code_of : ReadFault → ℕ
 code_of BadSize = BAD_SIZE
@@ -15,3 +17,9 @@ place_of BadSize = 0
 place_of NoBank = 0
 place_of (Corrupt at) = at
 place_of Memory = 0
+
+-- for a line that isn't done
+abbrev pub line_code : LineRefusal → ℕ
+line_code (line.Refused e) = REFUSED
+line_code line.Unfit = UNFIT
+line_code line.Memory = MEMORY

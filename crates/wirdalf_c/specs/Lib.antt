@@ -3,5 +3,6 @@ pub mod Codes
 pub mod Held
 pub mod Images
 pub mod Lending
+pub mod Lines
 pub mod Packets
 pub mod Verdicts

@@ -1,4 +1,4 @@
-//! Why bytes aren't read.
+//! What C gets for a fault, and why bytes aren't read.
 ghost use Rattle.std.specs.Prelude.{◌≡◌};
 ghost use Rattle.wirdalf_c.specs.Codes.{code_of, place_of};
 
@@ -12,6 +12,10 @@ pub const NO_BANK: u32 = 2;
 pub const CORRUPT: u32 = 3;
 /// Out of memory.
 pub const MEMORY: u32 = 4;
+/// `pfd` refuses a line.
+pub const REFUSED: u32 = 5;
+/// A line is a command, but none of which configurations are made.
+pub const UNFIT: u32 = 6;
 
 /// Why bytes aren't read.
 #[derive(Clone, Copy)]

@@ -1,5 +1,5 @@
 //! Keeps what was made for C.
-ghost use Rattle.std.specs.Prelude.{◌≡◌, ◌⊎◌, Ok, Err, IfOk, IfErr};
+ghost use Rattle.std.specs.Prelude.{◌≡◌, ◌⊎◌, Ok, Err, Some, IfOk, IfErr};
 ghost use Rattle.pf_core.specs.Durable.Changes.{PlainDurable};
 ghost use Rattle.wirdalf_c.specs.declared.fault.ReadFault.TheVariants.{Memory};
 ghost use Rattle.wirdalf_c.specs.Answers.{IsKept};
@@ -20,15 +20,21 @@ pub fn keep(
     ensures { IsKept made config.old config.new result place.new ⊎ IsKept (Err Memory) config.old config.new result place.new }
 {
     match boxed(alloc, made) {
-        Ok(held) => {
-            *config = Configuration::of(Loose::of(held));
-            OK
-        }
+        Ok(held) => keep_box(held, config),
         Err(fault) => {
             *place = fault.place();
             fault.code()
         }
     }
+}
+
+/// Puts what is in a box where C wants it.
+pub fn keep_box(held: Box<Durable>, config: &mut Configuration) -> u32
+    ensures held { config.new.held ≡ Some held.value }
+    ensures code { result ≡ OK }
+{
+    *config = Configuration::of(Loose::of(held));
+    OK
 }
 
 // In a box of its own.

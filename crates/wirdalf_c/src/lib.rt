@@ -1,21 +1,23 @@
 //! The library in C: what a control plane keeps, for a packet path. `include/wirdalf.h` declares what is exported here, and
 //! `man/wirdalf.3` is its manual.
 //!
-//! It knows no lines but those of which configurations are made, no session, no Book and no file: C gives bytes. The modules:
+//! It knows no session, no Book and no file: C gives bytes. The modules:
 //!
 //! - `loose`: a box as its pointer; `configuration`: what C holds, [`Configuration`](configuration::Configuration). These two alone follow
 //!   pointers, in five functions of a line or two that are proved by hand.
-//! - `record`: the structs that C gives and gets; `text`, `packet`: which packet one of them says; `verdict`: a verdict as another.
-//! - `fault`, `image`: what the bytes of a disk hold, or why not; `keeping`: what was made is put where C wants it.
+//! - `record`: the structs that C gives and gets; `packet`: which packet one of them says; `verdict`: a verdict as another.
+//! - `fault`, `image`: what the bytes of a disk hold, or why not; `lines`, `line_fault`: what lines make, or which isn't done;
+//!   `keeping`: what was made is put where C wants it.
 //! - `judging`: what a configuration says.
 //!
-//! Each export calls functions of these modules, and states their clauses. Read `specs/Answers.antt` first, then `specs/Packets.antt` and
-//! `specs/Verdicts.antt`.
+//! Each export calls functions of these modules, and states their clauses. Read `specs/Answers.antt` first, then `specs/Packets.antt`,
+//! `specs/Verdicts.antt` and `specs/Lines.antt`.
 //!
-//! Proved: what is read is what the image holds (`pf_store`), and each fault tells what is true of the bytes; a verdict is that of
-//! `pf_core` on the packet that the struct says, and a struct that says none blocks; an array is judged like each of it; a configuration
-//! stays as it was through each call, and a copy holds the same. Each export assumes that C keeps to the head of `include/wirdalf.h`. What
-//! is in C is only tested (`bench/clib`, `examples/try-all`).
+//! Proved: what is read is what the image holds (`pf_store`), and each fault tells what is true of the bytes; what lines make is what
+//! `pf_core` makes of the commands that they say (`pf_line`), and a fault tells the first that isn't done; a verdict is that of `pf_core` on
+//! the packet that the struct says, and a struct that says none blocks; an array is judged like each of it; a configuration stays as it was
+//! through each call, and a copy holds the same. Each export assumes that C keeps to the head of `include/wirdalf.h`. What is in C is only
+//! tested (`bench/clib`, `examples/try-all`).
 #![tactic(auto)]
 
 mod configuration;
@@ -23,21 +25,24 @@ mod fault;
 mod image;
 mod judging;
 mod keeping;
+mod line_fault;
+mod lines;
 mod loose;
 mod packet;
 mod record;
-mod text;
 mod verdict;
 
 ghost use Rattle.std.specs.Prelude.{◌≡◌, ◌<◌, ◌≤◌, ℕ, length, min, slice_get, IsSome, IfSome};
 ghost use Rattle.pf_core.specs.Durable.Changes.{main_sum};
-ghost use Rattle.wirdalf_c.specs.Answers.{AreCounts, IsCopied, IsJudged, IsRead, IsTested};
+ghost use Rattle.wirdalf_c.specs.Answers.{AreCounts, IsCopied, IsJudged, IsLined, IsRead, IsTested};
 
 use configuration::Configuration;
 use image::read_image;
 use judging::{count, judge, judge_many, test};
-use keeping::{keep, shared};
-use record::{CountsRecord, PacketRecord, VerdictRecord};
+use keeping::{keep, keep_box, shared};
+use line_fault::tell_fault;
+use lines::read_lines;
+use record::{CountsRecord, FaultRecord, PacketRecord, VerdictRecord};
 use std::alloc::Global;
 
 /// What these bytes hold, in a configuration that held nothing. If it isn't `OK`, the configuration is as it was, and the place that the
@@ -53,6 +58,22 @@ pub extern "C" fn wirdalf_read(
     ensures { IsRead bytes.now config.old config.new result place.new }
 {
     keep(alloc, read_image(alloc, bytes), config, place)
+}
+
+/// What lines make, in a configuration that held nothing. If it isn't `OK`, the configuration is as it was, and the fault is written.
+#[unsafe(no_mangle)]
+pub extern "C" fn wirdalf_lines(
+    alloc: Global,
+    text: &[u8],
+    config: &mut Configuration,
+    fault: &mut FaultRecord,
+) -> u32
+    ensures { IsLined text.now config.old config.new result fault.new }
+{
+    match read_lines(alloc, text) {
+        Ok(held) => keep_box(held, config),
+        Err(first) => tell_fault(alloc, first, fault),
+    }
 }
 
 /// The same once more, in a configuration that held nothing: `OK` or `MEMORY`.

@@ -1,4 +1,4 @@
-//! Packets, as C gives them.
+//! The structs that C gives and gets.
 
 /// `way` of a packet that comes in.
 pub const WAY_IN: u8 = 1;
@@ -80,4 +80,19 @@ pub struct CountsRecord {
     pub states: u64,
     /// The epoch of the opening.
     pub epoch: u32,
+}
+
+/// How many bytes of a reply find room.
+pub const REPLY_LIMIT: usize = 63;
+
+/// The line that isn't done, as C gets it: `struct wirdalf_fault`.
+#[repr(C)]
+#[derive(Clone, Copy)]
+pub struct FaultRecord {
+    /// Its number, from 1.
+    pub line: u64,
+    /// How many bytes the reply has; 0 where `pfd` doesn't refuse the line.
+    pub reply_length: u8,
+    /// What `pfd` replies to it, and a zero after it.
+    pub reply: [u8; 64],
 }

@@ -1,0 +1,17 @@
+use Rattle.wirdalf_c.proofs.LineWords.{command_done, command_refused, refused_comes, silent_comes}
+use Rattle.wirdalf_c.proofs.lines.do_line.Goals as goal
+
+pub returns-in-Ok-None-clause-done : goal.returns-in-Ok-None-clause-done
+returns-in-Ok-None-clause-done c = silent_comes c.args.core.now c.args.line.now c.parse_line.result (cc) c.parse_line.ensures.exact
+
+pub returns-in-Ok-Some-clause-done : goal.returns-in-Ok-Some-clause-done
+returns-in-Ok-Some-clause-done c =
+    command_done c.args.core.now c.do_command.new.core c.args.line.now c.parse_line.result c.in-Ok-Some.command c.do_command.result (cc) c.parse_line.ensures.exact c.do_command.ensures.done
+
+pub returns-in-Ok-Some-clause-refused : goal.returns-in-Ok-Some-clause-refused
+returns-in-Ok-Some-clause-refused c =
+    command_refused c.args.core.now c.args.line.now c.parse_line.result c.in-Ok-Some.command c.do_command.result (cc) c.parse_line.ensures.exact c.do_command.ensures.refused
+
+pub returns-in-Err-clause-refused : goal.returns-in-Err-clause-refused
+returns-in-Err-clause-refused c =
+    refused_comes c.args.core.now c.args.line.now c.parse_line.result c.in-Err.refusal c.told.result (cc) c.parse_line.ensures.exact c.told.ensures.memory c.told.ensures.refused
