@@ -1,5 +1,5 @@
 -- What calls answer.
-use Rattle.std.specs.{Prelude.{◌≡◌, ◌⊎◌, ℕ, Bool, true, false, List, length, take, Option, None, Some, Result, Ok, Err, if◌then◌else◌}, Option.option_map}
+use Rattle.std.specs.{Prelude.{◌≡◌, ◌⊎◌, ℕ, true, false, List, length, take, Option, None, Some, Result, Ok, Err, if◌then◌else◌}, Option.option_map}
 use Rattle.pf_form.specs.declared.form.fault.Kind.{Kind}
 use Rattle.pf_addr.specs.{declared.addr.Addr.Addr, Path.{Names.table_name_of, Paths.path_of}}
 use Rattle.pf_table.specs.{Entries.PlainEntry, Tables.deciding}

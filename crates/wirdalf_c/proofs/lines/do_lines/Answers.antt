@@ -1,4 +1,4 @@
-use Rattle.std.proofs.{Common.{◌≡◌, ℕ, ◌+◌, ◌<◌, ◌==◌, length, sym, ◌∙◌, ap, rules, tests}, lemmas.List.length_push, lemmas.Iterator.Consumers.{YieldsList-turn, YieldsList-end}, lemmas.Iterator.Splits.YieldsList-from_slice_split}
+use Rattle.std.proofs.{Common.{ℕ, ◌+◌, ◌==◌, sym, ◌∙◌, ap, rules, tests}, lemmas.List.length_push, lemmas.Iterator.Consumers.{YieldsList-turn, YieldsList-end}, lemmas.Iterator.Splits.YieldsList-from_slice_split}
 use Rattle.wirdalf_c.specs.Lines.{lines_of}
 use Rattle.wirdalf_c.proofs.LineSteps.{one_more, stopped, ended}
 use Rattle.wirdalf_c.proofs.lines.do_lines.Goals as goal
