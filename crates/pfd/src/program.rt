@@ -14,12 +14,14 @@ ghost use Rattle.pfd.specs.Program.{IsDone, IsDeviceRun, IsMemoryRun, IsProgramR
 mod ended;
 mod fresh;
 mod serving;
+mod streams;
 
 use crate::client::connect;
 use crate::fullness::gauge::{Gauge, tell_fullness};
 use crate::program::ended::told;
 use crate::program::fresh::open_memory;
 use crate::program::serving::serve_file;
+use crate::program::streams::hold_streams;
 use clap::Error;
 use clap::error::ErrorKind;
 pub use fresh::open_fresh;
@@ -290,13 +292,15 @@ fn start_on<
 }
 
 /// The program over this process: its words, files, standard input, output and error. It returns the status to end with, as `start` and
-/// `without_words` say. It waits by a handle of its own, which is the process's too.
+/// `without_words` say. It waits by a handle of its own, which is the process's too. A standard stream that is closed stays one that can't
+/// be read or written, whatever is opened meanwhile.
 pub fn run_process<N: Wait + Threads + Net<Listener = TcpListener, Stream = TcpStream> + Sync>(
     machine: &N,
     rt: &HostRuntime,
 ) -> u8
     ensures { result ≤ 2 }
 {
+    let _held = hold_streams(rt);
     let mut faults = rt.stderr();
     match start_on(machine, rt, &mut faults) {
         Ok(status) => status,

@@ -1,17 +1,34 @@
 //! What one thread leaves for another to say.
+ghost use Rattle.std.specs.Prelude.{◌≡◌, ◌∷◌, ◌++◌, [], MatchOption, OnNone};
+ghost use Rattle.circular_buffer.specs.Buffer.{keep_last};
+
 use crate::fullness::gauge::write_fullness;
+use circular_buffer::HeapCircularBuffer;
+use std::alloc::{AllocError, Global};
 use std::io::Write;
 use std::sync::{Condvar, Mutex, Wait};
+
+// So many numbers wait to be said at most: more than there are hundredths beyond seven eighths.
+const MOST_WAITING: usize = 16;
 
 // What was left and isn't said yet, and whether no more will be.
 #[derive(Drop)]
 struct Left {
-    hundredths: Option<u64>,
+    waiting: HeapCircularBuffer<u64>,
     has_ended: bool,
 }
 
-/// How full a disk is, as one thread finds it and another says it. Whoever leaves a number waits for no writer; of several that are left
-/// before one is said, the last is said.
+impl Left {
+    // Leaves a number behind those that wait. If as many wait as may, the first of them is never said.
+    fn add(&mut self, hundredths: u64)
+        ensures { self.new.waiting.items ≡ keep_last self.old.waiting.capacity (self.old.waiting.items ++ hundredths ∷ []) }
+    {
+        self.waiting.push_back(hundredths);
+    }
+}
+
+/// How full a disk is, as one thread finds it and another says it. Whoever leaves a number waits for no writer. Numbers are said in the
+/// order in which they were left; of more than sixteen that wait the last sixteen are.
 #[derive(Drop)]
 pub(crate) struct Notice {
     left: Mutex<Left>,
@@ -19,20 +36,21 @@ pub(crate) struct Notice {
 }
 
 impl Notice {
-    /// A notice of nothing.
-    pub(crate) fn new() -> Notice {
-        Notice {
+    /// A notice of nothing. What it needs of memory is taken here.
+    pub(crate) fn new(alloc: Global) -> Result<Notice, AllocError> {
+        let waiting = HeapCircularBuffer::with_capacity(alloc, MOST_WAITING)?;
+        Ok(Notice {
             left: Mutex::new(Left {
-                hundredths: None,
+                waiting,
                 has_ended: false,
             }),
             changed: Condvar::new(),
-        }
+        })
     }
 
     /// Leaves a number to be said.
     pub(crate) fn leave<R: Wait>(&self, rt: &R, hundredths: u64) {
-        self.left.lock(rt).hundredths = Some(hundredths);
+        self.left.lock(rt).add(hundredths);
         self.changed.notify_one();
     }
 
@@ -46,7 +64,7 @@ impl Notice {
     fn next<R: Wait>(&self, rt: &R) -> Option<u64> {
         let mut left = self.left.lock(rt);
         for _ in rt.forever() {
-            if let Some(hundredths) = left.hundredths.take() {
+            if let Some(hundredths) = left.waiting.pop_front() {
                 return Some(hundredths);
             }
             if left.has_ended {

@@ -78,7 +78,9 @@ fn serve_opening<
 {
     let mut gauge = Gauge::new(service.size as u64 / 2);
     tell_fullness(&mut gauge, opening.durable(), faults);
-    let notice = Notice::new();
+    let Ok(notice) = Notice::new(alloc) else {
+        return Err(Fault::Memory);
+    };
     let (book, seers) = watch::<J, _, _>(machine, alloc, opening, service, gauge, &notice)?;
     let shared = Shared::new(book);
     let listener = listen(machine, alloc, service.address, writer)?;
