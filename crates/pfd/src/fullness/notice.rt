@@ -1,5 +1,5 @@
 //! What one thread leaves for another to say.
-ghost use Rattle.std.specs.Prelude.{◌≡◌, ◌∷◌, ◌++◌, [], MatchOption, OnNone};
+ghost use Rattle.std.specs.Prelude.{◌≡◌, ◌∷◌, ◌++◌, []};
 ghost use Rattle.circular_buffer.specs.Buffer.{keep_last};
 
 use crate::fullness::gauge::write_fullness;
