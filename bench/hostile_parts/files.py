@@ -7,9 +7,12 @@ acknowledged. No later call reaches the file. What is left is what was acknowled
 start holds it, with the bytes that docs/DISK.md says. So it is too where the process is killed within a call, with what it wrote since the last fdatasync all there,
 lost, or half lost. A write that is short or interrupted, and a read that is short, change nothing at all.
 
+Where a program begins with closed standard streams, nothing that is for them gets into the file.
+
 What a device under the file loses without a word no library can play, and that an fdatasync does what it says isn't seen here.
 """
 import copy
+import itertools
 import os
 import subprocess
 import threading
@@ -117,7 +120,7 @@ class Program:
             said = self.process.stderr.read()
         status = self.process.wait()
         self.watch.cancel()
-        return status, said.decode()
+        return status, "".join(line for line in said.decode().splitlines(keepends=True) if not line.startswith("pfd: the disk is "))
 
 
 class Play:
@@ -266,6 +269,34 @@ def sweep_format(job):
     return result
 
 
+def closed_at_start(job):
+    """Starts whose standard streams are closed: those of a file that is nearly full, of which standard error is to be told."""
+    options, closed = job
+    result, name = Result(), f"closed streams {closed}"
+    with new_folder() as folder:
+        file = formatted(options.program, os.path.join(folder, "disk"), SMALL[0])
+        ran(options.program, "run", "--disk", file, given="\n".join(SMALL[1]).encode())
+        opened = writing.opened(bytes_of(file))
+        session = Session(SMALL[0] // 2, held=reading.read(opened).held)
+        replies = [] if 0 in closed else [reply for line in SMALL[1] for reply in session.reply(line.encode())]
+        how = {"preexec_fn": lambda: [os.close(number) for number in closed]}
+        status, said, faults = ran(options.program, "run", "--disk", file, given="\n".join(SMALL[1]).encode(), **how)
+        told = [] if 2 in closed else ["pfd: the disk is 92 % full", *(["pfd: input"] if 0 in closed else ["pfd: output"] if 1 in closed else [])]
+        wanted = int(0 in closed or 1 in closed), [] if 1 in closed else replies, told
+        result.compare(name, wanted, (status, said.decode().splitlines(), faults.decode().splitlines()))
+        image = bytes_of(file)
+        result.check(f"{name}: {reading.shown(image)} is left", same(reading.read(image).held, session.held))
+        result.compare(f"{name}, show", int(1 in closed), ran(options.program, "show", "--disk", file, **how)[0])
+        if 1 in closed:
+            serve = "serve", "--listen", "127.0.0.1:0", "--disk", file, "--size", SMALL[0]
+            result.compare(f"{name}, serve", 1, ran(options.program, *serve, **how)[0])
+            image = writing.opened(image)
+        result.check(f"{name}: what is left then is another", bytes_of(file) == image)
+        result.compare(f"{name}, format", 0, ran(options.program, "format", "--disk", file, "--size", SMALL[0], **how)[0])
+        result.compare(f"{name}, formatted", reading.shown(writing.formatted(SMALL[0])), reading.shown(bytes_of(file)))
+    return result
+
+
 def with_groups(random):
     """Lines, and streams whose messages come together."""
     maker = Maker(random, names=6)
@@ -284,5 +315,7 @@ def play(options):
         jobs = [(options, shim, *script, kind) for script in scripts for kind in FAILING + KILLING + HARMLESS]
         result = spread(sweep, jobs, options.processes)
         result.add(spread(sweep_format, [(options, shim, kind) for kind in FAILING + KILLING + HARMLESS], options.processes))
+    some_closed = itertools.chain.from_iterable(itertools.combinations(range(3), count) for count in (1, 2, 3))
+    result.add(spread(closed_at_start, [(options, closed) for closed in some_closed], options.processes))
     result.told = [", ".join(sorted(result.told))]
     return result

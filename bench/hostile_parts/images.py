@@ -163,7 +163,8 @@ def compare_run(options, file, image, result):
     held.epoch += 1
     session = Session(len(image) // 2, held=held)
     replies = "".join(f"{line}\n" for question in QUESTIONS for line in session.reply(question.encode()))
-    result.compare(f"run on {image.hex()}", (0, replies, b""), (status, said.decode("latin-1"), faults))
+    nearly_full = writing.Gauge(len(image) // 2).lines(held).encode()
+    result.compare(f"run on {image.hex()}", (0, replies, nearly_full), (status, said.decode("latin-1"), faults))
     result.check(f"run on {image.hex()}: other bytes are left than docs/DISK.md says", bytes_of(file) == after)
 
 

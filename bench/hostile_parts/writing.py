@@ -3,6 +3,7 @@
     formatted(size)          a device of zeros that was formatted
     opened(image)            what an opening leaves of an image
     saved(image, changes)    what a save of these changes' bytes leaves, or None where it is refused as full
+    Gauge(half)              what a program says of how full the disk is
 
 A crash within these is no part of it.
 """
@@ -67,6 +68,24 @@ def saved(image, changes):
     if HEADER + len(snapshot(after)) + SPARE > half or HEADER + len(snapshot(found.held)) + len(payload) + 6 > half:
         return None
     return with_record(image, found, payload)
+
+
+class Gauge:
+    """What is said of how full a disk is whose half has so many bytes, as docs/CRASH.md has it."""
+
+    def __init__(self, half):
+        self.half, self.told = half, 0
+
+    def lines(self, held):
+        """What is said once this is held: a line, or none."""
+        used = HEADER + len(snapshot(held)) + SPARE
+        percent = min(100, 100 * used // self.half)
+        if 8 * used > 7 * self.half and percent > self.told:
+            self.told = percent
+            return f"pfd: the disk is {percent} % full\n"
+        if 4 * used <= 3 * self.half:
+            self.told = 0
+        return ""
 
 
 # The bytes of changes, by what they are of.

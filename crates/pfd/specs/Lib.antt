@@ -1,6 +1,7 @@
 pub mod Accepting
 pub mod Program
 pub mod Client
+pub mod Fullness
 -- what public clauses cite of the crates below
 pub use Rattle.pf_session.specs.LineEngine
 pub use Rattle.pf_session.specs.Serving

@@ -4,6 +4,7 @@
 //! - `accepting`: which connections are served, and under which numbers, by what accepting them gives.
 //! - `listener`: TCP connections, each served by a worker as a session or a peer's stream, over one Book that all share.
 //! - `client`: the other end of a connection. Only these last two know sockets.
+//! - `fullness`: how full the disk on a file is, and when that is said on standard error.
 //! - `laws`: the limits of the program, and the laws of sessions.
 //!
 //! `pf_session` answers lines and peers' streams, by a `Book` of `pf_book`, one history over a device; disks on files are `pfd_files`'.
@@ -12,14 +13,16 @@
 //! The crate knows no text of a command or a reply, and doesn't judge, compare, change or keep rules, tables and states itself. Its own
 //! are what the program does with its words, and the statuses that it ends with.
 //!
-//! Proved: what `start` does with its words, and its status; which connections a listener serves. Only tested: what listeners and clients
-//! do with sockets, what becomes of files, the texts of help and of faults, and which words are refused.
+//! Proved: what `start` does with its words, and its status; which connections a listener serves; when it is to be said how full a disk
+//! is, and that line. Only tested: that it is said, what listeners and clients do with sockets, what becomes of files, the texts of help
+//! and of faults, and which words are refused.
 //!
-//! Read `specs/Program.antt` after `pf_session`'s definitions of a session.
+//! Read `specs/Program.antt` after `pf_session`'s definitions of a session, and `specs/Fullness.antt`.
 #![tactic(auto)]
 
 mod accepting;
 mod client;
+mod fullness;
 pub mod laws;
 mod listener;
 mod program;

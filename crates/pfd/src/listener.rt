@@ -2,7 +2,8 @@
 ghost use Rattle.std.specs.Prelude.{◌≡◌, ◌⊎◌, IfErr};
 
 use crate::accepting::{Accept, Acceptor};
-use pf_book::{Chapter, Disk, Seer, Shared};
+use pf_book::shared::Shared;
+use pf_book::{Chapter, Disk, Publisher, Seer};
 use pf_session::{EngineFault, Gate, serve, serve_peer};
 use std::alloc::Global;
 use std::io::{self, BufWriter, ErrorKind, Read};
@@ -67,11 +68,11 @@ fn drop_rest(stream: &TcpStream) {
 }
 
 // Serves a connection to its end.
-fn serve_connection<W: Wait, D: Disk + Drop, J: Chapter, H: Wait + Drop, G: Gate>(
+fn serve_connection<W: Wait, D: Disk + Drop, J: Chapter, S: Publisher<J> + Drop, G: Gate>(
     rt: &W,
     alloc: Global,
     stream: &TcpStream,
-    shared: &Shared<D, J, H>,
+    shared: &Shared<D, J, S>,
     seer: &mut Seer<J>,
     gate: &G,
     session: u32,
@@ -119,14 +120,14 @@ trait ServeConnection<J: Chapter> {
 
 /// What serves connections by one Book. Workers needn't name a device, nor what waits.
 #[derive(Clone, Copy)]
-struct Server<'a, W: Wait, D: Disk + Drop, J: Chapter, H: Wait + Drop, G: Gate> {
+struct Server<'a, W: Wait, D: Disk + Drop, J: Chapter, S: Publisher<J> + Drop, G: Gate> {
     rt: &'a W,
-    shared: &'a Shared<D, J, H>,
+    shared: &'a Shared<D, J, S>,
     gate: &'a G,
 }
 
-impl<'a, W: Wait, D: Disk + Drop, J: Chapter, H: Wait + Drop, G: Gate> ServeConnection<J>
-    for Server<'a, W, D, J, H, G> {
+impl<'a, W: Wait, D: Disk + Drop, J: Chapter, S: Publisher<J> + Drop, G: Gate> ServeConnection<J>
+    for Server<'a, W, D, J, S, G> {
     fn serve_connection(
         &self,
         alloc: Global,
@@ -218,13 +219,13 @@ pub fn serve_listener<
     A: Accept<Connection = TcpStream> + Sync,
     D: Disk + Drop + Send,
     J: Chapter + Send + Sync,
-    H: Wait + Drop + Send + Sync,
+    S: Publisher<J> + Drop + Send,
     G: Gate + Sync,
 >(
     rt: &M,
     alloc: Global,
     listener: &A,
-    shared: &Shared<D, J, H>,
+    shared: &Shared<D, J, S>,
     seers: Vec<Seer<J>>,
     gate: &G,
     sessions: u32,

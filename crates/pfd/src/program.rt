@@ -14,11 +14,14 @@ ghost use Rattle.pfd.specs.Program.{IsDone, IsDeviceRun, IsMemoryRun, IsProgramR
 mod ended;
 mod fresh;
 mod serving;
+mod streams;
 
 use crate::client::connect;
+use crate::fullness::gauge::{Gauge, tell_fullness};
 use crate::program::ended::told;
 use crate::program::fresh::open_memory;
 use crate::program::serving::serve_file;
+use crate::program::streams::hold_streams;
 use clap::Error;
 use clap::error::ErrorKind;
 pub use fresh::open_fresh;
@@ -74,22 +77,25 @@ fn run<H: Wait + Drop, R: Read, W: Write>(
     serve_opening::<Brand, _, _, _, _>(waits, alloc, opening, history, reader, writer)
 }
 
-// A session over a disk that exists, whatever it holds.
-fn run_on<D: Disk + Drop, H: Wait + Drop, R: Read, W: Write>(
+// A session over a disk that exists, whatever it holds. If it is nearly full, the faults are told first.
+fn run_on<D: Disk + Drop, H: Wait + Drop, R: Read, W: Write, F: Write>(
     waits: H,
     alloc: Global,
     disk: D,
     history: usize,
     reader: &mut R,
     writer: &mut W,
+    faults: &mut F,
 ) -> Result<(), Fault>
     requires few { D.fault_count disk < 2 ^ 63 }
     requires history { IsHistory history }
     ensures { IsDeviceRun D.seen D.fault_count disk history result (R.remaining reader.old) (R.remaining reader.new)
         (W.contents writer.old) (W.contents writer.new) }
 {
+    let mut gauge = Gauge::new(disk.size() as u64 / 2);
     match Opening::open(alloc, disk) {
         Ok(opening) => {
+            tell_fullness(&mut gauge, opening.durable(), faults);
             serve_opening::<Brand, _, _, _, _>(waits, alloc, opening, history, reader, writer)
         }
         Err((fault, _disk)) => Err(Fault::from(fault)),
@@ -102,6 +108,7 @@ fn perform<
     S: Files<File = File>,
     R: Read,
     W: Write + Send,
+    F: Write + Send,
 >(
     machine: &N,
     alloc: Global,
@@ -109,6 +116,7 @@ fn perform<
     task: Task<'_>,
     reader: &mut R,
     writer: &mut W,
+    faults: &mut F,
 ) -> Result<(), Fault>
     requires { HasHistory task }
     ensures { IsDone ⟦<MemDisk as Disk>⟧.fault_count ⟦<FileDisk as Disk>⟧.seen ⟦<FileDisk as Disk>⟧.fault_count task.entry result
@@ -122,11 +130,11 @@ fn perform<
             history,
         } => {
             let disk = open_file(alloc, files, path, size)?;
-            run_on(machine, alloc, disk, history, reader, writer)
+            run_on(machine, alloc, disk, history, reader, writer, faults)
         }
         Task::Format { path, size } => format_file(alloc, files, path, size),
         Task::Show { path } => show_file(alloc, files, path, writer),
-        Task::Serve(service) => serve_file(machine, alloc, files, &service, writer),
+        Task::Serve(service) => serve_file(machine, alloc, files, &service, writer, faults),
         Task::Connect { address } => told(connect(machine, alloc, address, reader, writer)),
     }
 }
@@ -198,6 +206,9 @@ fn explain<W: Write, F: Write>(error: &Error, writer: &mut W, faults: &mut F) ->
 /// serves so many connections at once, 4 if the words don't say, each as in `serve_listener`, and ends once so many have ended, or never.
 /// `pfd connect ADDR` sends what the reader gives to such a server, and writes what it answers.
 ///
+/// A session on a file and a server say on the faults how full the disk is, in a line, once more than seven eighths of its half are used:
+/// as they begin, and a server again as that rises. They say it once for each hundredth, until no more than three quarters were used.
+///
 /// Status 0: the input ended, the disk was made or shown, or help or the version was asked for, whose text goes to the writer. Status 1:
 /// one line on the faults says what failed, as in [`Fault`]; what is wrong with the file is found before what is wrong with the disk.
 /// Status 2: the words were refused, as when there are none; the faults have clap's text, and nothing was read or written. If the faults
@@ -210,7 +221,7 @@ pub fn start<
     S: Files<File = File>,
     R: Read,
     W: Write + Send,
-    F: Write,
+    F: Write + Send,
 >(
     machine: &N,
     alloc: Global,
@@ -234,7 +245,7 @@ pub fn start<
 {
     match read_words(alloc, words) {
         Ok(task) => {
-            let done = perform(machine, alloc, files, task, reader, writer);
+            let done = perform(machine, alloc, files, task, reader, writer, faults);
             end_with(done, faults)
         }
         Err(error) => explain(&error, writer, faults),
@@ -257,12 +268,10 @@ pub fn without_words<F: Write>(error: &io::Error, faults: &mut F) -> u8
 
 // The same with the process's files and streams, and these words. Standard input is read unbuffered: the engine's own buffer takes all
 // that is there in one read.
-fn start_with<N: Wait + Threads + Net<Listener = TcpListener, Stream = TcpStream> + Sync, F: Write>(
-    machine: &N,
-    rt: &HostRuntime,
-    words: &[String],
-    faults: &mut F,
-) -> io::Result<u8>
+fn start_with<
+    N: Wait + Threads + Net<Listener = TcpListener, Stream = TcpStream> + Sync,
+    F: Write + Send,
+>(machine: &N, rt: &HostRuntime, words: &[String], faults: &mut F) -> io::Result<u8>
     ensures { IfOk result (λ status. status ≤ 2) }
 {
     let alloc = rt.alloc();
@@ -272,11 +281,10 @@ fn start_with<N: Wait + Threads + Net<Listener = TcpListener, Stream = TcpStream
 }
 
 // The same with the process's words; an error if they can't be had.
-fn start_on<N: Wait + Threads + Net<Listener = TcpListener, Stream = TcpStream> + Sync, F: Write>(
-    machine: &N,
-    rt: &HostRuntime,
-    faults: &mut F,
-) -> io::Result<u8>
+fn start_on<
+    N: Wait + Threads + Net<Listener = TcpListener, Stream = TcpStream> + Sync,
+    F: Write + Send,
+>(machine: &N, rt: &HostRuntime, faults: &mut F) -> io::Result<u8>
     ensures { IfOk result (λ status. status ≤ 2) }
 {
     let words: Vec<String> = env::args(rt)?.collect(rt.alloc())?;
@@ -284,13 +292,15 @@ fn start_on<N: Wait + Threads + Net<Listener = TcpListener, Stream = TcpStream> 
 }
 
 /// The program over this process: its words, files, standard input, output and error. It returns the status to end with, as `start` and
-/// `without_words` say. It waits by a handle of its own, which is the process's too.
+/// `without_words` say. It waits by a handle of its own, which is the process's too. A standard stream that is closed stays one that can't
+/// be read or written, whatever is opened meanwhile.
 pub fn run_process<N: Wait + Threads + Net<Listener = TcpListener, Stream = TcpStream> + Sync>(
     machine: &N,
     rt: &HostRuntime,
 ) -> u8
     ensures { result ≤ 2 }
 {
+    let _held = hold_streams(rt);
     let mut faults = rt.stderr();
     match start_on(machine, rt, &mut faults) {
         Ok(status) => status,

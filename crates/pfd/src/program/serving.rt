@@ -1,15 +1,21 @@
 //! The program's server. No clause can say what it listens on and serves, so this is only tested.
-ghost use Rattle.std.specs.Prelude.{◌≡◌, ℕ, List};
+ghost use Rattle.std.specs.Prelude.{◌≡◌, ℕ, List, IfOk};
 ghost use Rattle.pf_addr.specs.Writing.{Writes};
-ghost use Rattle.pf_book.specs.Books.{IsNamed};
+ghost use Rattle.pf_book.specs.{Books.{IsNamed, world_book}, Receipts.IsReached};
 ghost use Rattle.pfd_words.specs.Words.{CanServe};
 ghost use Rattle.pfd.specs.Program.{listening_text};
 
+use crate::fullness::gauge::{Gauge, tell_fullness};
+use crate::fullness::notice::Notice;
+use crate::fullness::watched::Watched;
 use crate::listener::serve_listener;
 use crate::program::ended::told;
 use pf_addr::write_more;
-use pf_book::{Book, Chapter, Disk, Opening, Shared};
-use pf_session::OpenGate;
+use pf_book::book::Book;
+use pf_book::shared::Shared;
+use pf_book::{Chapter, Disk, Opening, Publisher, Seer};
+use pf_session::{EngineFault, OpenGate};
+use pf_view::{ViewFault, views};
 use pfd_files::{Fault, open_file};
 use pfd_words::Service;
 use std::alloc::Global;
@@ -18,21 +24,35 @@ use std::io::{self, Write};
 use std::marker::Brand;
 use std::net::{Net, TcpListener, TcpStream};
 use std::sync::Wait;
+use std::thread;
 use std::thread::Threads;
 
+// A Book that is watched for how full its disk gets.
+type WatchedBook<'a, D, J, N> = Book<D, J, Watched<'a, J, &'a N>>;
+
 /// Serves connections over the disk that lies on a file. Faults are found in this order: of the file, of the disk, of the address, of the
-/// writer, and at last one of the listener.
+/// writer, and at last one of the listener. How full the disk is goes to `faults`, from a thread of its own once clients are served.
 pub(crate) fn serve_file<
     N: Wait + Threads + Net<Listener = TcpListener, Stream = TcpStream> + Sync,
     S: Files<File = File>,
     W: Write,
->(machine: &N, alloc: Global, files: &S, service: &Service<'_>, writer: &mut W) -> Result<(), Fault>
+    F: Write + Send,
+>(
+    machine: &N,
+    alloc: Global,
+    files: &S,
+    service: &Service<'_>,
+    writer: &mut W,
+    faults: &mut F,
+) -> Result<(), Fault>
     requires { CanServe service.now }
     ensures { (bound : List ℕ) × Writes result (W.contents writer.old) (W.contents writer.new) (listening_text bound) }
 {
     let disk = open_file(alloc, files, service.path, Some(service.size))?;
     match Opening::open(alloc, disk) {
-        Ok(opening) => { serve_opening::<Brand, _, _, _>(machine, alloc, opening, service, writer) }
+        Ok(opening) => {
+            serve_opening::<Brand, _, _, _, _>(machine, alloc, opening, service, writer, faults)
+        }
         Err((fault, _disk)) => Err(Fault::from(fault)),
     }
 }
@@ -43,33 +63,114 @@ fn serve_opening<
     D: Disk + Drop + Send,
     N: Wait + Threads + Net<Listener = TcpListener, Stream = TcpStream> + Sync,
     W: Write,
+    F: Write + Send,
 >(
     machine: &N,
     alloc: Global,
     opening: Opening<D>,
     service: &Service<'_>,
     writer: &mut W,
+    faults: &mut F,
 ) -> Result<(), Fault>
     requires service { CanServe service.now }
     requires name { IsNamed J.base J.history J.setting opening service.now.history }
     ensures { (bound : List ℕ) × Writes result (W.contents writer.old) (W.contents writer.new) (listening_text bound) }
 {
-    let made = Book::<D, J, &N>::of(machine, alloc, opening, service.history, service.workers);
-    let (book, seers) = match made {
-        Ok(made) => made,
-        Err((fault, _disk)) => return Err(Fault::from(fault)),
+    let mut gauge = Gauge::new(service.size as u64 / 2);
+    tell_fullness(&mut gauge, opening.durable(), faults);
+    let Ok(notice) = Notice::new(alloc) else {
+        return Err(Fault::Memory);
     };
+    let (book, seers) = watch::<J, _, _>(machine, alloc, opening, service, gauge, &notice)?;
     let shared = Shared::new(book);
     let listener = listen(machine, alloc, service.address, writer)?;
-    told(serve_listener(
+    let served = serve_and_say(
         machine,
         alloc,
         &listener,
         &shared,
         seers,
-        &OpenGate,
         service.sessions,
-    ))
+        &notice,
+        faults,
+    );
+    told(served)
+}
+
+// A Book over what was opened, which leaves a notice of how full its disk gets, and its seers.
+fn watch<'a, J: Chapter, D: Disk + Drop, N: Wait>(
+    machine: &'a N,
+    alloc: Global,
+    opening: Opening<D>,
+    service: &Service<'_>,
+    gauge: Gauge,
+    notice: &'a Notice,
+) -> Result<(WatchedBook<'a, D, J, N>, Vec<Seer<J>>), Fault>
+    requires service { CanServe service.now }
+    requires name { IsNamed J.base J.history J.setting opening service.now.history }
+    ensures reached { IfOk result (λ made. IsReached J.base J.setting (world_book made.0)) }
+{
+    let named = match opening.named::<J>() {
+        Ok(named) => named,
+        Err((fault, _disk)) => return Err(Fault::from(fault)),
+    };
+    let (shower, seers) = match views::<J, &N>(
+        machine,
+        alloc,
+        named.base(),
+        named.start(),
+        service.workers,
+    ) {
+        Ok(made) => made,
+        Err(fault) => return Err(unshown(fault)),
+    };
+    let watched = Watched {
+        rt: machine,
+        shower,
+        gauge,
+        notice,
+    };
+    match Book::over(alloc, named, service.history, watched) {
+        Ok(book) => Ok((book, seers)),
+        Err((fault, _disk)) => Err(Fault::from(fault)),
+    }
+}
+
+// Why there are no copies, as the program says it.
+fn unshown(fault: ViewFault) -> Fault {
+    match fault {
+        ViewFault::Memory => Fault::Memory,
+        ViewFault::Places => Fault::Places,
+    }
+}
+
+// Serves connections, while a thread of its own says how full the disk gets. Where no such thread can be made, that is said at the end.
+fn serve_and_say<
+    M: Wait + Threads + Sync,
+    D: Disk + Drop + Send,
+    J: Chapter + Send + Sync,
+    S: Publisher<J> + Drop + Send,
+    F: Write + Send,
+>(
+    rt: &M,
+    alloc: Global,
+    listener: &TcpListener,
+    shared: &Shared<D, J, S>,
+    seers: Vec<Seer<J>>,
+    sessions: u32,
+    notice: &Notice,
+    faults: &mut F,
+) -> Result<(), EngineFault> {
+    let (_, served) = thread::join(
+        rt,
+        || notice.say_all(rt, faults),
+        || {
+            let served = serve_listener(rt, alloc, listener, shared, seers, &OpenGate, sessions);
+            notice.end(rt);
+            served
+        },
+    );
+    served
 }
 
 // Listens on an address, and writes which one it got.
