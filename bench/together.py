@@ -106,10 +106,14 @@ class Client:
     def wrong(self, kept):
         if self.is_late:
             return f"client {self.number}: no reply in {SECONDS} seconds"
-        ahead = [line for line, said in self.told if said is None]
+        ahead, is_stored = [line for line, said in self.told if said is None], False
         for line, said in self.told[: len(self.told) - len(ahead)]:
+            is_stored = is_stored or said.startswith("stored ")
             if said == REFUSAL:
                 self.left.append(line)
+            elif line.startswith("judge ") and is_stored and said == "pass rule 0":
+                # it needn't be shown yet that the packet has a state
+                continue
             elif wrong := self.compare(line, said):
                 return wrong
         should = self.kept()
