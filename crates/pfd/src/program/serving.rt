@@ -81,7 +81,11 @@ fn serve_opening<
     let Ok(notice) = Notice::new(alloc) else {
         return Err(Fault::Memory);
     };
-    let (book, seers) = watch::<J, _, _>(machine, alloc, opening, service, gauge, &notice)?;
+    let watched = watch::<J, _, _>(machine, alloc, opening, service, gauge, &notice);
+    let (book, seers) = match watched {
+        Ok(made) => made,
+        Err(fault) => return Err(fault),
+    };
     let shared = Shared::new(book);
     let listener = listen(machine, alloc, service.address, writer)?;
     let served = serve_and_say(
