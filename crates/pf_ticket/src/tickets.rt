@@ -1,6 +1,6 @@
 //! The valid tickets, and what is offered with them.
-ghost use Rattle.std.specs.{Prelude.{◌≡◌, ◌<◌, ◌≤◌, ◌+◌, ◌||◌, not, [], IfOk, OnOk, OnErr, IfSome, None, is_some, length, get_or, map}, List.{list_any, position}};
-ghost use Rattle.std.specs.FinMap.{find};
+ghost use Rattle.std.specs.{Prelude.{◌≡◌, ◌<◌, ◌≤◌, ◌+◌, ◌||◌, not, [], IfOk, OnOk, OnErr, IfSome, Some, None, Ok, is_some, length, get_or, map}, List.{list_any, position}};
+ghost use Rattle.std.specs.{FinMap.find, Option.option_map};
 ghost use Rattle.pf_anchor.specs.declared.limits.TheConstants.{RULE_LIMIT};
 ghost use Rattle.pf_table.specs.Laws.Tables.{is_deleted};
 ghost use Rattle.pf_table.specs.Edits.{conflict_in, replaced, added as entries_added};
@@ -287,6 +287,15 @@ impl Tickets {
             .define(self.alloc, name, place, table_name, table)
     }
 
+    // The entries that are offered for a table of the ruleset whose offer is at this place, if the table was defined.
+    fn entries_of(&self, name: &RulesetName, place: usize, table_name: &TableName) -> Option<&Table>
+        requires within { place < length self.now.offers }
+        requires stands { IsPlace name.now self.now.offers place }
+        ensures { option_map (λ t. t.now) result ≡ find name_order table_name.now (loaded self.now name.now).tables }
+    {
+        self.slots.at(place).entries_of(table_name)
+    }
+
     // The table of a name with more entries, of which none contradicts another, for the ruleset whose offer is at this place.
     fn grown_table(
         &self,
@@ -302,7 +311,7 @@ impl Tickets {
         ensures table { IfOk result (λ rows. with_entries (loaded self.now name.now) table_name.now entries.now
             ≡ with_table (loaded self.now name.now) table_name.now rows) }
     {
-        match self.slots.at(place).entries_of(table_name) {
+        match self.entries_of(name, place, table_name) {
             Some(table) => table_with(self.alloc, table, entries),
             None => Err(TicketRefusal::Absent),
         }
