@@ -21,7 +21,7 @@ HISTORY = 1000
 CLOSED, GROUPED, BAR = b"\0", " + ", " | "
 # What a group may have, and what a Book refuses whose device failed.
 CHANGES = ("commit", "tadd", "tdel", "tset", "tkill", "track", "kill", "expire", "peer")
-REFUSED_WHEN_HALTED = (*CHANGES, "begin", "add", "define", "rollback")
+REFUSED_WHEN_HALTED = (*CHANGES, "begin", "add", "define", "extend", "rollback")
 # What all that is kept is told by.
 QUESTIONS = [Command("show", ("rules", b"")), Command("show", ("rules", b"web")), Command("show", ("tables", b"")),
              Command("show", ("tables", b"web")), Command("show", ("states",)), Command("sum", ())]

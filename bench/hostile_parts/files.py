@@ -32,8 +32,8 @@ KILLING = ("die", "cut", "drop", "tear")
 SECONDS = 30
 # The program takes this long before it is given up, and no script has so many calls.
 MOST_CALLS = 400
-HALTED = ["tset - t 10.0.0.0/8", "begin filter -", "add - 1.1 pass all", "define - 1.1 t", "commit filter - 1.1", "rollback filter - 1.1", "kill 1 1",
-          f"peer {EXAMPLE.hex()}", "track 1 1 in em0 tcp 10.0.0.1 1 10.0.0.2 2", "tkill - t", "tadd - t 10.0.0.0/8", "tdel - t 10.0.0.0/8"]
+HALTED = ["tset - t 10.0.0.0/8", "begin filter -", "add - 1.1 pass all", "define - 1.1 t", "extend - 1.1 t ::1", "commit filter - 1.1",
+          "rollback filter - 1.1", "kill 1 1", f"peer {EXAMPLE.hex()}", "track 1 1 in em0 tcp 10.0.0.1 1 10.0.0.2 2", "tkill - t", "tadd - t 10.0.0.0/8", "tdel - t 10.0.0.0/8"]
 # A small file, which is switched several times, and one with changes of every kind.
 SMALL = 300, [line for _ in range(3) for line in ("tset - t 10.0.0.0/8", "tadd - t !10.1.0.0/16", "tdel - t !10.1.0.0/16")]
 ALL_KINDS = 2048, [

@@ -417,6 +417,7 @@ SHAPES = {
     "begin": lambda words: (listed(words, False),),
     "add": lambda words: (path(words), ticket(words), rule(words)),
     "define": lambda words: (path(words), ticket(words), name(words, MOST_NAME), entries(words)),
+    "extend": lambda words: (path(words), ticket(words), name(words, MOST_NAME), some_entries(words)),
     "commit": lambda words: (listed(words, True),),
     "rollback": lambda words: (listed(words, True),),
     "tadd": lambda words: (path(words), name(words, MOST_NAME), some_entries(words)),

@@ -235,6 +235,7 @@ SHAPES_AND_WEIGHTS = [
     (lambda maker: f"begin {maker.several(maker.ruleset)}", 8),
     (lambda maker: f"add {maker.ticketed('filter')} {maker.rule()}", 16),
     (lambda maker: f"define {maker.ticketed('table')} {maker.name()} {maker.entries(0)}", 6),
+    (lambda maker: f"extend {maker.ticketed('table')} {maker.name()} {maker.entries(1)}", 5),
     (lambda maker: f"commit {maker.several(maker.ticketed)}", 7),
     (lambda maker: f"rollback {maker.several(maker.ticketed)}", 1),
     (lambda maker: f"tadd {maker.path()} {maker.name()} {maker.entries(1)}", 6),

@@ -286,6 +286,18 @@ class Session:
         offered[name] = dict(entries)
         return "ok"
 
+    def extend(self, path, ticket, name, entries):
+        self.check_conflict(entries)
+        demand(self.is_valid("table", path, ticket), "busy 0")
+        offered = self.offers["table", path][1]
+        demand(name in offered, "err absent")
+        for place, (net, negated) in enumerate(entries):
+            demand(offered[name].get(net, negated) == negated, f"err conflict {place}")
+        rows = {**offered[name], **dict(entries)}
+        demand(len(rows) <= MOST_ENTRIES, "err table")
+        offered[name] = rows
+        return "ok"
+
     def rollback(self, listed):
         self.check_count(listed)
         self.check_twice(listed)

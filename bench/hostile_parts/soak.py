@@ -64,6 +64,7 @@ SHAPES = [
     (lambda maker: f"begin {maker.ruleset()}", 6),
     (lambda maker: f"add {maker.ticketed('filter')} {maker.rule()}", 8),
     (lambda maker: f"define {maker.ticketed('table')} {maker.name()} {maker.entries(0)}", 4),
+    (lambda maker: f"extend {maker.ticketed('table')} {maker.name()} {maker.entries(1)}", 4),
     (lambda maker: f"commit {maker.ticketed()}", 6),
     (lambda maker: f"tadd {maker.path()} {maker.name()} {maker.entries(1)}", 8),
     (lambda maker: f"tdel {maker.path()} {maker.name()} {maker.entries(1)}", 6),

@@ -82,7 +82,9 @@ class Maker(lines.Maker):
         kinds = {kind for kind, _ in self.session.offers}
         if "filter" in kinds and ("table" not in kinds or self.random.randrange(3)):
             return f"add {self.ticketed('filter')} {self.rule()}"
-        return f"define {self.ticketed('table')} {self.name()} {self.entries(0)}".rstrip()
+        if self.random.randrange(3):
+            return f"define {self.ticketed('table')} {self.name()} {self.entries(0)}".rstrip()
+        return f"extend {self.ticketed('table')} {self.name()} {self.entries(1)}"
 
     def tickets(self):
         """Some of those that are valid."""

@@ -8,7 +8,7 @@ use Rattle.pf_ticket.specs.{declared.refusal.TicketRefusal.TicketRefusal, Replie
 use Rattle.pf_core.specs.declared.reply.Outcome.TheVariants as outcome
 use Rattle.pf_ticket.specs.declared.refusal.TicketRefusal.TheVariants as ticket
 use Rattle.pf_core.specs.declared.durable.refusal.ChangeRefusal.TheVariants as by_change
-use Rattle.pf_core.specs.declared.{command.Command.Command, command.Command.TheVariants.{Transact, Edit, States as OfStates, Ask, History}, command.StateCommand.StateCommand, command.StateCommand.TheVariants.{Track, Peer, Kill as KillState, Expire as ExpireStates}, command.TableEdit.TableEdit, command.TableEdit.TheVariants.{Add as AddTo, Delete, Set, Kill}, command.Transaction.Transaction, command.Transaction.TheVariants.{Begin, Add, Define, Commit, Rollback}, durable.refusal.ChangeRefusal.ChangeRefusal, durable.verdict.Verdict.Verdict, durable.verdict.Verdict.TheVariants.{State as Stateful, Rules as ByRules}, reply.Refusal.Refusal, reply.Refusal.TheVariants.{Absent, BadTick}, step.Step.Step}
+use Rattle.pf_core.specs.declared.{command.Command.Command, command.Command.TheVariants.{Transact, Edit, States as OfStates, Ask, History}, command.StateCommand.StateCommand, command.StateCommand.TheVariants.{Track, Peer, Kill as KillState, Expire as ExpireStates}, command.TableEdit.TableEdit, command.TableEdit.TheVariants.{Add as AddTo, Delete, Set, Kill}, command.Transaction.Transaction, command.Transaction.TheVariants.{Begin, Add, Define, Extend, Commit, Rollback}, durable.refusal.ChangeRefusal.ChangeRefusal, durable.verdict.Verdict.Verdict, durable.verdict.Verdict.TheVariants.{State as Stateful, Rules as ByRules}, reply.Refusal.Refusal, reply.Refusal.TheVariants.{Absent, BadTick}, step.Step.Step}
 use Rattle.pf_core.specs.{Commands.{unless_refused, unless_unfit, if_there, wanting, items, tracked, makes_state, judge_step, track_step, expiry_of, is_past, transact_step, edit_step, states_step, step_by}, Durable.Changes.{PlainDurable, commits, verdict}, Refusals.{refusal_of, change_refusal_of}, Worlds.is_fault}
 
 abbrev NoFault : Result Step Refusal → Type 0
@@ -27,6 +27,7 @@ ticket-not : (x : TicketRefusal) → is_fault (refusal_of x) ≡ false
 ticket-not ticket.BadCount = refl
 ticket-not (ticket.Twice i) = refl
 ticket-not (ticket.Busy i) = refl
+ticket-not ticket.Absent = refl
 ticket-not (ticket.Conflict i) = refl
 ticket-not ticket.RulesetFull = refl
 ticket-not ticket.TooManyRulesets = refl
@@ -61,6 +62,7 @@ transact-not : (t : PlainTickets) (d : PlainDurable) (x : Transaction) → NoFau
 transact-not t d (Begin names) = unless-not _ _ (λ range. ok-not _)
 transact-not t d (Add p u rule) = unless-not _ _ (λ _. ok-not _)
 transact-not t d (Define p u name xs) = unless-not _ _ (λ _. ok-not _)
+transact-not t d (Extend p u name xs) = unless-not _ _ (λ _. ok-not _)
 transact-not t d (Commit entries) = unless-not (commit_check t entries) (λ _. wanting d (commits (items (content t) entries)) outcome.Committed) (λ _. unfit-not _ _ (ok-not _))
 transact-not t d (Rollback entries) = unless-not _ _ (λ _. ok-not _)
 

@@ -2,8 +2,8 @@
 use Rattle.std.proofs.{Common.{◌≡◌, ◌≤◌, inl, ℕ, Bool, true, false, cond, List, [], ◌∷◌, length, Result, Ok, Err, refl, sym, ap, ◌∙◌, subst, arith}, Math.Bool.and-false, lemmas.Bool.Decides.nat_tests, lemmas.List.length-map}
 use Rattle.std.specs.{Prelude.{◌&&◌, ◌==◌, not, nat_le}, List.list_all}
 use Rattle.pf_core.specs.Refusing.{both_passed, refused_at}
-use Rattle.pf_ticket.specs.{declared.{entry.RulesetTicket.RulesetTicket, limits.TheConstants.{ENTRY_LIMIT, OFFERED_TABLE_LIMIT}, name.RulesetKind.RulesetKind, name.RulesetKind.TheVariants.{Filter, Table}, refusal.TicketRefusal.TicketRefusal, refusal.TicketRefusal.TheVariants.{BadCount, Busy}}, Laws.Tickets.{IsFew, IsWithin}, Mentions.after as moved_by, Replies.{bad_count, begin_reply, add_reply, define_reply, list_check, commit_check, busy_in}, Names.{filter_at, table_ruleset_at}, Tickets.{Loaded, PlainTickets, offered_as, loaded, content}}
-use Rattle.pf_core.specs.declared.{command.Command.Command, command.Command.TheVariants.{Transact, Edit, States as OfStates, Ask, History}, command.TableEdit.TableEdit, command.TableEdit.TheVariants.{Add as AddTo, Delete, Set, Kill}, command.Transaction.TheVariants.{Begin, Add, Define, Commit, Rollback}, reply.Answer.Answer, reply.Outcome.Outcome, reply.Refusal.Refusal, reply.Refusal.TheVariants.Halted, reply.Reply.TheVariants.Answer as Answered, step.Step.Step, step.Step.TheVariants.{Done, Wants, OfHistory}}
+use Rattle.pf_ticket.specs.{declared.{entry.RulesetTicket.RulesetTicket, limits.TheConstants.{ENTRY_LIMIT, OFFERED_TABLE_LIMIT}, name.RulesetKind.RulesetKind, name.RulesetKind.TheVariants.{Filter, Table}, refusal.TicketRefusal.TicketRefusal, refusal.TicketRefusal.TheVariants.{BadCount, Busy}}, Laws.Tickets.{IsFew, IsWithin}, Mentions.after as moved_by, Replies.{bad_count, begin_reply, add_reply, define_reply, extend_reply, list_check, commit_check, busy_in}, Names.{filter_at, table_ruleset_at}, Tickets.{Loaded, PlainTickets, offered_as, loaded, content}}
+use Rattle.pf_core.specs.declared.{command.Command.Command, command.Command.TheVariants.{Transact, Edit, States as OfStates, Ask, History}, command.TableEdit.TableEdit, command.TableEdit.TheVariants.{Add as AddTo, Delete, Set, Kill}, command.Transaction.TheVariants.{Begin, Add, Define, Extend, Commit, Rollback}, reply.Answer.Answer, reply.Outcome.Outcome, reply.Refusal.Refusal, reply.Refusal.TheVariants.Halted, reply.Reply.TheVariants.Answer as Answered, step.Step.Step, step.Step.TheVariants.{Done, Wants, OfHistory}}
 use Rattle.pf_core.specs.declared.reply.Answer.TheVariants as answer
 use Rattle.pf_core.specs.{Commands.{item_of, items, step_by, may_change, mentioned}, Durable.Changes.{PlainDurable, PlainChange, commits}, Laws.Wanted.{none-wanted, wants_commit, change_by, wants_edit, IsOfStates, of_steps, of_removal, of_tick, wants_states}, Refusals.OrMemory, Cores.answered, Worlds.{CurrentOpening, due_at}}
 use Rattle.pf_core.proofs.Limits.{legal-told}
@@ -53,6 +53,7 @@ pub wanted-can : (t : PlainTickets) (d : PlainDurable) (c : Command) (e : PlainC
 wanted-can t d (Transact (Begin names)) e o within is = absurd (none-wanted (begin_reply t names) (λ range. answer.Given range) e o is)
 wanted-can t d (Transact (Add p u r)) e o within is = absurd (none-wanted (add_reply t (filter_at p) u) (λ _. answer.Done) e o is)
 wanted-can t d (Transact (Define p u name xs)) e o within is = absurd (none-wanted (define_reply t (table_ruleset_at p) u name xs) (λ _. answer.Done) e o is)
+wanted-can t d (Transact (Extend p u name xs)) e o within is = absurd (none-wanted (extend_reply t (table_ruleset_at p) u name xs) (λ _. answer.Done) e o is)
 wanted-can t d (Transact (Commit entries)) e o within is =
     let by = wants_commit t d entries e o is in
     subst (λ (x : PlainChange). can_be_wanted x ≡ true) by.this.is (commit-can t entries within by.good)

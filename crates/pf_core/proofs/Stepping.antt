@@ -1,8 +1,8 @@
 -- What one step answers, and that its change keeps within the limits.
 use Rattle.std.proofs.Common.{◌≡◌, ℕ, ◌+◌, Bool, true, false, cond, List, [], ◌∷◌, length, refl, sym, ap, ◌∙◌, subst, Option, Some, None, Result, Ok, Err, arith, zero, suc, ◌++◌}
 use Rattle.std.specs.{Prelude.{is_some, if◌then◌else◌}, List.AllByRecursion}
-use Rattle.pf_ticket.specs.{Replies.{begin_reply, add_reply, define_reply, list_check, commit_check}, declared.{name.RulesetName.RulesetName, refusal.TicketRefusal.TicketRefusal, ticket.Ticket.Ticket, ticket.TicketRange.TicketRange, name.RulesetKind.RulesetKind, name.RulesetKind.TheVariants.Filter, name.RulesetKind.TheVariants.Table, entry.RulesetTicket.RulesetTicket}, Laws.Tickets.{AreGiven, IsFew, IsWithin as AreTicketsWithin}, Mentions.{Mention, gives, switches, after as moved_by}, Names.{filter_at, table_ruleset_at, tickets_from}, NamedTables.PlainDefinedTable, Tickets.{Loaded, PlainTickets, offered_as, loaded, content}}
-use Rattle.pf_core.specs.{Durable.Changes.{PlainDurable, PlainChange, commits, acts, removes, expires, verdict, placed, tables_in, applied, voided_by, fits}, History.tickets_in, Laws.Wanted.{unit_is, IsPassed, passed, none-wanted, IsThis, IsNoChange, never-wanted, never-committed, never-there, never-edited, wants_commit, change_by, wants_edit, IsOfStates, of_steps, of_removal, of_tick, IsStateChange, tracks, wants_states, IsWanted, left_is}, declared.{command.Command.Command, durable.change.Item.Item, command.Command.TheVariants.Transact, command.Command.TheVariants.Edit, command.Command.TheVariants.States as OfStates, command.Command.TheVariants.Ask, command.Command.TheVariants.History, command.HistoryCommand.HistoryCommand, command.HistoryCommand.TheVariants.Log, command.HistoryCommand.TheVariants.Publish, durable.verdict.Verdict.Verdict, durable.verdict.Verdict.TheVariants.State as Stateful, durable.verdict.Verdict.TheVariants.Rules as ByRules, command.StateCommand.StateCommand, command.StateCommand.TheVariants.Track, command.StateCommand.TheVariants.Peer, command.StateCommand.TheVariants.Kill as KillState, command.StateCommand.TheVariants.Expire as ExpireStates, command.TableEdit.TableEdit, command.TableEdit.TheVariants.Add as AddTo, command.TableEdit.TheVariants.Delete, command.TableEdit.TheVariants.Set, command.TableEdit.TheVariants.Kill, command.Question.Question, command.Transaction.TheVariants.Begin, command.Transaction.TheVariants.Add, command.Transaction.TheVariants.Define, command.Transaction.TheVariants.Commit, command.Transaction.TheVariants.Rollback, reply.Answer.Answer, reply.Outcome.Outcome, reply.Refusal.Refusal, reply.Refusal.TheVariants.Halted, reply.Reply.TheVariants.Answer as Answered, step.Step.Step, step.Step.TheVariants.Done, step.Step.TheVariants.Wants, step.Step.TheVariants.OfHistory}, Commands.{item_of, unless_refused, items, wanting, makes_state, tracked, judge_step, expiry_of, steps_here, states_step, answer_of, step_by, mentioned}, Laws.Durable.{IsWithin, AreFew}, Worlds.{CurrentOpening, told_of_history}}
+use Rattle.pf_ticket.specs.{Replies.{begin_reply, add_reply, define_reply, extend_reply, list_check, commit_check}, declared.{name.RulesetName.RulesetName, refusal.TicketRefusal.TicketRefusal, ticket.Ticket.Ticket, ticket.TicketRange.TicketRange, name.RulesetKind.RulesetKind, name.RulesetKind.TheVariants.Filter, name.RulesetKind.TheVariants.Table, entry.RulesetTicket.RulesetTicket}, Laws.Tickets.{AreGiven, IsFew, IsWithin as AreTicketsWithin}, Mentions.{Mention, gives, switches, after as moved_by}, Names.{filter_at, table_ruleset_at, tickets_from}, NamedTables.PlainDefinedTable, Tickets.{Loaded, PlainTickets, offered_as, loaded, content}}
+use Rattle.pf_core.specs.{Durable.Changes.{PlainDurable, PlainChange, commits, acts, removes, expires, verdict, placed, tables_in, applied, voided_by, fits}, History.tickets_in, Laws.Wanted.{unit_is, IsPassed, passed, none-wanted, IsThis, IsNoChange, never-wanted, never-committed, never-there, never-edited, wants_commit, change_by, wants_edit, IsOfStates, of_steps, of_removal, of_tick, IsStateChange, tracks, wants_states, IsWanted, left_is}, declared.{command.Command.Command, durable.change.Item.Item, command.Command.TheVariants.Transact, command.Command.TheVariants.Edit, command.Command.TheVariants.States as OfStates, command.Command.TheVariants.Ask, command.Command.TheVariants.History, command.HistoryCommand.HistoryCommand, command.HistoryCommand.TheVariants.Log, command.HistoryCommand.TheVariants.Publish, durable.verdict.Verdict.Verdict, durable.verdict.Verdict.TheVariants.State as Stateful, durable.verdict.Verdict.TheVariants.Rules as ByRules, command.StateCommand.StateCommand, command.StateCommand.TheVariants.Track, command.StateCommand.TheVariants.Peer, command.StateCommand.TheVariants.Kill as KillState, command.StateCommand.TheVariants.Expire as ExpireStates, command.TableEdit.TableEdit, command.TableEdit.TheVariants.Add as AddTo, command.TableEdit.TheVariants.Delete, command.TableEdit.TheVariants.Set, command.TableEdit.TheVariants.Kill, command.Question.Question, command.Transaction.TheVariants.Begin, command.Transaction.TheVariants.Add, command.Transaction.TheVariants.Define, command.Transaction.TheVariants.Extend, command.Transaction.TheVariants.Commit, command.Transaction.TheVariants.Rollback, reply.Answer.Answer, reply.Outcome.Outcome, reply.Refusal.Refusal, reply.Refusal.TheVariants.Halted, reply.Reply.TheVariants.Answer as Answered, step.Step.Step, step.Step.TheVariants.Done, step.Step.TheVariants.Wants, step.Step.TheVariants.OfHistory}, Commands.{item_of, unless_refused, items, wanting, makes_state, tracked, judge_step, expiry_of, steps_here, states_step, answer_of, step_by, mentioned}, Laws.Durable.{IsWithin, AreFew}, Worlds.{CurrentOpening, told_of_history}}
 use Rattle.pf_core.proofs.Within.{keeps_within}
 use Rattle.pf_table.specs.Tables.{AreEntries}
 use Rattle.pf_ticket.proofs.TicketLimits.{begins_give, keeps_the_limits as tickets_keep}
@@ -99,6 +99,7 @@ pub step-answers : (P : Answer → Type 0) → IsOfSteps P → (t : PlainTickets
 step-answers P all t d (Transact (Begin names)) a h = passed-holds P (begin_reply t names) (λ range. answer.Given range) a all.given h
 step-answers P all t d (Transact (Add p u r)) a h = passed-holds P (add_reply t (filter_at p) u) (λ _. answer.Done) a (λ _. all.done) h
 step-answers P all t d (Transact (Define p u name xs)) a h = passed-holds P (define_reply t (table_ruleset_at p) u name xs) (λ _. answer.Done) a (λ _. all.done) h
+step-answers P all t d (Transact (Extend p u name xs)) a h = passed-holds P (extend_reply t (table_ruleset_at p) u name xs) (λ _. answer.Done) a (λ _. all.done) h
 step-answers P all t d (Transact (Commit entries)) a h = absurd (never-committed (commit_check t entries) d (commits (items (content t) entries)) outcome.Committed (Done a) (done-is-none a) h)
 step-answers P all t d (Transact (Rollback entries)) a h = passed-holds P (list_check entries) (λ _. answer.Done) a (λ _. all.done) h
 step-answers P all t d (Edit edit) a h = absurd (never-edited d edit (Done a) (done-is-none a) h)
@@ -117,6 +118,11 @@ answered-told t d (Transact (Define p u name xs)) a h =
     let s : IsPassed reply (λ _. Ok (Done answer.Done)) (Done a) = passed reply (λ _. Ok (Done answer.Done)) (Done a) h in
     let new : PlainTickets = moved_by t (mentioned (Transact (Define p u name xs))) in
     subst (AreTold t new) (sym (done-told reply a h)) (none-told t new (tickets_keep.define t p u name xs (unit_is reply s.value s.passed)) (begins_give.define t (table_ruleset_at p) u name xs))
+answered-told t d (Transact (Extend p u name xs)) a h =
+    let reply : Result (Unit {0}) TicketRefusal = extend_reply t (table_ruleset_at p) u name xs in
+    let s : IsPassed reply (λ _. Ok (Done answer.Done)) (Done a) = passed reply (λ _. Ok (Done answer.Done)) (Done a) h in
+    let new : PlainTickets = moved_by t (mentioned (Transact (Extend p u name xs))) in
+    subst (AreTold t new) (sym (done-told reply a h)) (none-told t new (tickets_keep.extend t p u name xs (unit_is reply s.value s.passed)) (begins_give.extend t (table_ruleset_at p) u name xs))
 answered-told t d (Transact (Commit entries)) a h = absurd (never-committed (commit_check t entries) d (commits (items (content t) entries)) outcome.Committed (Done a) (done-is-none a) h)
 answered-told t d (Transact (Rollback entries)) a h =
     let new : PlainTickets = moved_by t (mentioned (Transact (Rollback entries))) in
@@ -176,6 +182,7 @@ pub change-within : (t : PlainTickets) (d : PlainDurable) (c : Command) (e : Pla
 change-within t d (Transact (Begin names)) e o h all w = absurd (none-wanted (begin_reply t names) (λ range. answer.Given range) e o h)
 change-within t d (Transact (Add p u r)) e o h all w = absurd (none-wanted (add_reply t (filter_at p) u) (λ _. answer.Done) e o h)
 change-within t d (Transact (Define p u name xs)) e o h all w = absurd (none-wanted (define_reply t (table_ruleset_at p) u name xs) (λ _. answer.Done) e o h)
+change-within t d (Transact (Extend p u name xs)) e o h all w = absurd (none-wanted (extend_reply t (table_ruleset_at p) u name xs) (λ _. answer.Done) e o h)
 change-within t d (Transact (Commit entries)) e o h all w =
     let this : IsThis d (commits (items (content t) entries)) e = (wants_commit t d entries e o h).this in
     subst (λ (x : PlainChange). IsWithin (applied d x)) this.is ((keeps_within d w).by_commit (items (content t) entries) (items-few t entries all) this.fits)

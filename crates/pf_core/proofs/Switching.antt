@@ -9,7 +9,7 @@ use Rattle.pf_anchor.specs.{Laws.Configurations.rules_by, Rulesets.{PlainPlaced,
 use Rattle.pf_anchor.proofs.{RulesetMaps.replaced_in_turn, TableMaps.tables_replaced}
 use Rattle.pf_ticket.specs.{declared.{entry.RulesetTicket.RulesetTicket, name.RulesetKind.RulesetKind, name.RulesetKind.TheVariants.Filter, name.RulesetKind.TheVariants.Table, name.RulesetName.RulesetName, refusal.TicketRefusal.TheVariants.BadCount, refusal.TicketRefusal.TheVariants.Twice, refusal.TicketRefusal.TheVariants.Busy}, Laws.Names.{paths_alike, name_is}, Names.{same_kind, same_name, is_named, names_of, filter_at, table_ruleset_at, IsDistinct}, Replies.{bad_count, twice_behind, twice_in, busy_in, list_check, commit_check}, Mentions.{Mention, switched, switches, dropped, named_in, after}, NamedTables.PlainDefinedTable, Tickets.{Loaded, PlainTickets, offered_as, loaded, offer_at, ticket_in, valid_ticket, content}}
 use Rattle.pf_ticket.proofs.{Moves.{leaves_the_others as mentions_leave, commit_takes_out, gives-named}, Twice.otherwise_once}
-use Rattle.pf_core.specs.{declared.{durable.change.Item.Item, command.Command.TheVariants.Transact, command.Command.TheVariants.Edit, command.Command.TheVariants.States as OfStates, command.Command.TheVariants.Ask, command.Command.TheVariants.History, command.Transaction.TheVariants.Begin, command.Transaction.TheVariants.Add, command.Transaction.TheVariants.Define, command.Transaction.TheVariants.Commit, command.Transaction.TheVariants.Rollback}, Commands.{item_of, items, mentioned, is_accepted}, Durable.Changes.{PlainDurable, PlainChange, name_of, commits, rulesets_in, placed, tables_in, entries_at, applied}, Laws.Commands.{tables_offered, AreTablesSwitched, AreSwitched, SwitchesAll, LeaveTheOtherKind, KeepsNoneValid, MentionsTheNamed, LeavesTheOthers, RefusedMentionNothing}, Laws.Wanted.{IsCommitted, names-items, wants_commit}}
+use Rattle.pf_core.specs.{declared.{durable.change.Item.Item, command.Command.TheVariants.Transact, command.Command.TheVariants.Edit, command.Command.TheVariants.States as OfStates, command.Command.TheVariants.Ask, command.Command.TheVariants.History, command.Transaction.TheVariants.Begin, command.Transaction.TheVariants.Add, command.Transaction.TheVariants.Define, command.Transaction.TheVariants.Extend, command.Transaction.TheVariants.Commit, command.Transaction.TheVariants.Rollback}, Commands.{item_of, items, mentioned, is_accepted}, Durable.Changes.{PlainDurable, PlainChange, name_of, commits, rulesets_in, placed, tables_in, entries_at, applied}, Laws.Commands.{tables_offered, AreTablesSwitched, AreSwitched, SwitchesAll, LeaveTheOtherKind, KeepsNoneValid, MentionsTheNamed, LeavesTheOthers, RefusedMentionNothing}, Laws.Wanted.{IsCommitted, names-items, wants_commit}}
 use Rattle.pf_core.proofs.Edited.{same-keys}
 use Rattle.pf_map.proofs.Tests.{first_of, second_of, untied_of, equal_of}
 
@@ -197,6 +197,7 @@ pub mentions_the_named : MentionsTheNamed
 mentions_the_named (Transact (Begin names)) = gives-named names
 mentions_the_named (Transact (Add p u r)) = refl
 mentions_the_named (Transact (Define p u name xs)) = refl
+mentions_the_named (Transact (Extend p u name xs)) = refl
 mentions_the_named (Transact (Commit entries)) = map-map named_in (λ (n : RulesetName). switched n) (names_of entries) ∙ map-id (names_of entries)
 mentions_the_named (Transact (Rollback entries)) = map-map named_in (λ (e : RulesetTicket). dropped e.name e.ticket) entries
 mentions_the_named (Edit edit) = refl

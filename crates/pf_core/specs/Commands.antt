@@ -13,9 +13,9 @@ use Rattle.pf_rule.specs.Packets.{PlainPacket}
 use Rattle.pf_state.specs.{declared.{state.Bound.Bound, state.StateName.StateName, step.StateStep.StateStep as StateStep, peer.message.Message.Message}, Flows.flow_of, States.{PlainState, held_at}, Steps.{counts, due_count}, Peer.Written.message_bytes, Failover.Incoming.steps_of, Failover.Outgoing.exported_messages}
 use Rattle.pf_state.specs.declared.state.Bound.TheVariants as bound
 use Rattle.pf_state.specs.declared.step.StateStep.TheVariants as step
-use Rattle.pf_ticket.specs.{declared.{entry.RulesetTicket.RulesetTicket, name.RulesetName.RulesetName, offered.Offered.Offered, refusal.TicketRefusal.TicketRefusal}, Names.{filter_at, table_ruleset_at, names_of}, Mentions.{Mention, added, defined, gives, switches, drops}, Tickets.{PlainTickets, content}, Replies.{begin_reply, add_reply, define_reply, list_check, commit_check}}
+use Rattle.pf_ticket.specs.{declared.{entry.RulesetTicket.RulesetTicket, name.RulesetName.RulesetName, offered.Offered.Offered, refusal.TicketRefusal.TicketRefusal}, Names.{filter_at, table_ruleset_at, names_of}, Mentions.{Mention, added, defined, extended, gives, switches, drops}, Tickets.{PlainTickets, content}, Replies.{begin_reply, add_reply, define_reply, extend_reply, list_check, commit_check}}
 use Rattle.pf_ticket.specs.declared.offered.Offered.TheVariants as offered
-use Rattle.pf_core.specs.{declared.{durable.change.Item.Item, command.Command.Command, command.Command.TheVariants.Transact, command.Command.TheVariants.Edit, command.Command.TheVariants.States as OfStates, command.Command.TheVariants.Ask, command.Command.TheVariants.History, command.HistoryCommand.TheVariants.Log, command.HistoryCommand.TheVariants.Publish, command.Question.Question, command.Question.TheVariants.Judge, command.Question.TheVariants.Test, command.Question.TheVariants.ShowRules, command.Question.TheVariants.ShowTables, command.Question.TheVariants.ShowStates, command.Question.TheVariants.Sum, command.Question.TheVariants.Export, command.StateCommand.StateCommand, command.StateCommand.TheVariants.Track, command.StateCommand.TheVariants.Peer, command.StateCommand.TheVariants.Kill as KillState, command.StateCommand.TheVariants.Expire as ExpireStates, command.TableEdit.TableEdit, command.TableEdit.TheVariants.Add as AddTo, command.TableEdit.TheVariants.Delete, command.TableEdit.TheVariants.Set, command.TableEdit.TheVariants.Kill, command.Transaction.Transaction, command.Transaction.TheVariants.Begin, command.Transaction.TheVariants.Add, command.Transaction.TheVariants.Define, command.Transaction.TheVariants.Commit, command.Transaction.TheVariants.Rollback, reply.Answer.Answer, reply.Outcome.Outcome, reply.Refusal.Refusal, reply.Refusal.TheVariants.Absent, reply.Refusal.TheVariants.BadCount, reply.Refusal.TheVariants.BadTick, reply.Refusal.TheVariants.NotGrouped, group.TheConstants.GROUP_LIMIT, reply.Reply.Reply, reply.Reply.TheVariants.Answer as Answered, reply.Reply.TheVariants.Applied, reply.Reply.TheVariants.Stored, reply.Reply.TheVariants.Refused, step.Step.Step, step.Step.TheVariants.Done, step.Step.TheVariants.Wants, step.Step.TheVariants.OfHistory, durable.refusal.ChangeRefusal.ChangeRefusal, durable.verdict.Verdict.Verdict, durable.verdict.Verdict.TheVariants.State as Stateful, durable.verdict.Verdict.TheVariants.Rules as ByRules}, Durable.Changes.{PlainDurable, PlainChange, commits, adds, deletes, sets, acts, removes, expires, entries_at, main_sum, no_conflict, fits, verdict}, Refusals.{refusal_of, change_refusal_of}}
+use Rattle.pf_core.specs.{declared.{durable.change.Item.Item, command.Command.Command, command.Command.TheVariants.Transact, command.Command.TheVariants.Edit, command.Command.TheVariants.States as OfStates, command.Command.TheVariants.Ask, command.Command.TheVariants.History, command.HistoryCommand.TheVariants.Log, command.HistoryCommand.TheVariants.Publish, command.Question.Question, command.Question.TheVariants.Judge, command.Question.TheVariants.Test, command.Question.TheVariants.ShowRules, command.Question.TheVariants.ShowTables, command.Question.TheVariants.ShowStates, command.Question.TheVariants.Sum, command.Question.TheVariants.Export, command.StateCommand.StateCommand, command.StateCommand.TheVariants.Track, command.StateCommand.TheVariants.Peer, command.StateCommand.TheVariants.Kill as KillState, command.StateCommand.TheVariants.Expire as ExpireStates, command.TableEdit.TableEdit, command.TableEdit.TheVariants.Add as AddTo, command.TableEdit.TheVariants.Delete, command.TableEdit.TheVariants.Set, command.TableEdit.TheVariants.Kill, command.Transaction.Transaction, command.Transaction.TheVariants.Begin, command.Transaction.TheVariants.Add, command.Transaction.TheVariants.Define, command.Transaction.TheVariants.Extend, command.Transaction.TheVariants.Commit, command.Transaction.TheVariants.Rollback, reply.Answer.Answer, reply.Outcome.Outcome, reply.Refusal.Refusal, reply.Refusal.TheVariants.Absent, reply.Refusal.TheVariants.BadCount, reply.Refusal.TheVariants.BadTick, reply.Refusal.TheVariants.NotGrouped, group.TheConstants.GROUP_LIMIT, reply.Reply.Reply, reply.Reply.TheVariants.Answer as Answered, reply.Reply.TheVariants.Applied, reply.Reply.TheVariants.Stored, reply.Reply.TheVariants.Refused, step.Step.Step, step.Step.TheVariants.Done, step.Step.TheVariants.Wants, step.Step.TheVariants.OfHistory, durable.refusal.ChangeRefusal.ChangeRefusal, durable.verdict.Verdict.Verdict, durable.verdict.Verdict.TheVariants.State as Stateful, durable.verdict.Verdict.TheVariants.Rules as ByRules}, Durable.Changes.{PlainDurable, PlainChange, commits, adds, deletes, sets, acts, removes, expires, entries_at, main_sum, no_conflict, fits, verdict}, Refusals.{refusal_of, change_refusal_of}}
 use Rattle.pf_core.specs.declared.durable.change.Item.TheVariants as item
 use Rattle.pf_core.specs.declared.reply.Answer.TheVariants as answer
 use Rattle.pf_core.specs.declared.reply.Outcome.TheVariants as outcome
@@ -56,6 +56,7 @@ abbrev pub transact_step : PlainTickets → PlainDurable → Transaction → Res
 transact_step t d (Begin names) = unless_refused (begin_reply t names) (λ range. Ok (Done (answer.Given range)))
 transact_step t d (Add p u rule) = unless_refused (add_reply t (filter_at p) u) (λ _. Ok (Done answer.Done))
 transact_step t d (Define p u name xs) = unless_refused (define_reply t (table_ruleset_at p) u name xs) (λ _. Ok (Done answer.Done))
+transact_step t d (Extend p u name xs) = unless_refused (extend_reply t (table_ruleset_at p) u name xs) (λ _. Ok (Done answer.Done))
 transact_step t d (Commit entries) = commit_step t d entries
 transact_step t d (Rollback entries) = rollback_step entries
 
@@ -186,6 +187,7 @@ abbrev pub may_be_grouped : Command → Bool
 may_be_grouped (Transact (Begin names)) = false
 may_be_grouped (Transact (Add p t rule)) = false
 may_be_grouped (Transact (Define p t name xs)) = false
+may_be_grouped (Transact (Extend p t name xs)) = false
 may_be_grouped (Transact (Commit entries)) = true
 may_be_grouped (Transact (Rollback entries)) = false
 may_be_grouped (Edit edit) = true
@@ -209,6 +211,7 @@ abbrev pub transacted : Transaction → List Mention
 transacted (Begin names) = gives names
 transacted (Add p t rule) = added (filter_at p) t rule ∷ []
 transacted (Define p t name xs) = defined (table_ruleset_at p) t name xs ∷ []
+transacted (Extend p t name xs) = extended (table_ruleset_at p) t name xs ∷ []
 transacted (Commit entries) = switches (names_of entries)
 transacted (Rollback entries) = drops entries
 
@@ -225,6 +228,7 @@ abbrev pub named_by : Command → List RulesetName
 named_by (Transact (Begin names)) = names
 named_by (Transact (Add p t rule)) = filter_at p ∷ []
 named_by (Transact (Define p t name xs)) = table_ruleset_at p ∷ []
+named_by (Transact (Extend p t name xs)) = table_ruleset_at p ∷ []
 named_by (Transact (Commit entries)) = names_of entries
 named_by (Transact (Rollback entries)) = names_of entries
 named_by (Edit edit) = []
@@ -244,6 +248,7 @@ abbrev pub transacts_in_memory : Transaction → Bool
 transacts_in_memory (Begin names) = true
 transacts_in_memory (Add p t rule) = true
 transacts_in_memory (Define p t name xs) = true
+transacts_in_memory (Extend p t name xs) = true
 transacts_in_memory (Commit entries) = true
 transacts_in_memory (Rollback entries) = false
 

@@ -4,12 +4,13 @@ use Rattle.pf_addr.specs.Refusing.{OrMemory as DueOrMemory}
 use Rattle.pf_core.specs.declared.{reply.Refusal.Refusal, durable.refusal.ChangeRefusal.ChangeRefusal}
 use Rattle.pf_core.specs.declared.reply.Refusal.TheVariants as told
 use Rattle.pf_core.specs.declared.durable.refusal.ChangeRefusal.TheVariants as by_change
-use Rattle.pf_ticket.specs.declared.{refusal.TicketRefusal.TicketRefusal, refusal.TicketRefusal.TheVariants.BadCount, refusal.TicketRefusal.TheVariants.Twice, refusal.TicketRefusal.TheVariants.Busy, refusal.TicketRefusal.TheVariants.Conflict, refusal.TicketRefusal.TheVariants.RulesetFull, refusal.TicketRefusal.TheVariants.TooManyRulesets, refusal.TicketRefusal.TheVariants.TableFull, refusal.TicketRefusal.TheVariants.TooManyTables, refusal.TicketRefusal.TheVariants.TicketsExhausted, refusal.TicketRefusal.TheVariants.Memory}
+use Rattle.pf_ticket.specs.declared.{refusal.TicketRefusal.TicketRefusal, refusal.TicketRefusal.TheVariants.BadCount, refusal.TicketRefusal.TheVariants.Twice, refusal.TicketRefusal.TheVariants.Busy, refusal.TicketRefusal.TheVariants.Absent, refusal.TicketRefusal.TheVariants.Conflict, refusal.TicketRefusal.TheVariants.RulesetFull, refusal.TicketRefusal.TheVariants.TooManyRulesets, refusal.TicketRefusal.TheVariants.TableFull, refusal.TicketRefusal.TheVariants.TooManyTables, refusal.TicketRefusal.TheVariants.TicketsExhausted, refusal.TicketRefusal.TheVariants.Memory}
 
 abbrev pub refusal_of : TicketRefusal → Refusal
 refusal_of BadCount = told.BadCount
 refusal_of (Twice i) = told.Twice i
 refusal_of (Busy i) = told.Busy i
+refusal_of Absent = told.Absent
 refusal_of (Conflict i) = told.Conflict i
 refusal_of RulesetFull = told.RulesetFull
 refusal_of TooManyRulesets = told.TooManyRulesets

@@ -30,6 +30,14 @@ pub enum Transaction {
         name: TableName,
         entries: EntryList,
     },
+    /// Offers entries for one table at a path besides those that were offered for it. The table has to be defined with the ticket. An entry
+    /// that is offered stays as it is.
+    Extend {
+        path: Path,
+        ticket: Ticket,
+        name: TableName,
+        entries: EntryList,
+    },
     /// Makes the inactive rulesets active, all or none. Of the tables at a path those are replaced that were defined; others stay.
     Commit(RulesetTickets),
     /// Drops the inactive rulesets whose tickets are valid, and leaves the others alone.

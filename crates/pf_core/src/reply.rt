@@ -164,12 +164,14 @@ pub enum Refusal {
     /// This entry of a commit or a rollback, from 0, is the first that names a ruleset named before it. No other entry is done
     /// either.
     Twice { at: usize },
-    /// This entry of a commit, from 0, is the first whose ticket isn't valid; 0 for an add or a define. The other entries' valid
+    /// This entry of a commit, from 0, is the first whose ticket isn't valid; 0 for an add, a define or an extend. The other entries' valid
     /// tickets stay valid.
     Busy { at: usize },
-    /// This entry of a list, from 0, is the first whose network came before it with the other sign.
+    /// This entry of a list, from 0, is the first whose network came before it with the other sign. If there is none, it is the first of an
+    /// extend whose network is offered with the other sign.
     Conflict { at: usize },
-    /// Entries are to be deleted from a table that isn't there, or such a table is to be killed, or a state that isn't there.
+    /// Entries are to be deleted from a table that isn't there, or such a table is to be killed, or a state that isn't there; or a table is
+    /// to be extended that wasn't defined with the ticket.
     Absent,
     /// The tick would go back, or a packet is to be tracked until a tick that has come.
     BadTick,
@@ -214,6 +216,7 @@ impl From<TicketRefusal> for Refusal {
             TicketRefusal::BadCount => Refusal::BadCount,
             TicketRefusal::Twice { at } => Refusal::Twice { at },
             TicketRefusal::Busy { at } => Refusal::Busy { at },
+            TicketRefusal::Absent => Refusal::Absent,
             TicketRefusal::Conflict { at } => Refusal::Conflict { at },
             TicketRefusal::RulesetFull => Refusal::RulesetFull,
             TicketRefusal::TooManyRulesets => Refusal::TooManyRulesets,

@@ -8,7 +8,7 @@ use Rattle.pf_addr.specs.declared.addr.Addr.TheVariants as addr
 use Rattle.pf_rule.specs.declared.fault.Mistake.{Mistake}
 use Rattle.pf_rule.specs.{Rules.PlainRule, RuleGrammar.{rule, rule_decided}, Packets.PlainPacket, PacketGrammar.{packet, packet_decided}, Value.Values.an_address}
 use Rattle.pf_table.specs.Entries.{PlainEntry}
-use Rattle.pf_core.specs.declared.{command.Command.Command, command.Command.TheVariants.{Transact, Edit, States, Ask, History}, command.HistoryCommand.HistoryCommand, command.HistoryCommand.TheVariants.{Log, Publish}, command.StateCommand.TheVariants.{Track, Kill as KillState, Expire as ExpireStates}, command.Transaction.TheVariants.{Begin, Add, Define, Commit, Rollback}, command.Question.TheVariants.{Judge, Test, ShowRules, ShowTables, ShowStates, Sum, Export}}
+use Rattle.pf_core.specs.declared.{command.Command.Command, command.Command.TheVariants.{Transact, Edit, States, Ask, History}, command.HistoryCommand.HistoryCommand, command.HistoryCommand.TheVariants.{Log, Publish}, command.StateCommand.TheVariants.{Track, Kill as KillState, Expire as ExpireStates}, command.Transaction.TheVariants.{Begin, Add, Define, Extend, Commit, Rollback}, command.Question.TheVariants.{Judge, Test, ShowRules, ShowTables, ShowStates, Sum, Export}}
 use Rattle.pf_core.specs.declared.command.TableEdit.TheVariants as edits
 use Rattle.pf_ticket.specs.declared.{entry.RulesetTicket.RulesetTicket, name.RulesetKind.RulesetKind, name.RulesetKind.TheVariants.{Filter, Table}, name.RulesetName.RulesetName, ticket.Ticket.Ticket}
 use Rattle.pf_ticket.specs.Names.{ticket}
@@ -110,6 +110,13 @@ define_of x = Ok (Transact (Define x.0.0 x.0.1 x.0.2 x.1))
 -- PATH T NAME ENTRY .., or without an entry
 unfoldable pub defined : Form (Result Command Mistake)
 defined = making define_of (pair offered_table (any_number row))
+
+abbrev pub extend_of : (List ℕ × Ticket × List ℕ) × List PlainEntry → Result Command Mistake
+extend_of x = Ok (Transact (Extend x.0.0 x.0.1 x.0.2 x.1))
+
+-- PATH T NAME ENTRY ..
+unfoldable pub extended : Form (Result Command Mistake)
+extended = making extend_of (pair offered_table (one_or_more row))
 
 abbrev pub commit_of : List RulesetTicket → Result Command Mistake
 commit_of entries = Ok (Transact (Commit entries))
@@ -216,11 +223,11 @@ unfoldable pub edit_or_question : Form (Result Command Mistake)
 edit_or_question = or (codes "tadd") entries_added (or (codes "tdel") entries_deleted
     (or (codes "tset") entries_set (or (codes "tkill") killed state_or_question)))
 
--- "begin" KIND PATH .. | "add" PATH T RULE | "define" PATH T NAME [ENTRY ..] | "commit" KIND PATH T .. | "rollback" KIND PATH T .. | an
--- edit, a command of states or of the history, or a question
+-- "begin" KIND PATH .. | "add" PATH T RULE | "define" PATH T NAME [ENTRY ..] | "extend" PATH T NAME ENTRY .. | "commit" KIND PATH T .. |
+-- "rollback" KIND PATH T .. | an edit, a command of states or of the history, or a question
 unfoldable pub command : Form (Result Command Mistake)
-command = or (codes "begin") begun (or (codes "add") added (or (codes "define") defined
-    (or (codes "commit") committed (or (codes "rollback") rolled_back edit_or_question))))
+command = or (codes "begin") begun (or (codes "add") added (or (codes "define") defined (or (codes "extend") extended
+    (or (codes "commit") committed (or (codes "rollback") rolled_back edit_or_question)))))
 
 -- what the words of a line say
 pub data Spoken : Type 0 where
@@ -235,6 +242,6 @@ line = or (codes "peer") (making Tells hex) (making Says command)
 
 -- One word of look-ahead decides what is read.
 pub decided : is_decided line ≡ true
-unfolding begun added defined committed rolled_back entries_added entries_deleted entries_set killed until tracked state_killed expired judged tested
+unfolding begun added defined extended committed rolled_back entries_added entries_deleted entries_set killed until tracked state_killed expired judged tested
     shown overview question history_or_question state_or_question edit_or_question command packet
 decided = rw (rule_decided, packet_decided) refl

@@ -1,6 +1,6 @@
 //! Reading the words of a line.
 ghost use Rattle.pf_form.specs.Form.Readers.{ReadsWhole, ReadsAll};
-ghost use Rattle.pf_line.specs.Grammar.{begun, added, defined, committed, rolled_back, entries_added, entries_deleted, entries_set, killed, judged, tested, tracked, state_killed, expired, shown, overview, question, alone, history_or_question, state_or_question, edit_or_question, command};
+ghost use Rattle.pf_line.specs.Grammar.{begun, added, defined, extended, committed, rolled_back, entries_added, entries_deleted, entries_set, killed, judged, tested, tracked, state_killed, expired, shown, overview, question, alone, history_or_question, state_or_question, edit_or_question, command};
 
 use crate::lists::{read_rows, read_some_rows};
 use crate::words::{
@@ -49,6 +49,22 @@ fn define<'a>(alloc: Global, words: Words<'a>) -> Result<Result<Command, Mistake
     let (path, ticket, name) = read_offered(&mut rest)?;
     let entries = read_rows(alloc, rest)?;
     let step = Transaction::Define {
+        path,
+        ticket,
+        name,
+        entries,
+    };
+    Ok(Ok(Command::Transact(step)))
+}
+
+#[tactic(auto, unfolding(crate::specs::Grammar::extended))]
+fn extend<'a>(alloc: Global, words: Words<'a>) -> Result<Result<Command, Mistake>, Unread>
+    ensures { ReadsAll (λ x. x) extended result words.now }
+{
+    let mut rest = words;
+    let (path, ticket, name) = read_offered(&mut rest)?;
+    let entries = read_some_rows(alloc, rest)?;
+    let step = Transaction::Extend {
         path,
         ticket,
         name,
@@ -333,6 +349,9 @@ pub(crate) fn command<'a>(
     }
     if takes(&mut rest, b"define") {
         return define(alloc, rest);
+    }
+    if takes(&mut rest, b"extend") {
+        return extend(alloc, rest);
     }
     if takes(&mut rest, b"commit") {
         return commit(alloc, rest);

@@ -1,11 +1,12 @@
--- The valid ticket of a ruleset is the one that the latest mention that touched it gave, and what was added and defined since then is
--- offered with it.
-use Rattle.std.proofs.{Common.{◌≡◌, ℕ, Bool, true, false, cond, ◌&&◌, ◌==◌, List, [], ◌∷◌, ◌++◌, refl, sym, ap, ◌∙◌, subst, Option, Some, None, ◌⊎◌, inl, inr, append_assoc, fold}, lemmas.Bool.{eqb-true, and_parts, cond_both}, lemmas.List.append-nil, lemmas.List.Sums.fold-append}
-use Rattle.std.specs.{Prelude.{flat_map, T}, FinMap.{find, is_sorted}, FinMap.Entries.{find-put, is_sorted-put}, Cmp.Lexicographic.nat_list_cmp_total, List.last_or}
+-- The valid ticket of a ruleset is the one that the latest mention that touched it gave, and what was added, defined and extended since then
+-- is offered with it.
+use Rattle.std.proofs.{Common.{◌≡◌, ℕ, Bool, true, false, cond, ◌&&◌, ◌==◌, List, [], ◌∷◌, ◌++◌, refl, sym, ap, ◌∙◌, subst, Option, Some, None, option_map, ◌⊎◌, inl, inr, append_assoc, fold}, lemmas.Bool.{eqb-true, and_parts, cond_both}, lemmas.List.append-nil, lemmas.List.Sums.fold-append}
+use Rattle.std.specs.{Prelude.{flat_map, T}, FinMap.{find, put, is_sorted}, FinMap.Entries.{find-put, find_tied, is_sorted-put}, Cmp.Lexicographic.nat_list_cmp_total, Option.{option_or, option_map_or}}
 use Rattle.pf_addr.specs.Path.Names.{name_order, same_name as same_table}
 use Rattle.pf_rule.specs.Rules.{PlainRule}
-use Rattle.pf_table.specs.{Edits.replaced, Entries.PlainEntry}
-use Rattle.pf_ticket.specs.{declared.{name.RulesetName.RulesetName, ticket.Ticket.Ticket}, Laws.Tickets.{touches, AreQuiet, IsGivenLast, ValidIsGivenLast, GivenLastIsValid, rules_added, OffersTheAdded, tables_defined, OffersTheDefined}, Mentions.{Mention, gave, added, defined, switched, dropped, named_in, moved, after}, Names.{filter_at, table_ruleset_at, same_name, ticket, same_ticket, is_ticket}, Laws.Names.{names_alike, name_is}, NamedTables.PlainDefinedTable, Tickets.{Loaded, nothing, with_rule, with_table, PlainInactive, offer_with, offer_at, PlainTickets, fresh, next_ticket, ticket_in, loaded_in, valid_ticket, loaded, is_valid}}
+use Rattle.pf_table.specs.{Edits.{with_entry, added as entries_added, replaced}, Entries.PlainEntry}
+use Rattle.pf_ticket.specs.{declared.{name.RulesetName.RulesetName, ticket.Ticket.Ticket}, Laws.Tickets.{touches, AreQuiet, IsGivenLast, ValidIsGivenLast, GivenLastIsValid, rules_added, OffersTheAdded, entries_defined, entries_extended, entries_since, OffersTheDefined}, Mentions.{Mention, gave, added, defined, extended, switched, dropped, named_in, moved, after}, Names.{filter_at, table_ruleset_at, same_name, ticket, same_ticket, is_ticket}, Laws.Names.{names_alike, name_is}, NamedTables.PlainDefinedTable, Tickets.{Loaded, nothing, with_rule, with_table, with_entries, PlainInactive, offer_with, offer_at, PlainTickets, fresh, next_ticket, ticket_in, loaded_in, valid_ticket, loaded, is_valid}}
+use Rattle.pf_map.proofs.Tests.{equal_of}
 use Rattle.pf_ticket.proofs.Moves.{made_by, reads}
 
 -- two tickets that are the same are equal
@@ -43,6 +44,7 @@ own-stood : (t : PlainTickets) (m : Mention) (ms : List Mention) (u : Ticket) �
 own-stood t (gave n) ms u h quiet = inr (record { before = []; given = n; behind = ms; all = refl; same = names_alike.refl n; ticket = (let is : Some (next_ticket t) ≡ Some u = h in cc (is)); quiet = quiet })
 own-stood t (added n w r) ms u h quiet = inl (loaded-stood t n w u (with_rule (loaded t n) r) (is_valid t n w) refl h, (refl, quiet))
 own-stood t (defined n w name xs) ms u h quiet = inl (loaded-stood t n w u (with_table (loaded t n) name (replaced xs)) (is_valid t n w) refl h, (refl, quiet))
+own-stood t (extended n w name xs) ms u h quiet = inl (loaded-stood t n w u (with_entries (loaded t n) name xs) (is_valid t n w) refl h, (refl, quiet))
 own-stood t (switched n) ms u h quiet = absurd (cc (h))
 own-stood t (dropped n w) ms u h quiet =
     let both : (valid_ticket t n ≡ Some u) × (same_ticket u w ≡ false) = dropped-stood t n w u (is_valid t n w) refl h in
@@ -52,6 +54,7 @@ untouched : (m : Mention) (q : RulesetName) (u : Ticket) → same_name (named_in
 untouched (gave n) q u e = e
 untouched (added n w r) q u e = refl
 untouched (defined n w name xs) q u e = refl
+untouched (extended n w name xs) q u e = refl
 untouched (switched n) q u e = e
 untouched (dropped n w) q u e = ap (λ (b : Bool). b && same_ticket u w) e
 
@@ -80,6 +83,7 @@ abbrev loads : RulesetName → Ticket → Loaded → Mention → Loaded
 loads q u l (gave n) = l
 loads q u l (added n w r) = cond (same_name n q && same_ticket u w) (with_rule l r) l
 loads q u l (defined n w name xs) = cond (same_name n q && same_ticket u w) (with_table l name (replaced xs)) l
+loads q u l (extended n w name xs) = cond (same_name n q && same_ticket u w) (with_entries l name xs) l
 loads q u l (switched n) = l
 loads q u l (dropped n w) = l
 
@@ -100,6 +104,7 @@ own-stays : (t : PlainTickets) (m : Mention) (u : Ticket) → valid_ticket t (na
 own-stays t (gave n) u h quiet = never n quiet
 own-stays t (added n w r) u h quiet = own-load t n w u (with_rule (loaded t n) r) (is_valid t n w) refl h
 own-stays t (defined n w name xs) u h quiet = own-load t n w u (with_table (loaded t n) name (replaced xs)) (is_valid t n w) refl h
+own-stays t (extended n w name xs) u h quiet = own-load t n w u (with_entries (loaded t n) name xs) (is_valid t n w) refl h
 own-stays t (switched n) u h quiet = never n quiet
 own-stays t (dropped n w) u h quiet =
     let other : same_ticket u w ≡ false = ap (λ (b : Bool). b && same_ticket u w) (sym (names_alike.refl n)) ∙ quiet in
@@ -110,6 +115,7 @@ none-loaded : (m : Mention) (q : RulesetName) (u : Ticket) (l : Loaded) → same
 none-loaded (gave n) q u l e = refl
 none-loaded (added n w r) q u l e = ap (λ (b : Bool). cond (b && same_ticket u w) (with_rule l r) l) e
 none-loaded (defined n w name xs) q u l e = ap (λ (b : Bool). cond (b && same_ticket u w) (with_table l name (replaced xs)) l) e
+none-loaded (extended n w name xs) q u l e = ap (λ (b : Bool). cond (b && same_ticket u w) (with_entries l name xs) l) e
 none-loaded (switched n) q u l e = refl
 none-loaded (dropped n w) q u l e = refl
 
@@ -150,10 +156,21 @@ no-rule : (l : Loaded) (name : List ℕ) (rows : List PlainEntry) (b : Bool) →
 no-rule l name rows true = sym (append-nil l.rules)
 no-rule l name rows false = sym (append-nil l.rules)
 
+same-rules : (l : Loaded) (name : List ℕ) (xs : List PlainEntry) → (with_entries l name xs).rules ≡ l.rules
+same-rules l name xs = by (find name_order name l.tables) where
+  by : (o : Option (List PlainEntry)) → (option_map_or (λ rows. with_table l name (entries_added rows xs)) o l).rules ≡ l.rules
+  by None = refl
+  by (Some rows) = refl
+
+no-rule-more : (l : Loaded) (name : List ℕ) (xs : List PlainEntry) (b : Bool) → (cond b (with_entries l name xs) l).rules ≡ l.rules ++ []
+no-rule-more l name xs true = same-rules l name xs ∙ sym (append-nil l.rules)
+no-rule-more l name xs false = sym (append-nil l.rules)
+
 loads-rules : (q : RulesetName) (u : Ticket) (l : Loaded) (m : Mention) → (loads q u l m).rules ≡ l.rules ++ rules_added q u m
 loads-rules q u l (gave n) = sym (append-nil l.rules)
 loads-rules q u l (added n w r) = one-rule l r (same_name n q && same_ticket u w)
 loads-rules q u l (defined n w name xs) = no-rule l name (replaced xs) (same_name n q && same_ticket u w)
+loads-rules q u l (extended n w name xs) = no-rule-more l name xs (same_name n q && same_ticket u w)
 loads-rules q u l (switched n) = sym (append-nil l.rules)
 loads-rules q u l (dropped n w) = sym (append-nil l.rules)
 
@@ -169,37 +186,90 @@ offers_the_added epoch ms path u g =
 
 -- ---- the tables that are loaded
 
-chosen : (b : Bool) (o : Option (List PlainEntry)) (rows : List PlainEntry) → cond b (Some rows) o ≡ last_or o (cond b (rows ∷ []) [])
-chosen true o rows = refl
-chosen false o rows = refl
+-- a table that is offered, with more entries
+abbrev more_of : List PlainEntry → Option (List PlainEntry) → Option (List PlainEntry)
+more_of xs o = option_map (λ rows. entries_added rows xs) o
 
-one-table : (l : Loaded) (k name : List ℕ) (rows : List PlainEntry) (b same : Bool) → same_table k name ≡ same → find name_order k (cond b (with_table l name rows) l).tables ≡ last_or (find name_order k l.tables) (cond (b && same) (rows ∷ []) [])
-one-table l k name rows true same h = find-put name_order nat_list_cmp_total k name rows l.tables ∙ ap (λ (c : Bool). cond c (Some rows) (find name_order k l.tables)) h ∙ chosen same (find name_order k l.tables) rows
-one-table l k name rows false same h = refl
+-- the table of these entries, if there are any; else this one
+abbrev made_or : Option (List PlainEntry) → Option (List PlainEntry) → Option (List PlainEntry)
+made_or made o = option_or (option_map (λ xs. replaced xs) made) o
 
-loads-table : (q : RulesetName) (u : Ticket) (l : Loaded) (k : List ℕ) (m : Mention) → find name_order k (loads q u l m).tables ≡ last_or (find name_order k l.tables) (tables_defined q u k m)
-loads-table q u l k (gave n) = refl
-loads-table q u l k (added n w r) = cond_both (same_name n q && same_ticket u w) (with_rule l r) l (λ (new : Loaded). find name_order k new.tables ≡ find name_order k l.tables) (λ e. refl) (λ e. refl)
-loads-table q u l k (defined n w name xs) =
-    one-table l k name (replaced xs) (same_name n q && same_ticket u w) (same_table k name) refl
-loads-table q u l k (switched n) = refl
-loads-table q u l k (dropped n w) = refl
+none-more : (o : Option (List PlainEntry)) → o ≡ more_of [] o
+unfolding entries_added
+none-more None = refl
+none-more (Some rows) = refl
 
-last-append : (o : Option (List PlainEntry)) (xs ys : List (List PlainEntry)) → last_or o (xs ++ ys) ≡ last_or (last_or o xs) ys
-last-append o [] ys = refl
-last-append o (x ∷ xs) ys = last-append (Some x) xs ys
+more-twice : (xs ys : List PlainEntry) (o : Option (List PlainEntry)) → more_of ys (more_of xs o) ≡ more_of (xs ++ ys) o
+unfolding entries_added
+more-twice xs ys None = refl
+more-twice xs ys (Some rows) = ap Some (sym (fold-append with_entry rows xs ys))
 
-table-loaded : (q : RulesetName) (u : Ticket) (l : Loaded) (k : List ℕ) (ms : List Mention) → find name_order k (fold (loads q u) l ms).tables ≡ last_or (find name_order k l.tables) (flat_map (tables_defined q u k) ms)
-table-loaded q u l k [] = refl
+-- under another name a table stays
+put-at : (k name : List ℕ) (rows : List PlainEntry) (ts : List PlainDefinedTable) (same : Bool) → same_table k name ≡ same → find name_order k (put name_order name rows ts) ≡ cond same (Some rows) (find name_order k ts)
+put-at k name rows ts same h = find-put name_order nat_list_cmp_total k name rows ts ∙ ap (λ (c : Bool). cond c (Some rows) (find name_order k ts)) h
+
+defined-at : (l : Loaded) (k name : List ℕ) (xs : List PlainEntry) (b same : Bool) → same_table k name ≡ same → find name_order k (cond b (with_table l name (replaced xs)) l).tables ≡ made_or (cond (b && same) (Some xs) None) (more_of [] (find name_order k l.tables))
+defined-at l k name xs true true h = put-at k name (replaced xs) l.tables true h
+defined-at l k name xs true false h = put-at k name (replaced xs) l.tables false h ∙ none-more (find name_order k l.tables)
+defined-at l k name xs false same h = none-more (find name_order k l.tables)
+
+-- by what is found under the name of an extend
+extended-found : (l : Loaded) (k name : List ℕ) (xs : List PlainEntry) (same : Bool) (o : Option (List PlainEntry)) → same_table k name ≡ same → find name_order name l.tables ≡ o → find name_order k (option_map_or (λ rows. with_table l name (entries_added rows xs)) o l).tables ≡ more_of (cond same xs []) (find name_order k l.tables)
+extended-found l k name xs true None h is =
+    let at : find name_order k l.tables ≡ None = sym (find_tied name_order nat_list_cmp_total k name (equal_of (name_order k name) h) l.tables) ∙ is in at ∙ ap (more_of xs) (sym at)
+extended-found l k name xs false None h is = none-more (find name_order k l.tables)
+extended-found l k name xs true (Some rows) h is =
+    let at : find name_order k l.tables ≡ Some rows = sym (find_tied name_order nat_list_cmp_total k name (equal_of (name_order k name) h) l.tables) ∙ is in
+    put-at k name (entries_added rows xs) l.tables true h ∙ ap (more_of xs) (sym at)
+extended-found l k name xs false (Some rows) h is = put-at k name (entries_added rows xs) l.tables false h ∙ none-more (find name_order k l.tables)
+
+extended-at : (l : Loaded) (k name : List ℕ) (xs : List PlainEntry) (b same : Bool) → same_table k name ≡ same → find name_order k (cond b (with_entries l name xs) l).tables ≡ more_of (cond (b && same) xs []) (find name_order k l.tables)
+extended-at l k name xs true same h = extended-found l k name xs same (find name_order name l.tables) h refl
+extended-at l k name xs false same h = none-more (find name_order k l.tables)
+
+loads-table : (q : RulesetName) (u : Ticket) (l : Loaded) (k : List ℕ) (m : Mention) → find name_order k (loads q u l m).tables ≡ made_or (entries_defined q u k m) (more_of (entries_extended q u k m) (find name_order k l.tables))
+loads-table q u l k (gave n) = none-more (find name_order k l.tables)
+loads-table q u l k (added n w r) = cond_both (same_name n q && same_ticket u w) (with_rule l r) l (λ (new : Loaded). find name_order k new.tables ≡ more_of [] (find name_order k l.tables)) (λ e. none-more (find name_order k l.tables)) (λ e. none-more (find name_order k l.tables))
+loads-table q u l k (defined n w name xs) = defined-at l k name xs (same_name n q && same_ticket u w) (same_table k name) refl
+loads-table q u l k (extended n w name xs) = extended-at l k name xs (same_name n q && same_ticket u w) (same_table k name) refl
+loads-table q u l k (switched n) = none-more (find name_order k l.tables)
+loads-table q u l k (dropped n w) = none-more (find name_order k l.tables)
+
+-- a table made, then extended by these: as if it was made of all; else one that was there, extended by all
+more-made : (made : Option (List PlainEntry)) (xs ys : List PlainEntry) (o : Option (List PlainEntry)) → more_of ys (made_or made (more_of xs o)) ≡ made_or (option_map (λ zs. zs ++ ys) made) (more_of (xs ++ ys) o)
+unfolding entries_added
+more-made None xs ys o = more-twice xs ys o
+more-made (Some zs) xs ys o = ap Some (sym (fold-append with_entry [] zs ys))
+
+made-later : (later made o : Option (List PlainEntry)) → made_or later (made_or made o) ≡ made_or (option_or later made) o
+made-later None made o = refl
+made-later (Some xs) made o = refl
+
+table-loaded : (q : RulesetName) (u : Ticket) (l : Loaded) (k : List ℕ) (ms : List Mention) → find name_order k (fold (loads q u) l ms).tables ≡ made_or (entries_since q u k ms) (more_of (flat_map (entries_extended q u k) ms) (find name_order k l.tables))
+table-loaded q u l k [] = none-more (find name_order k l.tables)
 table-loaded q u l k (m ∷ ms) =
-    table-loaded q u (loads q u l m) k ms ∙ ap (λ (o : Option (List PlainEntry)). last_or o (flat_map (tables_defined q u k) ms)) (loads-table q u l k m)
-    ∙ sym (last-append (find name_order k l.tables) (tables_defined q u k m) (flat_map (tables_defined q u k) ms))
+    let later : Option (List PlainEntry) = entries_since q u k ms in
+    let made : Option (List PlainEntry) = entries_defined q u k m in
+    let here : List PlainEntry = entries_extended q u k m in
+    let more : List PlainEntry = flat_map (entries_extended q u k) ms in
+    let o : Option (List PlainEntry) = find name_order k l.tables in
+    table-loaded q u (loads q u l m) k ms ∙ ap (λ (p : Option (List PlainEntry)). made_or later (more_of more p)) (loads-table q u l k m)
+    ∙ ap (made_or later) (more-made made here more o) ∙ made-later later (option_map (λ zs. zs ++ more) made) (more_of (here ++ more) o)
+
+since-nothing : (made : Option (List PlainEntry)) → made_or made None ≡ option_map (λ xs. replaced xs) made
+since-nothing None = refl
+since-nothing (Some xs) = refl
 
 sorted-on : (q : RulesetName) (u : Ticket) (l : Loaded) (m : Mention) → T (is_sorted name_order l.tables) → T (is_sorted name_order (loads q u l m).tables)
 sorted-on q u l (gave n) s = s
 sorted-on q u l (added n w r) s = cond_both (same_name n q && same_ticket u w) (with_rule l r) l (λ (new : Loaded). T (is_sorted name_order new.tables)) (λ e. s) (λ e. s)
 sorted-on q u l (defined n w name xs) s =
     cond_both (same_name n q && same_ticket u w) (with_table l name (replaced xs)) l (λ (new : Loaded). T (is_sorted name_order new.tables)) (λ e. is_sorted-put name_order nat_list_cmp_total name (replaced xs) l.tables s) (λ e. s)
+sorted-on q u l (extended n w name xs) s =
+    cond_both (same_name n q && same_ticket u w) (with_entries l name xs) l (λ (new : Loaded). T (is_sorted name_order new.tables)) (λ e. by (find name_order name l.tables)) (λ e. s) where
+      by : (o : Option (List PlainEntry)) → T (is_sorted name_order (option_map_or (λ rows. with_table l name (entries_added rows xs)) o l).tables)
+      by None = s
+      by (Some rows) = is_sorted-put name_order nat_list_cmp_total name (entries_added rows xs) l.tables s
 sorted-on q u l (switched n) s = s
 sorted-on q u l (dropped n w) s = s
 
@@ -212,6 +282,6 @@ offers_the_defined epoch ms path u g =
     let q : RulesetName = table_ruleset_at path in
     let is : (loaded (after (fresh epoch) ms) q).tables ≡ (fold (loads q u) nothing g.behind).tables = ap (λ (l : Loaded). l.tables) (given-since (fresh epoch) ms q u g).1 in
     record {
-      last = λ k. ap (find name_order k) is ∙ table-loaded q u nothing k g.behind;
+      last = λ k. ap (find name_order k) is ∙ table-loaded q u nothing k g.behind ∙ since-nothing (entries_since q u k g.behind);
       order = subst (λ (ts : List PlainDefinedTable). T (is_sorted name_order ts)) (sym is) (tables-sorted q u nothing g.behind tt);
     }

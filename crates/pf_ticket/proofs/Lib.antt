@@ -1,6 +1,7 @@
 pub mod Places
 pub mod Offers
 pub mod NamedTables
+pub mod Opposites
 pub mod Moves
 pub mod Voided
 pub mod Latest

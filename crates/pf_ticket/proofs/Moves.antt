@@ -1,7 +1,7 @@
 -- What a mention makes of its ruleset's offer, and that it leaves the others: one law for all mentions, and what follows for lists of them.
 use Rattle.std.proofs.{Common.{◌≡◌, ℕ, ◌+◌, ◌<◌, Bool, true, false, not, cond, ◌&&◌, ◌||◌, List, [], ◌∷◌, ◌++◌, length, map, take, get_or, refl, sym, ap, ◌∙◌, Option, Some, None, is_some, arith}, lemmas.Bool.{or_parts, or_right, cond_both}, lemmas.List.map-id, lemmas.List.Folds.fold-map, lemmas.List.Sums.{fold-append, fold_more}, lemmas.Simd.map-map}
 use Rattle.std.specs.List.{list_any}
-use Rattle.pf_ticket.specs.{declared.{entry.RulesetTicket.RulesetTicket, name.RulesetName.RulesetName, ticket.Ticket.Ticket}, Laws.Tickets.{StartsWithNothing, LeavesTheOthers, CommitTakesOut, RollbackDropsExactly, GoesOnAgreeing, CountsTheOpen}, Mentions.{Mention, gave, added, defined, switched, dropped, named_in, load, with_offers, take_out, moved, after, opened, gives}, Names.{same_name, is_named, is_ticket}, Laws.Names.name_is, Tickets.{Loaded, nothing, with_rule, with_table, offered_as, PlainInactive, PlainSlots, offer_with, offer_at, with_offer, with_all, given_from, PlainTickets, tickets_with, fresh, next_ticket, ticket_in, loaded_in, loaded, is_valid}}
+use Rattle.pf_ticket.specs.{declared.{entry.RulesetTicket.RulesetTicket, name.RulesetName.RulesetName, ticket.Ticket.Ticket}, Laws.Tickets.{StartsWithNothing, LeavesTheOthers, CommitTakesOut, RollbackDropsExactly, GoesOnAgreeing, CountsTheOpen}, Mentions.{Mention, gave, added, defined, extended, switched, dropped, named_in, load, with_offers, take_out, moved, after, opened, gives}, Names.{same_name, is_named, is_ticket}, Laws.Names.name_is, Tickets.{Loaded, nothing, with_rule, with_table, with_entries, offered_as, PlainInactive, PlainSlots, offer_with, offer_at, with_offer, with_all, given_from, PlainTickets, tickets_with, fresh, next_ticket, ticket_in, loaded_in, loaded, is_valid}}
 use Rattle.pf_table.specs.Edits.{replaced}
 use Rattle.pf_ticket.proofs.Offers.{reads_with, named_under, AreInOrder, stays_sorted, distinct, length_with}
 use Rattle.std.proofs.Math.Bool.{or-false}
@@ -15,6 +15,7 @@ abbrev pub made_by : PlainTickets → Mention → Option PlainInactive
 made_by t (gave n) = Some (offer_with (next_ticket t) nothing)
 made_by t (added n u r) = loaded_by t n u (with_rule (loaded t n) r)
 made_by t (defined n u name xs) = loaded_by t n u (with_table (loaded t n) name (replaced xs))
+made_by t (extended n u name xs) = loaded_by t n u (with_entries (loaded t n) name xs)
 made_by t (switched n) = None
 made_by t (dropped n u) = cond (is_valid t n u) None (offer_at t.offers n)
 
@@ -30,6 +31,7 @@ pub reads : (t : PlainTickets) (m : Mention) (q : RulesetName) → offer_at (mov
 reads t (gave n) q = reads_with t.offers n (Some (offer_with (next_ticket t) nothing)) q
 reads t (added n u r) q = reads-load t n u (with_rule (loaded t n) r) q
 reads t (defined n u name xs) q = reads-load t n u (with_table (loaded t n) name (replaced xs)) q
+reads t (extended n u name xs) q = reads-load t n u (with_entries (loaded t n) name xs) q
 reads t (switched n) q = reads_with t.offers n None q
 reads t (dropped n u) q = where-valid t n q (is_valid t n u) (with_offer t.offers n None) None (reads_with t.offers n None q)
 
@@ -82,6 +84,7 @@ epoch-on : (t : PlainTickets) (m : Mention) → (moved t m).epoch ≡ t.epoch
 epoch-on t (gave n) = refl
 epoch-on t (added n u r) = load-keeps t n u (with_rule (loaded t n) r) (λ (s : PlainTickets). s.epoch ≡ t.epoch) (λ os. refl) refl
 epoch-on t (defined n u name xs) = load-keeps t n u (with_table (loaded t n) name (replaced xs)) (λ (s : PlainTickets). s.epoch ≡ t.epoch) (λ os. refl) refl
+epoch-on t (extended n u name xs) = load-keeps t n u (with_entries (loaded t n) name xs) (λ (s : PlainTickets). s.epoch ≡ t.epoch) (λ os. refl) refl
 epoch-on t (switched n) = refl
 epoch-on t (dropped n u) = cond_both (is_valid t n u) (take_out t n) t (λ (s : PlainTickets). s.epoch ≡ t.epoch) (λ e. refl) (λ e. refl)
 
@@ -101,6 +104,7 @@ sorted-on : (t : PlainTickets) (m : Mention) → AreInOrder t.offers → AreInOr
 sorted-on t (gave n) h = stays_sorted t.offers n (Some (offer_with (next_ticket t) nothing)) h
 sorted-on t (added n u r) h = load-keeps t n u (with_rule (loaded t n) r) (λ (s : PlainTickets). AreInOrder s.offers) (λ new. stays_sorted t.offers n (Some new) h) h
 sorted-on t (defined n u name xs) h = load-keeps t n u (with_table (loaded t n) name (replaced xs)) (λ (s : PlainTickets). AreInOrder s.offers) (λ new. stays_sorted t.offers n (Some new) h) h
+sorted-on t (extended n u name xs) h = load-keeps t n u (with_entries (loaded t n) name xs) (λ (s : PlainTickets). AreInOrder s.offers) (λ new. stays_sorted t.offers n (Some new) h) h
 sorted-on t (switched n) h = stays_sorted t.offers n None h
 sorted-on t (dropped n u) h = cond_both (is_valid t n u) (take_out t n) t (λ (s : PlainTickets). AreInOrder s.offers) (λ e. stays_sorted t.offers n None h) (λ e. h)
 

@@ -1,14 +1,15 @@
 -- How many tickets a step gives, and that the limits hold after each step that isn't refused.
 use Rattle.std.proofs.{Common.{◌≡◌, ℕ, ◌+◌, ◌-◌, ◌<◌, ◌≤◌, Bool, true, false, not, cond, List, [], ◌∷◌, ◌++◌, length, refl, sym, ap, ◌∙◌, subst, Option, Some, None, is_some, Result, Ok, Err, arith, length-append}, lemmas.Bool.cond_both, lemmas.Bool.Decides.nat_tests}
-use Rattle.std.specs.{Prelude.{nat_lt, nat_le}, List.{AllByRecursion, slice_get}, FinMap.put as put_entry, FinMap.Entries.by_order}
+use Rattle.std.specs.{Prelude.{nat_lt, nat_le}, List.{AllByRecursion, slice_get}, Option.option_map_or, FinMap.{find, put as put_entry}, FinMap.Entries.by_order, Ordering.is_eq}
 use Rattle.std.specs.declared.cmp.Ordering.TheVariants.{Less, Equal, Greater}
-use Rattle.pf_addr.specs.{Path.Names.name_order, Refusing.{refused_at, both_passed}}
+use Rattle.pf_addr.specs.{Path.Names.name_order, Refusing.{unless, refused_at, both_passed, not_refused}}
 use Rattle.pf_table.specs.declared.limits.TheConstants.{TABLE_LIMIT}
-use Rattle.pf_table.specs.{Edits.{conflict_in, replaced}, Laws.Edits.sorted_added, Entries.PlainEntry, Tables.AreEntries}
+use Rattle.pf_table.specs.{Edits.{conflict_in, added as entries_added, replaced}, Laws.Edits.sorted_added, Entries.PlainEntry, Tables.AreEntries}
 use Rattle.pf_rule.specs.Rules.{PlainRule}
 use Rattle.pf_anchor.specs.declared.limits.TheConstants.{RULE_LIMIT, RULESET_LIMIT}
-use Rattle.pf_ticket.specs.{declared.{entry.RulesetTicket.RulesetTicket, limits.TheConstants.LAST_COUNT, limits.TheConstants.OFFERED_TABLE_LIMIT, name.RulesetKind.RulesetKind, name.RulesetKind.TheVariants.Filter, name.RulesetKind.TheVariants.Table, name.RulesetName.RulesetName, refusal.TicketRefusal.TicketRefusal, refusal.TicketRefusal.TheVariants.BadCount, refusal.TicketRefusal.TheVariants.Conflict, refusal.TicketRefusal.TheVariants.Busy, refusal.TicketRefusal.TheVariants.RulesetFull, refusal.TicketRefusal.TheVariants.TableFull, refusal.TicketRefusal.TheVariants.TooManyRulesets, refusal.TicketRefusal.TheVariants.TooManyTables, refusal.TicketRefusal.TheVariants.TicketsExhausted, ticket.Ticket.Ticket, ticket.TicketRange.TicketRange}, Laws.Tickets.{AreGiven, BeginsGive, TellsWhatIsGiven, IsFew, IsWithin, KeepsTheLimits}, Mentions.{gave, dropped, load, with_offers, take_out, moved, after, gives, switches, drops}, Names.{filter_at, table_ruleset_at, same_name, is_named, is_ticket, tickets_from, tickets_of}, Laws.Names.{names_alike, name_is}, Replies.{bad_count, range, begin_reply}, NamedTables.PlainDefinedTable, Tickets.{Loaded, nothing, with_rule, with_table, offered_as, PlainInactive, PlainSlots, offer_with, offer_at, with_offer, PlainTickets, next_ticket, ticket_in, loaded_in, valid_ticket, loaded, is_valid}}
-use Rattle.pf_ticket.proofs.{NamedTables.put_sorted, Moves.{load-keeps, made_by, reads, leaves_the_others, gives-named}, Offers.{reads_with, length_out, length_replaced}}
+use Rattle.pf_map.proofs.Tests.{same_entry}
+use Rattle.pf_ticket.specs.{declared.{entry.RulesetTicket.RulesetTicket, limits.TheConstants.LAST_COUNT, limits.TheConstants.OFFERED_TABLE_LIMIT, name.RulesetKind.RulesetKind, name.RulesetKind.TheVariants.Filter, name.RulesetKind.TheVariants.Table, name.RulesetName.RulesetName, refusal.TicketRefusal.TicketRefusal, refusal.TicketRefusal.TheVariants.BadCount, refusal.TicketRefusal.TheVariants.Conflict, refusal.TicketRefusal.TheVariants.Busy, refusal.TicketRefusal.TheVariants.Absent, refusal.TicketRefusal.TheVariants.RulesetFull, refusal.TicketRefusal.TheVariants.TableFull, refusal.TicketRefusal.TheVariants.TooManyRulesets, refusal.TicketRefusal.TheVariants.TooManyTables, refusal.TicketRefusal.TheVariants.TicketsExhausted, ticket.Ticket.Ticket, ticket.TicketRange.TicketRange}, Laws.Tickets.{AreGiven, BeginsGive, TellsWhatIsGiven, IsFew, IsWithin, KeepsTheLimits}, Mentions.{gave, dropped, load, with_offers, take_out, moved, after, gives, switches, drops}, Names.{filter_at, table_ruleset_at, same_name, is_named, is_ticket, tickets_from, tickets_of}, Laws.Names.{names_alike, name_is}, Replies.{bad_count, conflict_with, range, begin_reply, growth_check}, NamedTables.PlainDefinedTable, Tickets.{Loaded, nothing, with_rule, with_table, with_entries, offered_as, PlainInactive, PlainSlots, offer_with, offer_at, with_offer, PlainTickets, next_ticket, ticket_in, loaded_in, valid_ticket, loaded, is_valid}}
+use Rattle.pf_ticket.proofs.{NamedTables.{put_sorted, count_with}, Moves.{load-keeps, made_by, reads, leaves_the_others, gives-named}, Offers.{reads_with, length_out, length_replaced}}
 
 -- ---- what stays when offers are taken out
 
@@ -53,6 +54,7 @@ begins_give = record {
   begin = begin-gives;
   add = λ t n u r. load-keeps t n u (with_rule (loaded t n) r) (AreGiven 0 t) (λ new. none-given t (with_offer t.offers n (Some new))) (none-given t t.offers);
   define = λ t n u name xs. load-keeps t n u (with_table (loaded t n) name (replaced xs)) (AreGiven 0 t) (λ new. none-given t (with_offer t.offers n (Some new))) (none-given t t.offers);
+  extend = λ t n u name xs. load-keeps t n u (with_entries (loaded t n) name xs) (AreGiven 0 t) (λ new. none-given t (with_offer t.offers n (Some new))) (none-given t t.offers);
   commit = λ t names. switches-keep (AreGiven 0 t) (λ s n g. record { epoch = g.epoch; next = g.next }) t names (none-given t t.offers);
   rollback = λ t entries. drops-keep (AreGiven 0 t) (λ s n g. record { epoch = g.epoch; next = g.next }) t entries (none-given t t.offers);
 }
@@ -98,6 +100,27 @@ one-table l name new short few old = record {
   entries = rows-put name new l.tables short old.entries;
   order = put_sorted name new l.tables old.order;
 }
+
+-- a table that is offered has few enough entries
+found-short : (name : List ℕ) (ts : List PlainDefinedTable) (rows : List PlainEntry) → AreShortRows ts → find name_order name ts ≡ Some rows → AreEntries rows
+found-short name [] rows all h = absurd (cc (h))
+found-short name (t ∷ ts) rows all h = by (found-short name ts rows all.1) (is_eq (name_order name t.0)) h where
+  by : (find name_order name ts ≡ Some rows → AreEntries rows) → (b : Bool) → cond b (Some t.1) (find name_order name ts) ≡ Some rows → AreEntries rows
+  by later true is = subst AreEntries (same_entry t.1 rows is) all.0
+  by later false is = later is
+
+-- with more entries, if that isn't refused
+more-entries : (l : Loaded) (name : List ℕ) (xs : List PlainEntry) (o : Option (List PlainEntry)) → find name_order name l.tables ≡ o → growth_check o xs ≡ Ok tt → Short Table l → Short Table (option_map_or (λ rows. with_table l name (entries_added rows xs)) o l)
+more-entries l name xs None is h old = absurd (cc (h))
+more-entries l name xs (Some rows) is h old =
+    let new : List PlainEntry = entries_added rows xs in
+    let long : Bool = nat_lt TABLE_LIMIT (length new) in
+    let check : Result (Unit {0}) TicketRefusal = unless long TableFull in
+    let short : long ≡ false = not_refused long TableFull (both_passed (refused_at (λ i. Conflict i) (conflict_with rows xs)) check tt h).second in
+    let there : AreEntries rows = found-short name l.tables rows old.entries is in
+    let as-many : length (put_entry name_order name new l.tables) ≡ length l.tables = count_with name new l.tables old.order ∙ ap (λ (found : Option (List PlainEntry)). cond (is_some found) (length l.tables) (length l.tables + 1)) is in
+    let most = old.tables in
+    one-table l name new (record { sorted = sorted_added rows xs there.sorted; few = grind (arith, nat_tests, short) }) (omega (arith, as-many, most)) old
 
 abbrev IsShort : RulesetKind → Option PlainInactive → Type 0
 IsShort k v = Short k (loaded_in v)
@@ -169,6 +192,12 @@ keeps_the_limits = record {
       let short = fits.0 in
       let few = (not-refused many TooManyTables done tt fits.1).0 in
       within-loaded t n u new (one-table (loaded t n) name rows (record { sorted = sorted_added [] xs tt; few = grind (arith, nat_tests, short) }) (grind (arith, nat_tests, few)) (w.offered n)) w;
+  extend = λ t p u name xs h w.
+      let n : RulesetName = table_ruleset_at p in
+      let l : Loaded = loaded t n in
+      let rest : Result (Unit {0}) TicketRefusal = growth_check (find name_order name l.tables) xs in
+      let passed : cond (not (is_valid t n u)) (Err (Busy 0)) rest ≡ Ok tt = (both_passed (refused_at (λ i. Conflict i) (conflict_in xs)) (cond (not (is_valid t n u)) (Err (Busy 0)) rest) tt h).second in
+      within-loaded t n u (with_entries l name xs) (more-entries l name xs (find name_order name l.tables) refl (not-refused (not (is_valid t n u)) (Busy 0) rest tt passed).1 (w.offered n)) w;
   commit = switches-keep IsWithin within-out;
   rollback = drops-keep IsWithin within-out;
 }

@@ -1,9 +1,9 @@
 -- The open transactions: for each inactive ruleset its valid ticket, and what is offered with it (pf(4), DIOCXBEGIN, DIOCADDRULE,
--- DIOCRINADEFINE).
-use Rattle.std.specs.{Prelude.{◌≡◌, ℕ, ◌+◌, Bool, true, List, [], ◌∷◌, ◌++◌, map, set, get_or, fold, Option, Some, None, is_some}, FinMap.{find, put}, List.{insert, remove}}
+-- DIOCRINADEFINE; that more entries can be offered for a table is this project's own).
+use Rattle.std.specs.{Prelude.{◌≡◌, ℕ, ◌+◌, Bool, true, List, [], ◌∷◌, ◌++◌, map, set, get_or, fold, Option, Some, None, is_some}, FinMap.{find, put}, List.{insert, remove}, Option.option_map_or}
 use Rattle.pf_addr.specs.Path.Names.{name_order}
 use Rattle.pf_rule.specs.Rules.{PlainRule}
-use Rattle.pf_table.specs.Entries.{PlainEntry}
+use Rattle.pf_table.specs.{Entries.PlainEntry, Edits.added}
 use Rattle.pf_map.specs.Maps.{with_value}
 use Rattle.pf_ticket.specs.{declared.{name.RulesetKind.RulesetKind, name.RulesetKind.TheVariants.Filter, name.RulesetKind.TheVariants.Table, name.RulesetName.RulesetName, offered.Offered.Offered, offered.Offered.TheVariants.Rules, offered.Offered.TheVariants.Tables, ticket.Ticket.Ticket}, NamedTables.PlainDefinedTable, Names.{ruleset_order, ticket, is_ticket}}
 
@@ -28,6 +28,10 @@ with_rule l r = loaded_with (l.rules ++ r ∷ []) l.tables
 -- with these entries as the table of that name, in place of any earlier one
 abbrev pub with_table : Loaded → List ℕ → List PlainEntry → Loaded
 with_table l name rows = loaded_with l.rules (put name_order name rows l.tables)
+
+-- with these entries added to the table of that name; as it is if there is none
+abbrev pub with_entries : Loaded → List ℕ → List PlainEntry → Loaded
+with_entries l name xs = option_map_or (λ rows. with_table l name (added rows xs)) (find name_order name l.tables) l
 
 abbrev pub offered_as : RulesetKind → Loaded → Offered
 offered_as Filter l = Rules l.rules

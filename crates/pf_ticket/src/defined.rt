@@ -1,5 +1,5 @@
 //! Tables that are offered.
-ghost use Rattle.std.specs.{Prelude.{◌≡◌, T, [], length, nat_lt, List, IfOk, OnOk, OnErr}, FinMap.{put, is_sorted}};
+ghost use Rattle.std.specs.{Prelude.{◌≡◌, T, [], length, nat_lt, List, IfOk, OnOk, OnErr}, FinMap.{find, put, is_sorted}};
 ghost use Rattle.std.specs.{Iterator.{item_count, YieldsFirstBy}, Option.option_map};
 ghost use Rattle.pf_addr.specs.Path.Names.{name_order};
 ghost use Rattle.pf_map.specs.Maps.{entry_at};
@@ -182,6 +182,13 @@ impl Defined {
         ensures order { T (is_sorted name_order self.now) }
     {
         self.tables.get(name)
+    }
+
+    // The entries that are offered under a name, if it was defined.
+    pub(crate) fn entries_of(&self, name: &TableName) -> Option<&Table>
+        ensures { option_map (λ t. t.now) result ≡ find name_order name.now self.now }
+    {
+        Some(self.get(name)?.table())
     }
 
     // These with one more, in the place of the one of its name. `AllocError`: nothing is left of them.

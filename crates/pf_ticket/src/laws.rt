@@ -31,7 +31,7 @@ pub fn offers_the_added()
     ensures { OffersTheAdded }
 {}
 
-/// Under each name the table of the last define with the valid ticket is offered, and no other table is.
+/// Under each name the table of the last define with the valid ticket and of the extends since is offered, and no other table is.
 pub fn offers_the_defined()
     ensures { OffersTheDefined }
 {}

@@ -3,8 +3,8 @@
 //! It knows the paths and lists of rules of pf_anchor, and pf_table's tables. It doesn't know which rulesets are active, nor commands and
 //! replies: pf_core asks it whether a commit may go on and what is offered, and says which tickets a change voids.
 //!
-//! A begin gives a ruleset a new ticket and clears what is offered for it; with the valid ticket rules are added and tables defined; a
-//! commit takes out what it names, a rollback what it names with a valid ticket. Read specs/Names.antt and specs/Tickets.antt (the open
+//! A begin gives a ruleset a new ticket and clears what is offered for it; with the valid ticket rules are added, and tables defined and
+//! extended; a commit takes out what it names, a rollback what it names with a valid ticket. Read specs/Names.antt and specs/Tickets.antt (the open
 //! transactions as a value) first, then specs/Mentions.antt (what each step leaves of them) and specs/Replies.antt (what each step answers,
 //! and the order of refusals), then specs/Laws/Tickets.antt: over whole histories, which ticket is valid and what is offered with it.
 //!
@@ -13,7 +13,7 @@
 //! ruleset with a ticket, `refusal` and `limits` say why nothing is done, and all of these may use `name` and `ticket`, which use none.
 //!
 //! Proved: what each step answers, refuses and leaves (the contracts of `Tickets`); that a ticket is valid exactly from the begin that gave
-//! it until the next step that touches its ruleset, that what is offered is what was added and defined with it, that each step leaves other
+//! it until the next step that touches its ruleset, that what is offered is what was added, defined and extended with it, that each step leaves other
 //! rulesets alone, that no ticket is given twice, and that the limits hold (`laws`).
 //! Only tests of other crates show that memory runs out only if a growth was refused.
 #![tactic(auto)]

@@ -1,5 +1,6 @@
 //! Slots of inactive rulesets.
-ghost use Rattle.std.specs.Prelude.{◌≡◌, ◌<◌, List, length, nat_lt, IfOk, OnOk, OnErr};
+ghost use Rattle.std.specs.{Prelude.{◌≡◌, ◌<◌, List, length, nat_lt, IfOk, OnOk, OnErr}, FinMap.find, Option.option_map};
+ghost use Rattle.pf_addr.specs.Path.Names.{name_order};
 ghost use Rattle.pf_anchor.specs.declared.limits.TheConstants.{RULE_LIMIT};
 ghost use Rattle.pf_table.specs.Entries.{PlainEntry};
 ghost use Rattle.pf_ticket.specs.declared.limits.TheConstants.{OFFERED_TABLE_LIMIT};
@@ -85,6 +86,13 @@ impl Slot {
         ensures { result ≡ length self.now.1.loaded.rules }
     {
         self.inactive.rules.as_slice().len()
+    }
+
+    // The entries that are offered for the table of a name, if it was defined.
+    pub(crate) fn entries_of(&self, name: &TableName) -> Option<&Table>
+        ensures { option_map (λ t. t.now) result ≡ find name_order name.now self.now.1.loaded.tables }
+    {
+        self.inactive.tables.entries_of(name)
     }
 
     // Whether there would be more tables than allowed, with one of this name.

@@ -1,15 +1,17 @@
 //! The valid tickets, and what is offered with them.
-ghost use Rattle.std.specs.{Prelude.{◌≡◌, ◌<◌, ◌≤◌, ◌+◌, ◌||◌, not, [], IfOk, OnOk, OnErr, IfSome, is_some, length, get_or}, List.list_any};
+ghost use Rattle.std.specs.{Prelude.{◌≡◌, ◌<◌, ◌≤◌, ◌+◌, ◌||◌, not, [], IfOk, OnOk, OnErr, IfSome, Some, None, Ok, is_some, length, get_or, map}, List.{list_any, position}};
+ghost use Rattle.std.specs.{FinMap.find, Option.option_map};
 ghost use Rattle.pf_anchor.specs.declared.limits.TheConstants.{RULE_LIMIT};
-ghost use Rattle.pf_table.specs.Edits.{conflict_in, replaced};
-ghost use Rattle.pf_addr.specs.Refusing.{OrMemory};
+ghost use Rattle.pf_table.specs.Laws.Tables.{is_deleted};
+ghost use Rattle.pf_table.specs.Edits.{conflict_in, replaced, added as entries_added};
+ghost use Rattle.pf_addr.specs.{Path.Names.name_order, Refusing.{OrMemory, Meets}};
 ghost use Rattle.pf_ticket.specs.declared.limits.TheConstants.{LAST_COUNT};
 ghost use Rattle.pf_ticket.specs.declared.refusal.TicketRefusal.TheVariants.{Memory};
-ghost use Rattle.pf_ticket.specs.Mentions.{added, defined, load, moved, take_out, after, gives, switches, drops};
+ghost use Rattle.pf_ticket.specs.Mentions.{added, defined, extended, load, moved, take_out, after, gives, switches, drops};
 ghost use Rattle.pf_ticket.specs.Names.{filter_at, table_ruleset_at, is_named, same_name};
 ghost use Rattle.pf_ticket.specs.Replies.{bad_count, twice_behind, twice_in, busy_in, list_check, commit_check, begin_reply, add_reply};
-ghost use Rattle.pf_ticket.specs.Replies.{table_reply, define_reply};
-ghost use Rattle.pf_ticket.specs.Tickets.{PlainInactive, offer_at, loaded, with_rule, with_table, given_from, IsPlace, fresh, tickets_with};
+ghost use Rattle.pf_ticket.specs.Replies.{table_reply, define_reply, opposite, conflict_with, growth_check, extend_reply};
+ghost use Rattle.pf_ticket.specs.Tickets.{PlainInactive, offer_at, loaded, with_rule, with_table, with_entries, given_from, IsPlace, fresh, tickets_with};
 ghost use Rattle.pf_ticket.specs.Tickets.{content, is_valid};
 
 use crate::entry::RulesetTicket;
@@ -23,7 +25,7 @@ use crate::ticket::{Ticket, TicketRange};
 use pf_addr::path::TableName;
 use pf_anchor::{Path, RULE_LIMIT, RULESET_LIMIT};
 use pf_rule::Rule;
-use pf_table::{Table, TableRefusal};
+use pf_table::{Deletion, Entry, Table, TableRefusal};
 use std::alloc::{AllocError, Global};
 use std::marker::Model;
 
@@ -114,7 +116,7 @@ fn is_new(slots: &Slots, before: &[RulesetName], name: &RulesetName) -> bool
 }
 
 // The table that entries make; `None` if it would have too many. `Conflict` is at the first that contradicts an earlier one.
-fn table_of(alloc: Global, entries: &[pf_table::Entry]) -> Result<Option<Table>, TicketRefusal>
+fn table_of(alloc: Global, entries: &[Entry]) -> Result<Option<Table>, TicketRefusal>
     ensures { OrMemory Memory result (table_reply (conflict_in entries.now) (replaced entries.now)) }
 {
     let mut table = Table::empty();
@@ -124,6 +126,57 @@ fn table_of(alloc: Global, entries: &[pf_table::Entry]) -> Result<Option<Table>,
         Err(TableRefusal::TableFull) => Ok(None),
         Err(TableRefusal::Memory) => Err(TicketRefusal::Memory),
     }
+}
+
+// The entries with their signs exchanged.
+fn opposites(alloc: Global, entries: &[Entry]) -> Result<Vec<Entry>, AllocError>
+    ensures { IfOk result (λ v. v.items ≡ map opposite entries.now) }
+{
+    let mut opposites = Vec::with_capacity(alloc, entries.len())?;
+    for entry in entries {
+        opposites.push(Entry::new(entry.net(), !entry.is_negated()))?;
+    }
+    Ok(opposites)
+}
+
+// The place of the first entry that was deleted.
+fn first_deleted(answers: &[Deletion]) -> Option<usize>
+    ensures { result ≡ position is_deleted answers.now }
+{
+    answers
+        .iter()
+        .position(|answer| *answer == Deletion::Deleted)
+}
+
+// The place of the first of these entries whose network a table has with the other sign. What is answered if their opposites are deleted
+// from a copy tells which of them it has.
+#[tactic(auto, using(crate::proofs::Opposites::as_many_conflicts, crate::proofs::Opposites::first_deleted))]
+fn conflict_with(
+    alloc: Global,
+    table: &Table,
+    entries: &[Entry],
+) -> Result<Option<usize>, TicketRefusal>
+    requires { conflict_in entries.now ≡ None }
+    ensures { OrMemory Memory result (Ok (conflict_with table.now entries.now)) }
+{
+    let opposites = opposites(alloc, entries)?;
+    let mut copy = table.shared()?;
+    let answers = copy.delete(alloc, opposites.as_slice())?;
+    Ok(first_deleted(answers.as_slice()))
+}
+
+// A table with more entries, of which none contradicts another. `Conflict` is at the first that contradicts one of the table's.
+fn table_with(alloc: Global, table: &Table, entries: &[Entry]) -> Result<Table, TicketRefusal>
+    requires { conflict_in entries.now ≡ None }
+    ensures refused { Meets Memory result (growth_check (Some table.now) entries.now) }
+    ensures table { IfOk result (λ t. t ≡ entries_added table.now entries.now) }
+{
+    if let Some(at) = conflict_with(alloc, table, entries)? {
+        return Err(TicketRefusal::Conflict { at });
+    }
+    let mut grown = table.shared()?;
+    grown.add(alloc, entries)?;
+    Ok(grown)
 }
 
 impl Tickets {
@@ -234,6 +287,36 @@ impl Tickets {
             .define(self.alloc, name, place, table_name, table)
     }
 
+    // The entries that are offered for a table of the ruleset whose offer is at this place, if the table was defined.
+    fn entries_of(&self, name: &RulesetName, place: usize, table_name: &TableName) -> Option<&Table>
+        requires within { place < length self.now.offers }
+        requires stands { IsPlace name.now self.now.offers place }
+        ensures { option_map (λ t. t.now) result ≡ find name_order table_name.now (loaded self.now name.now).tables }
+    {
+        self.slots.at(place).entries_of(table_name)
+    }
+
+    // The table of a name with more entries, of which none contradicts another, for the ruleset whose offer is at this place.
+    fn grown_table(
+        &self,
+        name: &RulesetName,
+        place: usize,
+        table_name: &TableName,
+        entries: &[Entry],
+    ) -> Result<Table, TicketRefusal>
+        requires within { place < length self.now.offers }
+        requires stands { IsPlace name.now self.now.offers place }
+        requires agree { conflict_in entries.now ≡ None }
+        ensures refused { Meets Memory result (growth_check (find name_order table_name.now (loaded self.now name.now).tables) entries.now) }
+        ensures table { IfOk result (λ rows. with_entries (loaded self.now name.now) table_name.now entries.now
+            ≡ with_table (loaded self.now name.now) table_name.now rows) }
+    {
+        match self.entries_of(name, place, table_name) {
+            Some(table) => table_with(self.alloc, table, entries),
+            None => Err(TicketRefusal::Absent),
+        }
+    }
+
     // The slots of these rulesets in turn, with the next tickets. `AllocError`: nothing is made.
     fn new_slots(&self, names: &[RulesetName]) -> Result<Vec<Slot>, AllocError>
         requires { self.now.next + length names.now ≤ LAST_COUNT + 1 }
@@ -321,7 +404,7 @@ impl Tickets {
         path: &Path,
         ticket: Ticket,
         name: &TableName,
-        entries: &[pf_table::Entry],
+        entries: &[Entry],
     ) -> Result<(), TicketRefusal>
         ensures reply { OrMemory Memory result (define_reply self.old (table_ruleset_at path.now) ticket name.now entries.now) }
         ensures ok { OnOk result (self.new ≡ moved self.old (defined (table_ruleset_at path.now) ticket name.now entries.now)) }
@@ -339,6 +422,33 @@ impl Tickets {
             return Err(TicketRefusal::TooManyTables);
         }
         self.set_table(&owner, place, name, table)?;
+        Ok(())
+    }
+
+    /// Adds entries to those of one table that is offered with a valid ticket. An entry that is offered already stays as it is.
+    ///
+    /// The refusal is the first in this order: `Conflict`, if entries contradict one another; `Busy` at 0; `Absent`, if the table wasn't
+    /// defined with this ticket; `Conflict`, if an entry contradicts one that is offered; `TableFull`. `Memory` may come before any of them.
+    /// After a refusal all is as before.
+    pub fn extend_table(
+        &mut self,
+        path: &Path,
+        ticket: Ticket,
+        name: &TableName,
+        entries: &[Entry],
+    ) -> Result<(), TicketRefusal>
+        ensures reply { OrMemory Memory result (extend_reply self.old (table_ruleset_at path.now) ticket name.now entries.now) }
+        ensures ok { OnOk result (self.new ≡ moved self.old (extended (table_ruleset_at path.now) ticket name.now entries.now)) }
+        ensures err { OnErr result (self.new ≡ self.old) }
+    {
+        // for a conflict among them, which comes before the ticket's fault
+        table_of(self.alloc, entries)?;
+        let ruleset = RulesetName::table(path);
+        let Some(place) = self.valid_place(&ruleset, ticket) else {
+            return Err(TicketRefusal::Busy { at: 0 });
+        };
+        let grown = self.grown_table(&ruleset, place, name, entries)?;
+        self.set_table(&ruleset, place, name, grown)?;
         Ok(())
     }
 

@@ -8,7 +8,7 @@ use pf_anchor::Path;
 use pf_core::{Command, EntryList, TableEdit, Transaction};
 use pf_line::write_reply;
 use pf_table::{Entry, TABLE_LIMIT};
-use pf_ticket::{RulesetName, RulesetNames, Ticket};
+use pf_ticket::{RulesetName, RulesetNames, RulesetTicket, RulesetTickets, Ticket};
 use pfd::{Book, Chapter, HISTORY_LIMIT, MemDisk, Opening, open_fresh};
 use std::alloc::Global;
 use std::marker::Brand;
@@ -25,6 +25,8 @@ enum Deed {
     /// Gives the first ticket, under which they can be offered.
     Begin,
     Define,
+    Extend,
+    Commit,
     Set,
     Add,
     Delete,
@@ -59,6 +61,22 @@ const OFFERED: &[Row] = &[
     (Deed::Define, TABLE_LIMIT, "ok\n"),
 ];
 
+const EXTENDED: &[Row] = &[
+    (Deed::Begin, 0, "ok 1.1\n"),
+    (Deed::Extend, 1, "err absent\n"),
+    (Deed::Define, 1, "ok\n"),
+    (Deed::Extend, 0, "ok\n"),
+    (Deed::Extend, TABLE_LIMIT + 1, "err table\n"),
+    (Deed::Extend, TABLE_LIMIT, "ok\n"),
+    (Deed::Extend, TABLE_LIMIT + 1, "err table\n"),
+    (Deed::Commit, 0, "applied 1\n"),
+    (
+        Deed::Add,
+        TABLE_LIMIT,
+        "applied 2 added 0 same 65536 conflict 0\n",
+    ),
+];
+
 fn networks(alloc: Global, count: usize) -> Result<EntryList, Fail> {
     let mut entries = Vec::with_capacity(alloc, count)?;
     for number in (0..u32::MAX).take(count) {
@@ -74,7 +92,23 @@ fn main_tables(alloc: Global) -> Result<RulesetNames, Fail> {
     Ok(RulesetNames::new(names))
 }
 
-fn command(deed: Deed, name: TableName, entries: EntryList, tables: RulesetNames) -> Command {
+/// The first ticket, as one for these tables.
+fn first_ticket(alloc: Global) -> Result<RulesetTickets, Fail> {
+    let mut tickets = Vec::new(alloc);
+    tickets.push(RulesetTicket {
+        name: RulesetName::table(&Path::main()),
+        ticket: Ticket { epoch: 1, count: 1 },
+    })?;
+    Ok(RulesetTickets::new(tickets))
+}
+
+fn command(
+    deed: Deed,
+    name: TableName,
+    entries: EntryList,
+    tables: RulesetNames,
+    tickets: RulesetTickets,
+) -> Command {
     let path = Path::main();
     let ticket = Ticket { epoch: 1, count: 1 };
     match deed {
@@ -85,6 +119,13 @@ fn command(deed: Deed, name: TableName, entries: EntryList, tables: RulesetNames
             name,
             entries,
         }),
+        Deed::Extend => Command::Transact(Transaction::Extend {
+            path,
+            ticket,
+            name,
+            entries,
+        }),
+        Deed::Commit => Command::Transact(Transaction::Commit(tickets)),
         Deed::Set => Command::Edit(TableEdit::Set {
             path,
             name,
@@ -108,7 +149,8 @@ fn command_of(alloc: Global, deed: Deed, count: usize) -> Result<Command, Fail> 
     let name = TableName::from_ascii(b"banned")?;
     let entries = networks(alloc, count)?;
     let tables = main_tables(alloc)?;
-    Ok(command(deed, name, entries, tables))
+    let tickets = first_ticket(alloc)?;
+    Ok(command(deed, name, entries, tables, tickets))
 }
 
 // It borrows the Book, so that it needn't drop it wherever it may fail.
@@ -149,7 +191,7 @@ fn opened(alloc: Global) -> Result<Opening<MemDisk>, Fail> {
 
 #[test]
 fn lists_have_any_number_of_entries(rt: HostRuntime) -> Result<(), Fail> {
-    for rows in [WITHOUT_ENTRIES, FULL, OFFERED] {
+    for rows in [WITHOUT_ENTRIES, FULL, OFFERED, EXTENDED] {
         play::<Brand, _>(&rt, rt.alloc(), opened(rt.alloc())?, rows)?;
     }
     Ok(())

@@ -4,8 +4,8 @@ use Rattle.std.proofs.Common.{refl, sym, ap, subst, ◌∙◌}
 use Rattle.pf_addr.specs.Refusing.{unless}
 use Rattle.pf_table.specs.Edits.{added, additions, deletions, conflict_behind}
 use Rattle.pf_anchor.specs.declared.{limits.TheConstants.TABLE_COUNT_LIMIT, verdict.RuleVerdict.RuleVerdict}
-use Rattle.pf_ticket.specs.{declared.{entry.RulesetTicket.RulesetTicket, name.RulesetKind.RulesetKind, name.RulesetKind.TheVariants.Filter, name.RulesetKind.TheVariants.Table, name.RulesetName.RulesetName, refusal.TicketRefusal.TicketRefusal}, Names.{filter_at, table_ruleset_at, names_of}, Laws.Names.{filter_is, table_is}, Mentions.switches, Replies.{begin_reply, add_reply, define_reply, list_check, commit_check}, Tickets.{PlainTickets, Loaded, offered_as, loaded, content}}
-use Rattle.pf_core.specs.{declared.{command.Command.Command, command.Command.TheVariants.Transact, command.Command.TheVariants.Edit, command.Command.TheVariants.States as OfStates, command.Command.TheVariants.Ask, command.Command.TheVariants.History, command.HistoryCommand.HistoryCommand, durable.refusal.ChangeRefusal.ChangeRefusal, durable.verdict.Verdict.Verdict, durable.verdict.Verdict.TheVariants.State as Stateful, durable.verdict.Verdict.TheVariants.Rules as ByRules, command.StateCommand.StateCommand, command.StateCommand.TheVariants.Track, command.StateCommand.TheVariants.Peer, command.StateCommand.TheVariants.Kill as KillState, command.StateCommand.TheVariants.Expire as ExpireStates, command.TableEdit.TableEdit, command.TableEdit.TheVariants.Add as AddTo, command.TableEdit.TheVariants.Delete, command.TableEdit.TheVariants.Set, command.TableEdit.TheVariants.Kill, command.Transaction.TheVariants.Begin, command.Transaction.TheVariants.Add, command.Transaction.TheVariants.Define, command.Transaction.TheVariants.Commit, command.Transaction.TheVariants.Rollback, reply.Answer.Answer, reply.Outcome.Outcome, reply.Outcome.TheVariants.Committed, reply.Refusal.Refusal, durable.refusal.ChangeRefusal.TheVariants.TooManyTables, durable.refusal.ChangeRefusal.TheVariants.BadTick, reply.Refusal.TheVariants.BadTick as NoTick, step.Step.Step, step.Step.TheVariants.Done, step.Step.TheVariants.Wants, step.Step.TheVariants.OfHistory}, Commands.{unless_refused, unless_unfit, if_there, is_table, item_of, items, wanting, commit_step, added_of, deleted_of, edit_step, makes_state, tracked, judge_step, is_past, expiry_of, track_step, steps_here, states_step, step_by, mentioned, edits_in_memory, is_done, changes_states_in_memory, takes_memory}, Durable.Changes.{PlainDurable, PlainChange, commits, adds, deletes, sets, acts, removes, expires, entries_at, with_entries, name_of, voided_by, no_conflict, fits, verdict}}
+use Rattle.pf_ticket.specs.{declared.{entry.RulesetTicket.RulesetTicket, name.RulesetKind.RulesetKind, name.RulesetKind.TheVariants.Filter, name.RulesetKind.TheVariants.Table, name.RulesetName.RulesetName, refusal.TicketRefusal.TicketRefusal}, Names.{filter_at, table_ruleset_at, names_of}, Laws.Names.{filter_is, table_is}, Mentions.switches, Replies.{begin_reply, add_reply, define_reply, extend_reply, list_check, commit_check}, Tickets.{PlainTickets, Loaded, offered_as, loaded, content}}
+use Rattle.pf_core.specs.{declared.{command.Command.Command, command.Command.TheVariants.Transact, command.Command.TheVariants.Edit, command.Command.TheVariants.States as OfStates, command.Command.TheVariants.Ask, command.Command.TheVariants.History, command.HistoryCommand.HistoryCommand, durable.refusal.ChangeRefusal.ChangeRefusal, durable.verdict.Verdict.Verdict, durable.verdict.Verdict.TheVariants.State as Stateful, durable.verdict.Verdict.TheVariants.Rules as ByRules, command.StateCommand.StateCommand, command.StateCommand.TheVariants.Track, command.StateCommand.TheVariants.Peer, command.StateCommand.TheVariants.Kill as KillState, command.StateCommand.TheVariants.Expire as ExpireStates, command.TableEdit.TableEdit, command.TableEdit.TheVariants.Add as AddTo, command.TableEdit.TheVariants.Delete, command.TableEdit.TheVariants.Set, command.TableEdit.TheVariants.Kill, command.Transaction.TheVariants.Begin, command.Transaction.TheVariants.Add, command.Transaction.TheVariants.Define, command.Transaction.TheVariants.Extend, command.Transaction.TheVariants.Commit, command.Transaction.TheVariants.Rollback, reply.Answer.Answer, reply.Outcome.Outcome, reply.Outcome.TheVariants.Committed, reply.Refusal.Refusal, durable.refusal.ChangeRefusal.TheVariants.TooManyTables, durable.refusal.ChangeRefusal.TheVariants.BadTick, reply.Refusal.TheVariants.BadTick as NoTick, step.Step.Step, step.Step.TheVariants.Done, step.Step.TheVariants.Wants, step.Step.TheVariants.OfHistory}, Commands.{unless_refused, unless_unfit, if_there, is_table, item_of, items, wanting, commit_step, added_of, deleted_of, edit_step, makes_state, tracked, judge_step, is_past, expiry_of, track_step, steps_here, states_step, step_by, mentioned, edits_in_memory, is_done, changes_states_in_memory, takes_memory}, Durable.Changes.{PlainDurable, PlainChange, commits, adds, deletes, sets, acts, removes, expires, entries_at, with_entries, name_of, voided_by, no_conflict, fits, verdict}}
 use Rattle.pf_rule.specs.Packets.{PlainPacket}
 use Rattle.pf_state.specs.{declared.{state.Bound.Bound, state.StateName.StateName, step.StateStep.StateStep as StateStep}, Flows.flow_of, States.{PlainState, held_at}, Steps.{counts, due_count}}
 use Rattle.pf_state.specs.declared.step.StateStep.TheVariants as step
@@ -215,6 +215,7 @@ pub wants : (t : PlainTickets) (d : PlainDurable) (c : Command) (e : PlainChange
 wants t d (Transact (Begin names)) e o h = absurd (none-wanted (begin_reply t names) (λ range. answer.Given range) e o h)
 wants t d (Transact (Add p u r)) e o h = absurd (none-wanted (add_reply t (filter_at p) u) (λ _. answer.Done) e o h)
 wants t d (Transact (Define p u name xs)) e o h = absurd (none-wanted (define_reply t (table_ruleset_at p) u name xs) (λ _. answer.Done) e o h)
+wants t d (Transact (Extend p u name xs)) e o h = absurd (none-wanted (extend_reply t (table_ruleset_at p) u name xs) (λ _. answer.Done) e o h)
 wants t d (Transact (Commit entries)) e o h =
     this-wanted d (Transact (Commit entries)) (commits (items (content t) entries)) e (wants_commit t d entries e o h).this refl (ap switches (sym (names-items t entries)))
 wants t d (Transact (Rollback entries)) e o h = absurd (none-wanted (list_check entries) (λ _. answer.Done) e o h)
@@ -285,6 +286,7 @@ pub left_is : (t : PlainTickets) (d : PlainDurable) (c : Command) (x : HistoryCo
 left_is t d (Transact (Begin names)) x h = absurd (never-left (begin_reply t names) (λ range. answer.Given range) x h)
 left_is t d (Transact (Add p u r)) x h = absurd (never-left (add_reply t (filter_at p) u) (λ _. answer.Done) x h)
 left_is t d (Transact (Define p u name xs)) x h = absurd (never-left (define_reply t (table_ruleset_at p) u name xs) (λ _. answer.Done) x h)
+left_is t d (Transact (Extend p u name xs)) x h = absurd (never-left (extend_reply t (table_ruleset_at p) u name xs) (λ _. answer.Done) x h)
 left_is t d (Transact (Commit entries)) x h = absurd (never-committed (commit_check t entries) d (commits (items (content t) entries)) outcome.Committed (OfHistory x) (history-is-none x) h)
 left_is t d (Transact (Rollback entries)) x h = absurd (never-left (list_check entries) (λ _. answer.Done) x h)
 left_is t d (Edit edit) x h = absurd (never-edited d edit (OfHistory x) (history-is-none x) h)

@@ -1,10 +1,10 @@
 -- What follows from the definitions; the contracts of law functions say that it holds.
-use Rattle.std.specs.{Prelude.{◌≡◌, T, ℕ, ◌+◌, ◌≤◌, ◌&&◌, Bool, true, false, cond, List, [], ◌∷◌, ◌++◌, length, map, flat_map, is_some, Some, None, Ok}, FinMap.{find, is_sorted}, List.{AllByRecursion, list_any, slice_get, last_or}}
+use Rattle.std.specs.{Prelude.{◌≡◌, T, ℕ, ◌+◌, ◌≤◌, ◌&&◌, Bool, true, false, cond, List, [], ◌∷◌, ◌++◌, length, map, flat_map, is_some, option_map, Option, Some, None, Ok}, FinMap.{find, is_sorted}, List.{AllByRecursion, list_any, slice_get}, Option.option_or}
 use Rattle.pf_addr.specs.Path.Names.{name_order, same_name as same_table}
 use Rattle.pf_table.specs.{Edits.replaced, Entries.PlainEntry, Tables.AreEntries}
 use Rattle.pf_rule.specs.Rules.{PlainRule}
 use Rattle.pf_anchor.specs.declared.limits.TheConstants.{RULE_LIMIT, RULESET_LIMIT}
-use Rattle.pf_ticket.specs.{declared.{entry.RulesetTicket.RulesetTicket, limits.TheConstants.LAST_COUNT, limits.TheConstants.OFFERED_TABLE_LIMIT, offered.Offered.Offered, name.RulesetName.RulesetName, ticket.Ticket.Ticket, ticket.TicketRange.TicketRange}, Names.{filter_at, table_ruleset_at, same_name, same_ticket, is_named, names_of, tickets_from, tickets_of, IsDistinct}, NamedTables.PlainDefinedTable, Tickets.{nothing_for, rules_in, tables_in, offer_at, PlainTickets, fresh, next_ticket, open_rulesets, valid_ticket, content, is_valid}, Mentions.{Mention, gave, added, defined, switched, dropped, named_in, moved, after, opened, gives, switches, drops}, Replies.{twice_in, begin_reply, add_reply, define_reply}}
+use Rattle.pf_ticket.specs.{declared.{entry.RulesetTicket.RulesetTicket, limits.TheConstants.LAST_COUNT, limits.TheConstants.OFFERED_TABLE_LIMIT, offered.Offered.Offered, name.RulesetName.RulesetName, ticket.Ticket.Ticket, ticket.TicketRange.TicketRange}, Names.{filter_at, table_ruleset_at, same_name, same_ticket, is_named, names_of, tickets_from, tickets_of, IsDistinct}, NamedTables.PlainDefinedTable, Tickets.{nothing_for, rules_in, tables_in, offer_at, PlainTickets, fresh, next_ticket, open_rulesets, valid_ticket, content, is_valid}, Mentions.{Mention, gave, added, defined, extended, switched, dropped, named_in, moved, after, opened, gives, switches, drops}, Replies.{twice_in, begin_reply, add_reply, define_reply, extend_reply}}
 
 -- ---- which ticket is valid, and what is offered with it
 
@@ -13,6 +13,7 @@ abbrev pub touches : RulesetName → Ticket → Mention → Bool
 touches name t (gave n) = same_name n name
 touches name t (added n u r) = false
 touches name t (defined n u table xs) = false
+touches name t (extended n u table xs) = false
 touches name t (switched n) = same_name n name
 touches name t (dropped n u) = same_name n name && same_ticket t u
 
@@ -54,19 +55,30 @@ abbrev pub OffersTheAdded : Type 0
 OffersTheAdded = (epoch : ℕ) (ms : List Mention) (path : List ℕ) (t : Ticket) → (given : IsGivenLast (fresh epoch) ms (filter_at path) t) →
     rules_in (content (opened epoch ms) (filter_at path)) ≡ flat_map (rules_added (filter_at path) t) given.behind
 
--- the tables that a mention defines under a name, for a ruleset with a ticket: one, or none
-abbrev pub tables_defined : RulesetName → Ticket → List ℕ → Mention → List (List PlainEntry)
-tables_defined name t table (defined n u other xs) =
-    cond (same_name n name && same_ticket t u && same_table table other) (replaced xs ∷ []) []
-tables_defined name t table m = []
+-- the entries with which a mention defines a table, for a ruleset with a ticket; none if it doesn't define it
+abbrev pub entries_defined : RulesetName → Ticket → List ℕ → Mention → Option (List PlainEntry)
+entries_defined name t table (defined n u other xs) = cond (same_name n name && same_ticket t u && same_table table other) (Some xs) None
+entries_defined name t table m = None
 
--- under each name there is the table of the last of these mentions that defines one, and none if none does; the tables are in the order of
--- their names, each name once
+-- the entries by which a mention extends it
+abbrev pub entries_extended : RulesetName → Ticket → List ℕ → Mention → List PlainEntry
+entries_extended name t table (extended n u other xs) = cond (same_name n name && same_ticket t u && same_table table other) xs []
+entries_extended name t table m = []
+
+-- the entries of the last of these mentions that defines the table, and of those behind it that extend it; none if none defines it
+abbrev pub entries_since : RulesetName → Ticket → List ℕ → List Mention → Option (List PlainEntry)
+entries_since name t table [] = None
+entries_since name t table (m ∷ ms) = option_or (entries_since name t table ms)
+    (option_map (λ xs. xs ++ flat_map (entries_extended name t table) ms) (entries_defined name t table m))
+
+-- under each name there is the table of the entries of the last of these mentions that defines one and of the extends since, and none if
+-- none defines one; the tables are in the order of their names, each name once
 pub record AreDefined (name : RulesetName) (t : Ticket) (ms : List Mention) (tables : List PlainDefinedTable) : Type 0 where
-  pub last : (table : List ℕ) → find name_order table tables ≡ last_or None (flat_map (tables_defined name t table) ms)
+  pub last : (table : List ℕ) → find name_order table tables ≡ option_map (λ xs. replaced xs) (entries_since name t table ms)
   pub order : T (is_sorted name_order tables)
 
--- under each name the table of the last accepted define with the valid ticket is offered, and no other table is
+-- under each name the table of the last accepted define with the valid ticket and of the accepted extends since is offered, and no other
+-- table is
 abbrev pub OffersTheDefined : Type 0
 OffersTheDefined = (epoch : ℕ) (ms : List Mention) (path : List ℕ) (t : Ticket) →
     (given : IsGivenLast (fresh epoch) ms (table_ruleset_at path) t) →
@@ -139,6 +151,7 @@ pub record BeginsGive : Type 0 where
   pub begin : (t : PlainTickets) (names : List RulesetName) → AreGiven (length names) t (after t (gives names))
   pub add : (t : PlainTickets) (n : RulesetName) (u : Ticket) (r : PlainRule) → AreGiven 0 t (moved t (added n u r))
   pub define : (t : PlainTickets) (n : RulesetName) (u : Ticket) (name : List ℕ) (xs : List PlainEntry) → AreGiven 0 t (moved t (defined n u name xs))
+  pub extend : (t : PlainTickets) (n : RulesetName) (u : Ticket) (name : List ℕ) (xs : List PlainEntry) → AreGiven 0 t (moved t (extended n u name xs))
   pub commit : (t : PlainTickets) (names : List RulesetName) → AreGiven 0 t (after t (switches names))
   pub rollback : (t : PlainTickets) (entries : List RulesetTicket) → AreGiven 0 t (after t (drops entries))
 
@@ -166,6 +179,8 @@ pub record KeepsTheLimits : Type 0 where
       IsWithin (moved t (added (filter_at p) u r))
   pub define : (t : PlainTickets) (p : List ℕ) (u : Ticket) (name : List ℕ) (xs : List PlainEntry) →
       define_reply t (table_ruleset_at p) u name xs ≡ Ok tt → IsWithin t → IsWithin (moved t (defined (table_ruleset_at p) u name xs))
+  pub extend : (t : PlainTickets) (p : List ℕ) (u : Ticket) (name : List ℕ) (xs : List PlainEntry) →
+      extend_reply t (table_ruleset_at p) u name xs ≡ Ok tt → IsWithin t → IsWithin (moved t (extended (table_ruleset_at p) u name xs))
   pub commit : (t : PlainTickets) (names : List RulesetName) → IsWithin t → IsWithin (after t (switches names))
   pub rollback : (t : PlainTickets) (entries : List RulesetTicket) → IsWithin t → IsWithin (after t (drops entries))
 
