@@ -40,7 +40,7 @@ enum {
     WIRDALF_CORRUPT = 3,  /* what begins at a place of the bytes can't have been left there */
     WIRDALF_MEMORY = 4,   /* out of memory */
     WIRDALF_REFUSED = 5,  /* a line that pfd refuses */
-    WIRDALF_UNFIT = 6     /* a line that is another command than begin, add, define, commit and tset */
+    WIRDALF_UNFIT = 6     /* a line that is another command than begin, add, define, extend, commit and tset */
 };
 
 /* Values of fields. */
@@ -102,9 +102,9 @@ struct wirdalf_fault {
  * place is written, from 0. Unless it returns WIRDALF_OK, the configuration is as it was. */
 uint32_t wirdalf_read(const uint8_t *bytes, size_t length, struct wirdalf *config, uint64_t *place);
 
-/* What lines make of nothing, each done in turn as pfd run does it: begin, add, define, commit and tset, comments and empty lines. They may
- * be any bytes. The first line to which pfd wouldn't reply ok or applied is WIRDALF_REFUSED, and another command is WIRDALF_UNFIT: then
- * nothing is made, the configuration is as it was, and the fault is written. At WIRDALF_MEMORY the fault has no meaning. */
+/* What lines make of nothing, each done in turn as pfd run does it: begin, add, define, extend, commit and tset, comments and empty
+ * lines. They may be any bytes. The first line to which pfd wouldn't reply ok or applied is WIRDALF_REFUSED, and another command is
+ * WIRDALF_UNFIT: then nothing is made, the configuration is as it was, and the fault is written. At WIRDALF_MEMORY the fault has no meaning. */
 uint32_t wirdalf_lines(const uint8_t *text, size_t length, struct wirdalf *config, struct wirdalf_fault *fault);
 
 /* The same once more, for another thread: what it holds is shared. WIRDALF_OK or WIRDALF_MEMORY. */

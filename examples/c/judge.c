@@ -4,7 +4,7 @@
  *
  *     in em0 6 10.0.0.1 1234 192.0.2.1 80
  *
- * judge -l FILE: the same by a file of lines as pfd run takes them: begin, add, define, commit and tset.
+ * judge -l FILE: the same by a file of lines as pfd run takes them: begin, add, define, extend, commit and tset.
  */
 #include <arpa/inet.h>
 #include <fcntl.h>

@@ -187,11 +187,11 @@ offers_the_added epoch ms path u g =
 -- ---- the tables that are loaded
 
 -- a table that is offered, with more entries
-abbrev more_of : List PlainEntry → Option (List PlainEntry) → Option (List PlainEntry)
+abbrev pub more_of : List PlainEntry → Option (List PlainEntry) → Option (List PlainEntry)
 more_of xs o = option_map (λ rows. entries_added rows xs) o
 
 -- the table of these entries, if there are any; else this one
-abbrev made_or : Option (List PlainEntry) → Option (List PlainEntry) → Option (List PlainEntry)
+abbrev pub made_or : Option (List PlainEntry) → Option (List PlainEntry) → Option (List PlainEntry)
 made_or made o = option_or (option_map (λ xs. replaced xs) made) o
 
 none-more : (o : Option (List PlainEntry)) → o ≡ more_of [] o
@@ -208,7 +208,7 @@ more-twice xs ys (Some rows) = ap Some (sym (fold-append with_entry rows xs ys))
 put-at : (k name : List ℕ) (rows : List PlainEntry) (ts : List PlainDefinedTable) (same : Bool) → same_table k name ≡ same → find name_order k (put name_order name rows ts) ≡ cond same (Some rows) (find name_order k ts)
 put-at k name rows ts same h = find-put name_order nat_list_cmp_total k name rows ts ∙ ap (λ (c : Bool). cond c (Some rows) (find name_order k ts)) h
 
-defined-at : (l : Loaded) (k name : List ℕ) (xs : List PlainEntry) (b same : Bool) → same_table k name ≡ same → find name_order k (cond b (with_table l name (replaced xs)) l).tables ≡ made_or (cond (b && same) (Some xs) None) (more_of [] (find name_order k l.tables))
+pub defined-at : (l : Loaded) (k name : List ℕ) (xs : List PlainEntry) (b same : Bool) → same_table k name ≡ same → find name_order k (cond b (with_table l name (replaced xs)) l).tables ≡ made_or (cond (b && same) (Some xs) None) (more_of [] (find name_order k l.tables))
 defined-at l k name xs true true h = put-at k name (replaced xs) l.tables true h
 defined-at l k name xs true false h = put-at k name (replaced xs) l.tables false h ∙ none-more (find name_order k l.tables)
 defined-at l k name xs false same h = none-more (find name_order k l.tables)
@@ -223,7 +223,7 @@ extended-found l k name xs true (Some rows) h is =
     put-at k name (entries_added rows xs) l.tables true h ∙ ap (more_of xs) (sym at)
 extended-found l k name xs false (Some rows) h is = put-at k name (entries_added rows xs) l.tables false h ∙ none-more (find name_order k l.tables)
 
-extended-at : (l : Loaded) (k name : List ℕ) (xs : List PlainEntry) (b same : Bool) → same_table k name ≡ same → find name_order k (cond b (with_entries l name xs) l).tables ≡ more_of (cond (b && same) xs []) (find name_order k l.tables)
+pub extended-at : (l : Loaded) (k name : List ℕ) (xs : List PlainEntry) (b same : Bool) → same_table k name ≡ same → find name_order k (cond b (with_entries l name xs) l).tables ≡ more_of (cond (b && same) xs []) (find name_order k l.tables)
 extended-at l k name xs true same h = extended-found l k name xs same (find name_order name l.tables) h refl
 extended-at l k name xs false same h = none-more (find name_order k l.tables)
 

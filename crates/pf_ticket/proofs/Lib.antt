@@ -5,5 +5,6 @@ pub mod Opposites
 pub mod Moves
 pub mod Voided
 pub mod Latest
+pub mod OfferedEntries
 pub mod TicketLimits
 pub mod Twice

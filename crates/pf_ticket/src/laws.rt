@@ -4,7 +4,7 @@ ghost use Rattle.pf_ticket.specs.declared.limits.TheConstants.{ENTRY_LIMIT, OFFE
 ghost use Rattle.pf_ticket.specs.Laws.Tickets.{ValidIsGivenLast, GivenLastIsValid, StartsWithNothing, OffersTheAdded, OffersTheDefined};
 ghost use Rattle.pf_ticket.specs.Laws.Tickets.{LeavesTheOthers, CommitTakesOut, RollbackDropsExactly, GoesOnAgreeing, CountsTheOpen};
 ghost use Rattle.pf_ticket.specs.Laws.Tickets.{BeginsGive, TellsWhatIsGiven, GivesEachOnce, KeepsTheLimits, AreApart, TwiceIsFirstAgain};
-ghost use Rattle.pf_ticket.specs.Laws.Tickets.{OtherwiseOnce};
+ghost use Rattle.pf_ticket.specs.Laws.Tickets.{OffersEachEntry, OtherwiseOnce};
 
 /// A list has at most 64 entries, at most 1,024 tables are offered with a ticket, and 4,294,967,295 is the last count.
 pub fn the_limits_of_transactions()
@@ -34,6 +34,12 @@ pub fn offers_the_added()
 /// Under each name the table of the last define with the valid ticket and of the extends since is offered, and no other table is.
 pub fn offers_the_defined()
     ensures { OffersTheDefined }
+{}
+
+/// After an accepted define exactly its entries are offered for its table; after an accepted extend its entries and those that were offered.
+#[tactic(auto, using(crate::proofs::OfferedEntries::offers_each_entry))]
+pub fn offers_each_entry()
+    ensures { OffersEachEntry }
 {}
 
 /// What a step mentions leaves the valid tickets of the rulesets that it doesn't name, and what is offered with them.

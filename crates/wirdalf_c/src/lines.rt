@@ -30,7 +30,7 @@ pub struct LineFault {
 }
 
 /// What is kept after these lines, each done in turn as `pfd` does it, from nothing on. The commands of which configurations are made are
-/// `begin`, `add`, `define`, `commit` and `tset`; another is `Unfit`.
+/// `begin`, `add`, `define`, `extend`, `commit` and `tset`; another is `Unfit`.
 pub fn read_lines(alloc: Global, text: &[u8]) -> Result<Box<Durable>, LineFault>
     ensures made { IfOk result (λ held. AreMade text.now (Ok held.value)) }
     ensures refused { IfErr result (λ fault. AreMade text.now (Err fault)) }

@@ -1,7 +1,7 @@
 -- What follows from the definitions; the contracts of law functions say that it holds.
-use Rattle.std.specs.{Prelude.{◌≡◌, T, ℕ, ◌+◌, ◌≤◌, ◌&&◌, Bool, true, false, cond, List, [], ◌∷◌, ◌++◌, length, map, flat_map, is_some, option_map, Option, Some, None, Ok}, FinMap.{find, is_sorted}, List.{AllByRecursion, list_any, slice_get}, Option.option_or}
+use Rattle.std.specs.{Prelude.{◌≡◌, T, ℕ, ◌+◌, ◌≤◌, ◌&&◌, ◌||◌, Bool, true, false, cond, List, [], ◌∷◌, ◌++◌, length, map, flat_map, is_some, option_map, Option, Some, None, Ok}, FinMap.{find, is_sorted}, List.{AllByRecursion, list_any, slice_get}, Option.{option_or, option_map_or}}
 use Rattle.pf_addr.specs.Path.Names.{name_order, same_name as same_table}
-use Rattle.pf_table.specs.{Edits.replaced, Entries.PlainEntry, Tables.AreEntries}
+use Rattle.pf_table.specs.{Edits.{replaced, has_entry, same_entry}, Entries.PlainEntry, Tables.AreEntries}
 use Rattle.pf_rule.specs.Rules.{PlainRule}
 use Rattle.pf_anchor.specs.declared.limits.TheConstants.{RULE_LIMIT, RULESET_LIMIT}
 use Rattle.pf_ticket.specs.{declared.{entry.RulesetTicket.RulesetTicket, limits.TheConstants.LAST_COUNT, limits.TheConstants.OFFERED_TABLE_LIMIT, offered.Offered.Offered, name.RulesetName.RulesetName, ticket.Ticket.Ticket, ticket.TicketRange.TicketRange}, Names.{filter_at, table_ruleset_at, same_name, same_ticket, is_named, names_of, tickets_from, tickets_of, IsDistinct}, NamedTables.PlainDefinedTable, Tickets.{nothing_for, rules_in, tables_in, offer_at, PlainTickets, fresh, next_ticket, open_rulesets, valid_ticket, content, is_valid}, Mentions.{Mention, gave, added, defined, extended, switched, dropped, named_in, moved, after, opened, gives, switches, drops}, Replies.{twice_in, begin_reply, add_reply, define_reply, extend_reply}}
@@ -83,6 +83,21 @@ abbrev pub OffersTheDefined : Type 0
 OffersTheDefined = (epoch : ℕ) (ms : List Mention) (path : List ℕ) (t : Ticket) →
     (given : IsGivenLast (fresh epoch) ms (table_ruleset_at path) t) →
     AreDefined (table_ruleset_at path) t given.behind (tables_in (content (opened epoch ms) (table_ruleset_at path)))
+
+-- whether an entry is offered with its sign for a table of a ruleset
+abbrev pub is_offered : PlainTickets → RulesetName → List ℕ → PlainEntry → Bool
+is_offered t name table x = option_map_or (λ rows. has_entry rows x) (find name_order table (tables_in (content t name))) false
+
+-- An accepted define offers its entries for its table, and no others; an accepted extend offers its entries and those that were offered, and
+-- no others.
+pub record OffersEachEntry : Type 0 where
+  pub define : (t : PlainTickets) (p : List ℕ) (u : Ticket) (table : List ℕ) (xs : List PlainEntry) (x : PlainEntry) →
+      define_reply t (table_ruleset_at p) u table xs ≡ Ok tt →
+      is_offered (moved t (defined (table_ruleset_at p) u table xs)) (table_ruleset_at p) table x ≡ list_any (same_entry x) xs
+  pub extend : (t : PlainTickets) (p : List ℕ) (u : Ticket) (table : List ℕ) (xs : List PlainEntry) (x : PlainEntry) →
+      extend_reply t (table_ruleset_at p) u table xs ≡ Ok tt →
+      is_offered (moved t (extended (table_ruleset_at p) u table xs)) (table_ruleset_at p) table x
+      ≡ (is_offered t (table_ruleset_at p) table x || list_any (same_entry x) xs)
 
 -- a mention leaves the offers of the rulesets that it doesn't name
 abbrev pub LeavesTheOthers : Type 0
