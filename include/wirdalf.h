@@ -104,7 +104,8 @@ uint32_t wirdalf_read(const uint8_t *bytes, size_t length, struct wirdalf *confi
 
 /* What lines make of nothing, each done in turn as pfd run does it: begin, add, define, extend, commit and tset, comments and empty
  * lines. They may be any bytes. The first line to which pfd wouldn't reply ok or applied is WIRDALF_REFUSED, and another command is
- * WIRDALF_UNFIT: then nothing is made, the configuration is as it was, and the fault is written. At WIRDALF_MEMORY the fault has no meaning. */
+ * WIRDALF_UNFIT: then nothing is made, the configuration is as it was, and the fault is written. At WIRDALF_MEMORY the fault has no
+ * meaning. */
 uint32_t wirdalf_lines(const uint8_t *text, size_t length, struct wirdalf *config, struct wirdalf_fault *fault);
 
 /* The same once more, for another thread: what it holds is shared. WIRDALF_OK or WIRDALF_MEMORY. */
