@@ -1,5 +1,5 @@
 -- What an accepted define or extend offers for its table, entry by entry.
-use Rattle.std.proofs.{Common.{◌≡◌, ℕ, ◌<◌, Bool, true, false, not, cond, ◌||◌, List, [], ◌∷◌, length, nat_lt, Option, Some, None, option_map, Result, Ok, Err, refl, sym, ap, ◌∙◌, arith}, lemmas.Bool.or_parts, lemmas.Bool.Decides.nat_tests}
+use Rattle.std.proofs.{Common.{◌≡◌, ℕ, ◌+◌, ◌<◌, Bool, true, false, not, cond, ◌||◌, List, [], ◌∷◌, length, nat_lt, Option, Some, None, option_map, Result, Ok, Err, refl, sym, ap, ◌∙◌, arith}, lemmas.Bool.or_parts, lemmas.Bool.Decides.nat_tests}
 use Rattle.std.specs.{Bool.beq, Cmp.eq_by_cmp_equiv, Cmp.Lexicographic.nat_list_cmp_total, FinMap.find, FinMap.Entries.find_tied, List.{list_any, position, position_or_len}, Option.{option_map_or, option_or}, Ordering.eq_by_cmp}
 use Rattle.pf_addr.specs.{Path.Names.{name_order, same_name as same_table}, NetOrder.net_order, Laws.NetOrder.net_total, Refusing.{unless, refused_at, both_passed}}
 use Rattle.pf_map.proofs.Tests.{equal_of}
@@ -31,10 +31,10 @@ made-has xs x agree = ap (is_sign x.1) (sign_added [] xs x.0) ∙ sym (any_is_si
 
 none-found : (p : PlainEntry → Bool) (xs : List PlainEntry) → nat_lt (position_or_len p xs) (length xs) ≡ false → list_any p xs ≡ false
 none-found p [] h = refl
-none-found p (x ∷ xs) h = by (p x) h where
-  by : (b : Bool) → nat_lt (cond (not b) (1 + position_or_len p xs) 0) (length (x ∷ xs)) ≡ false → (b || list_any p xs) ≡ false
-  by true at = absurd (grind (arith, nat_tests, at))
-  by false at = none-found p xs (grind (arith, nat_tests, at))
+none-found p (x ∷ xs) h = by (p x) (none-found p xs) h where
+  by : (b : Bool) → (nat_lt (position_or_len p xs) (length xs) ≡ false → list_any p xs ≡ false) → nat_lt (cond (not b) (1 + position_or_len p xs) 0) (length (x ∷ xs)) ≡ false → (b || list_any p xs) ≡ false
+  by true rest at = absurd (grind (arith, nat_tests, at))
+  by false rest at = rest (grind (arith, nat_tests, at))
 
 not-placed : (b : Bool) (i : ℕ) → cond b (Some i) None ≡ None → b ≡ false
 not-placed true i h = absurd (cc (h))
@@ -45,31 +45,28 @@ none-opposite rows xs h = none-found (λ x. has_entry rows (opposite x)) xs (not
 
 -- two signs that aren't equal are opposite
 turned : (a b : Bool) → beq a b ≡ false → beq (not a) b ≡ true
-turned true true h = h
+turned true true h = sym h
 turned true false h = refl
 turned false true h = refl
-turned false false h = h
+turned false false h = sym h
 
 -- an entry isn't in a list of which none contradicts a table that has its network with the other sign
 not-named : (rows xs : List PlainEntry) (x : PlainEntry) (s : Bool) → sign_of x.0 rows ≡ Some s → beq x.1 s ≡ false → list_any (λ y. has_entry rows (opposite y)) xs ≡ false → list_any (same_entry x) xs ≡ false
 not-named rows [] x s at other none = refl
-not-named rows (y ∷ ys) x s at other none = by (eq_by_cmp net_order x.0 y.0) refl (beq x.1 y.1) refl where
-  rest : list_any (same_entry x) ys ≡ false
-  rest = not-named rows ys x s at other (or_parts _ _ none).1
+not-named rows (y ∷ ys) x s at other none = by (eq_by_cmp net_order x.0 y.0) refl (beq x.1 y.1) refl (not-named rows ys x s at other (or_parts _ _ none).1) where
+  both : (a b t : Bool) → beq a t ≡ false → beq (not b) t ≡ false → beq a b ≡ true → true ≡ false
+  both true true t p q r = sym (turned true t p) ∙ q
+  both true false t p q r = sym r
+  both false true t p q r = sym r
+  both false false t p q r = sym (turned false t p) ∙ q
 
-  signs : (a b t : Bool) → beq a t ≡ false → beq (not b) t ≡ false → beq a b ≡ true → true ≡ false
-  signs true true t p q r = sym (turned true t p) ∙ q
-  signs true false t p q r = sym r
-  signs false true t p q r = sym r
-  signs false false t p q r = sym (turned false t p) ∙ q
-
-  by : (t : Bool) → eq_by_cmp net_order x.0 y.0 ≡ t → (b : Bool) → beq x.1 y.1 ≡ b → list_any (same_entry x) (y ∷ ys) ≡ false
-  by true tied true same =
-      let there : sign_of y.0 rows ≡ Some s = sym (find_tied net_order net_total x.0 y.0 (equal_of (net_order x.0 y.0) tied) rows) ∙ at in
-      let turned-there : beq (not y.1) s ≡ false = ap (is_sign (not y.1)) (sym there) ∙ (or_parts _ _ none).0 in
-      absurd (cc (signs x.1 y.1 s other turned-there same))
-  by true tied false same = rw (tied, same) rest
-  by false tied b same = rw tied rest
+  by : (t : Bool) → eq_by_cmp net_order x.0 y.0 ≡ t → (b : Bool) → beq x.1 y.1 ≡ b → list_any (same_entry x) ys ≡ false → list_any (same_entry x) (y ∷ ys) ≡ false
+  by true tied true same rest =
+      let there : sign_of y.0 rows ≡ Some s = find_tied net_order net_total x.0 y.0 (equal_of (net_order x.0 y.0) tied) rows ∙ at in
+      let apart : beq (not y.1) s ≡ false = ap (is_sign (not y.1)) (sym there) ∙ (or_parts _ _ none).0 in
+      absurd (cc (both x.1 y.1 s other apart same))
+  by true tied false same rest = rw (tied, same) rest
+  by false tied b same rest = rw tied rest
 
 -- a table with more entries has its own and those
 grown-has : (rows xs : List PlainEntry) (x : PlainEntry) → conflict_in xs ≡ None → conflict_with rows xs ≡ None → has_entry (entries_added rows xs) x ≡ (has_entry rows x || list_any (same_entry x) xs)
