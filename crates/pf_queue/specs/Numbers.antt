@@ -21,6 +21,11 @@ noted_at log number = slice_get log number
 abbrev pub IsNumbered : {E : Type 0} → List E → ℕ → E → Type 0
 IsNumbered log number entry = noted_at log number ≡ Some entry
 
+-- a number, and a beginning of the register in which a job has it
+pub record PlainNumber (E : Type 0) : Type 0 where
+  pub number : ℕ
+  pub log : List E
+
 -- a job that waits, with its number and a beginning of the register that has it
 pub record PlainWaiting (J E : Type 0) : Type 0 where
   pub job : J

@@ -19,9 +19,9 @@ impl<K: Numbering, B: RunsTogether> Model for Ready<K, B> {
 
     ghost Value = { PlainReady B.Entry B.Answer };
 
-    ghost view = { λ r. record { number = r.number.number; log = r.number.seen.log; answer = r.answer } };
+    ghost view = { λ r. record { number = r.number.number; log = r.number.log; answer = r.answer } };
 
-    ghost invariant = { λ r. (entry : B.Entry) × IsNumbered r.number.seen.log r.number.number entry × B.Answers entry r.answer };
+    ghost invariant = { λ r. (entry : B.Entry) × IsNumbered r.number.log r.number.number entry × B.Answers entry r.answer };
 }
 
 impl<K: Numbering, B: RunsTogether> Drop for Ready<K, B> {
@@ -36,7 +36,7 @@ impl<K: Numbering, B: RunsTogether> Drop for Ready<K, B> {
 impl<K: Numbering, B: RunsTogether> Ready<K, B> {
     // The answer, if it has this number. It has: nothing else is put into the number's slot.
     fn answer_to(self, number: &Number<K, B>) -> Option<B::Answer>
-        ensures { IfSome result (λ a. (entry : B.Entry) → IsNumbered number.now.seen.log number.now.number entry → B.Answers entry a) }
+        ensures { IfSome result (λ a. (entry : B.Entry) → IsNumbered number.now.log number.now.number entry → B.Answers entry a) }
     {
         let Self {
             number: other,
@@ -73,7 +73,7 @@ impl<K: Numbering, B: RunsTogether> Slot<K, B> {
 
     /// Takes the answer to the job of this number, if it is there.
     pub(crate) fn take<W: Wait>(&self, rt: &W, number: &Number<K, B>) -> Option<B::Answer>
-        ensures { IfSome result (λ a. (entry : B.Entry) → IsNumbered number.now.seen.log number.now.number entry → B.Answers entry a) }
+        ensures { IfSome result (λ a. (entry : B.Entry) → IsNumbered number.now.log number.now.number entry → B.Answers entry a) }
     {
         let ready = self.cell.lock(rt).take()?;
         ready.answer_to(number)
@@ -95,7 +95,7 @@ impl<K: Numbering, B: RunsTogether> Place<K, B> {
 
     /// Puts the answer into the slot.
     pub(crate) fn put<W: Wait>(self, rt: &W, answer: B::Answer)
-        requires { (entry : B.Entry) × IsNumbered self.number.seen.log self.number.number entry × B.Answers entry answer }
+        requires { (entry : B.Entry) × IsNumbered self.number.log self.number.number entry × B.Answers entry answer }
     {
         let Place { number, slot } = self;
         *slot.cell.lock(rt) = Some(Ready { number, answer });

@@ -20,7 +20,7 @@ fn put_all<K: Numbering, B: RunsTogether, W: Wait>(
     answers: Vec<B::Answer>,
 )
     requires each { vec_len places ≡ vec_len answers }
-    requires answered { AreAnswers B.Answers (λ p. noted_at p.number.seen.log p.number.number) places.items answers.items }
+    requires answered { AreAnswers B.Answers (λ p. noted_at p.number.log p.number.number) places.items answers.items }
 {
     let mut places = places.into_iter();
     let mut answers = answers.into_iter();
@@ -51,7 +51,7 @@ fn run_each<K: Numbering, B: RunsTogether, W: Wait>(
     jobs: Vec<B::Job>,
     places: Vec<Place<K, B>>,
 )
-    requires { map (λ p. noted_at p.number.seen.log p.number.number) places.items ≡ map (λ j. Some (B.entry j)) jobs.items }
+    requires { map (λ p. noted_at p.number.log p.number.number) places.items ≡ map (λ j. Some (B.entry j)) jobs.items }
 {
     let mut places = places.into_iter();
     let mut jobs = jobs.into_iter();
@@ -75,7 +75,7 @@ fn run_all<K: Numbering, B: RunsTogether, W: Wait>(
     places: Vec<Place<K, B>>,
 )
     requires few { vec_len jobs ≤ MOST }
-    requires numbered { map (λ p. noted_at p.number.seen.log p.number.number) places.items ≡ map (λ j. Some (B.entry j)) jobs.items }
+    requires numbered { map (λ p. noted_at p.number.log p.number.number) places.items ≡ map (λ j. Some (B.entry j)) jobs.items }
 {
     // one alone is run as if nobody else were there
     if jobs.len() < 2 {
@@ -211,7 +211,7 @@ impl<K: Numbering, B: RunsTogether> Queue<K, B> {
 
     // Waits for the answer to a job that was handed in, and leads where nobody does.
     fn wait<W: Wait>(&self, rt: &W, number: &Number<K, B>, mine: &Slot<K, B>) -> B::Answer
-        ensures { (entry : B.Entry) → IsNumbered number.now.seen.log number.now.number entry → B.Answers entry result }
+        ensures { (entry : B.Entry) → IsNumbered number.now.log number.now.number entry → B.Answers entry result }
     {
         for _ in rt.forever() {
             if let Some(answer) = self.look(rt, number, mine) {
@@ -224,7 +224,7 @@ impl<K: Numbering, B: RunsTogether> Queue<K, B> {
 
     // Waits until the answer is there; or, with `None`, until nobody leads: then the caller does.
     fn look<W: Wait>(&self, rt: &W, number: &Number<K, B>, mine: &Slot<K, B>) -> Option<B::Answer>
-        ensures { IfSome result (λ a. (entry : B.Entry) → IsNumbered number.now.seen.log number.now.number entry → B.Answers entry a) }
+        ensures { IfSome result (λ a. (entry : B.Entry) → IsNumbered number.now.log number.now.number entry → B.Answers entry a) }
     {
         let mut line = self.line.lock(rt);
         for _ in rt.forever() {

@@ -119,8 +119,18 @@ pub(crate) struct Register<K: Numbering, B: RunsTogether> {
     head: Word<B::Entry, u64, Counts>,
     seen: Seen<B::Entry, u64, Counts>,
     of: PhantomData<K>,
-    ghost head_is: { head ≡ head_of K.register },
-    ghost seen_is: { seen.book ≡ K.register },
+}
+
+impl<K: Numbering, B: RunsTogether> Model for Register<K, B> {
+    ghost use Rattle.std.specs.Prelude.{◌≡◌};
+    ghost use Rattle.logbook.specs.Pages.{Book};
+    ghost use Rattle.pf_queue.specs.Numbers.{head_of};
+
+    ghost Value = { Book };
+
+    ghost view = { λ r. r.seen.book };
+
+    ghost invariant = { λ r. (r.head ≡ head_of K.register) × (r.seen.book ≡ K.register) };
 }
 
 impl<K: Numbering, B: RunsTogether> Drop for Register<K, B> {
@@ -138,7 +148,17 @@ pub(crate) struct Number<K: Numbering, B: RunsTogether> {
     number: u64,
     seen: Seen<B::Entry, u64, Counts>,
     of: PhantomData<K>,
-    ghost seen_is: { seen.book ≡ K.register },
+}
+
+impl<K: Numbering, B: RunsTogether> Model for Number<K, B> {
+    ghost use Rattle.std.specs.Prelude.{◌≡◌};
+    ghost use Rattle.pf_queue.specs.Numbers.{PlainNumber};
+
+    ghost Value = { PlainNumber B.Entry };
+
+    ghost view = { λ n. record { number = n.number; log = n.seen.log } };
+
+    ghost invariant = { λ n. n.seen.book ≡ K.register };
 }
 
 impl<K: Numbering, B: RunsTogether> Drop for Number<K, B> {
@@ -167,7 +187,7 @@ impl<K: Numbering, B: RunsTogether> Register<K, B> {
     /// Adds a job under this number. `None`: the number isn't the next one.
     pub(crate) fn add(&self, number: u64, job: &B::Job) -> Option<Number<K, B>>
         requires { number < 2 ^ 62 }
-        ensures { IfSome result (λ n. IsNumbered n.seen.log n.number (B.entry job.now)) }
+        ensures { IfSome result (λ n. IsNumbered n.log n.number (B.entry job.now)) }
     {
         let mut seen = self.seen.again();
         let mut offer: Offer<B::Entry, u64, Counts, NoGain> = seen.plain::<
@@ -206,8 +226,7 @@ impl<K: Numbering, B: RunsTogether> Number<K, B> {
 
     /// The same number once more.
     pub(crate) fn again(&self) -> Number<K, B>
-        ensures number { result.number ≡ self.now.number }
-        ensures log { result.seen.log ≡ self.now.seen.log }
+        ensures { result ≡ self.now }
     {
         Number {
             number: self.number,
@@ -219,7 +238,7 @@ impl<K: Numbering, B: RunsTogether> Number<K, B> {
     /// Two that are equal are of one job.
     pub(crate) fn agrees(&self, other: &Number<K, B>)
         requires { self.now.number ≡ other.now.number }
-        ensures { (x y : B.Entry) → IsNumbered self.now.seen.log self.now.number x → IsNumbered other.now.seen.log other.now.number y → x ≡ y }
+        ensures { (x y : B.Entry) → IsNumbered self.now.log self.now.number x → IsNumbered other.now.log other.now.number y → x ≡ y }
     {
         let mut both = self.seen.again();
         both.learn(&other.seen);

@@ -26,9 +26,9 @@ impl<K: Numbering, B: RunsTogether> Model for Waiting<K, B> {
 
     ghost Value = { PlainWaiting B.Job B.Entry };
 
-    ghost view = { λ w. record { job = w.job; number = w.place.number.number; log = w.place.number.seen.log } };
+    ghost view = { λ w. record { job = w.job; number = w.place.number.number; log = w.place.number.log } };
 
-    ghost invariant = { λ w. IsNumbered w.place.number.seen.log w.place.number.number (B.entry w.job) };
+    ghost invariant = { λ w. IsNumbered w.place.number.log w.place.number.number (B.entry w.job) };
 }
 
 /// A caller that waits for its turn: its number, and how many jobs were handed in before it.
@@ -77,7 +77,7 @@ impl<K: Numbering, B: RunsTogether> Line<K, B> {
         job: B::Job,
         slot: Slot<K, B>,
     ) -> Result<Number<K, B>, B::Job>
-        ensures numbered { IfOk result (λ n. IsNumbered n.seen.log n.number (B.entry job)) }
+        ensures numbered { IfOk result (λ n. IsNumbered n.log n.number (B.entry job)) }
         ensures waits { IfOk result (λ n. map (λ w. w.job) self.new.jobs.items ≡ map (λ w. w.job) self.old.jobs.items ++ job ∷ []) }
         ensures back { IfErr result (λ left. left ≡ job) }
         ensures same { IfErr result (λ left. self.new.jobs.items ≡ self.old.jobs.items) }
@@ -163,7 +163,7 @@ impl<K: Numbering, B: RunsTogether> Line<K, B> {
         requires empty { (jobs.old.items ≡ []) × (places.old.items ≡ []) }
         requires room { (MOST ≤ vec_capacity jobs.old) × (MOST ≤ vec_capacity places.old) }
         ensures few { vec_len jobs.new ≤ MOST }
-        ensures numbered { map (λ p. noted_at p.number.seen.log p.number.number) places.new.items ≡ map (λ j. Some (B.entry j)) jobs.new.items }
+        ensures numbered { map (λ p. noted_at p.number.log p.number.number) places.new.items ≡ map (λ j. Some (B.entry j)) jobs.new.items }
         ensures all { map (λ w. w.job) self.old.jobs.items ≡ jobs.new.items ++ map (λ w. w.job) self.new.jobs.items }
     {
         let count = self.ready().min(MOST);

@@ -6,7 +6,7 @@ use Rattle.pf_queue.proofs.queue.put_all.Given as goal
 abbrev pub invariant-loop-place : goal.invariant-loop-place
 invariant-loop-place g l = record {
   each : into_iter_len l.places ≡ into_iter_len l.answers;
-  answered : AreAnswers g.B.RunsTogether.Answers (λ p. noted_at p.number.seen.log p.number.number) (into_iter_items l.places) (into_iter_items l.answers);
+  answered : AreAnswers g.B.RunsTogether.Answers (λ p. noted_at p.number.log p.number.number) (into_iter_items l.places) (into_iter_items l.answers);
 }
 
 abbrev pub decreases-loop-place : goal.decreases-loop-place

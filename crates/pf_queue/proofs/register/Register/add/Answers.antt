@@ -4,8 +4,8 @@ use Rattle.pf_queue.proofs.register.Register.add.Goals as goal
 
 pub compare_exchange-found-requires : goal.compare_exchange-found-requires
 compare_exchange-found-requires g c =
-    let h = c.args.self.now.head_is in
-    let same = ap (λ s. s.book) c.again-seen.ensures ∙ c.args.self.now.seen_is ∙ sym (ap (λ w. w.book) h) in
+    let h = c.self.invariant.0 in
+    let same = ap (λ s. s.book) c.again-seen.ensures ∙ c.self.invariant.1 ∙ sym (ap (λ w. w.book) h) in
     let offer = c.plain-offer.ensures in
     let pen = c.no_pen-pen.ensures in (
       ap (λ w. w.tracked) h,

@@ -8,6 +8,6 @@ invariant-loop-i g l = record {
   places : vec_len l.places ≡ l._i;
   job_room : 64 ≤ vec_capacity l.jobs;
   place_room : 64 ≤ vec_capacity l.places;
-  numbered : map (λ p. noted_at p.number.seen.log p.number.number) l.places.items ≡ map (λ j. Some (g.B.RunsTogether.entry j)) l.jobs.items;
+  numbered : map (λ p. noted_at p.number.log p.number.number) l.places.items ≡ map (λ j. Some (g.B.RunsTogether.entry j)) l.jobs.items;
   all : map (λ w. w.job) l.initial.self.jobs.items ≡ l.jobs.items ++ map (λ w. w.job) l.self.jobs.items;
 }
