@@ -2,7 +2,7 @@
 ghost use Rattle.std.specs.Prelude.{◌≡◌, ◌⊎◌, IfErr};
 
 use crate::accepting::{Accept, Acceptor};
-use pf_book::{Chapter, Disk, Seer, Shared};
+use pf_book::{Chapter, Disk, Numbering, Seer, Shared};
 use pf_session::{EngineFault, Gate, serve, serve_peer};
 use std::alloc::Global;
 use std::io::{self, BufWriter, ErrorKind, Read};
@@ -67,7 +67,7 @@ fn drop_rest(stream: &TcpStream) {
 }
 
 // Serves a connection to its end.
-fn serve_connection<W: Wait, D: Disk + Drop, J: Chapter, H: Wait + Drop, G: Gate>(
+fn serve_connection<W: Wait, D: Disk + Drop, J: Chapter + Numbering, H: Wait + Drop, G: Gate>(
     rt: &W,
     alloc: Global,
     stream: &TcpStream,
@@ -119,13 +119,13 @@ trait ServeConnection<J: Chapter> {
 
 /// What serves connections by one Book. Workers needn't name a device, nor what waits.
 #[derive(Clone, Copy)]
-struct Server<'a, W: Wait, D: Disk + Drop, J: Chapter, H: Wait + Drop, G: Gate> {
+struct Server<'a, W: Wait, D: Disk + Drop, J: Chapter + Numbering, H: Wait + Drop, G: Gate> {
     rt: &'a W,
     shared: &'a Shared<D, J, H>,
     gate: &'a G,
 }
 
-impl<'a, W: Wait, D: Disk + Drop, J: Chapter, H: Wait + Drop, G: Gate> ServeConnection<J>
+impl<'a, W: Wait, D: Disk + Drop, J: Chapter + Numbering, H: Wait + Drop, G: Gate> ServeConnection<J>
     for Server<'a, W, D, J, H, G> {
     fn serve_connection(
         &self,
@@ -217,7 +217,7 @@ pub fn serve_listener<
     M: Wait + Threads + Sync,
     A: Accept<Connection = TcpStream> + Sync,
     D: Disk + Drop + Send,
-    J: Chapter + Send + Sync,
+    J: Chapter + Numbering + Send + Sync,
     H: Wait + Drop + Send + Sync,
     G: Gate + Sync,
 >(

@@ -8,7 +8,7 @@ ghost use Rattle.pfd.specs.Program.{listening_text};
 use crate::listener::serve_listener;
 use crate::program::ended::told;
 use pf_addr::write_more;
-use pf_book::{Book, Chapter, Disk, Opening, Shared};
+use pf_book::{Book, Chapter, Disk, NewCalls, Numbering, Opening, Shared};
 use pf_session::OpenGate;
 use pfd_files::{Fault, open_file};
 use pfd_words::Service;
@@ -32,14 +32,17 @@ pub(crate) fn serve_file<
 {
     let disk = open_file(alloc, files, service.path, Some(service.size))?;
     match Opening::open(alloc, disk) {
-        Ok(opening) => { serve_opening::<Brand, _, _, _>(machine, alloc, opening, service, writer) }
+        Ok(opening) => {
+            let calls = NewCalls::open();
+            serve_opening::<Brand, _, _, _>(machine, alloc, opening, calls, service, writer)
+        }
         Err((fault, _disk)) => Err(Fault::from(fault)),
     }
 }
 
 // The same over what was opened.
 fn serve_opening<
-    J: Chapter + Send + Sync,
+    J: Chapter + Numbering + Send + Sync,
     D: Disk + Drop + Send,
     N: Wait + Threads + Net<Listener = TcpListener, Stream = TcpStream> + Sync,
     W: Write,
@@ -47,11 +50,13 @@ fn serve_opening<
     machine: &N,
     alloc: Global,
     opening: Opening<D>,
+    calls: NewCalls,
     service: &Service<'_>,
     writer: &mut W,
 ) -> Result<(), Fault>
     requires service { CanServe service.now }
     requires name { IsNamed J.base J.history J.setting opening service.now.history }
+    requires calls { calls ≡ J.register }
     ensures { (bound : List ℕ) × Writes result (W.contents writer.old) (W.contents writer.new) (listening_text bound) }
 {
     let made = Book::<D, J, &N>::of(machine, alloc, opening, service.history, service.workers);
@@ -59,7 +64,7 @@ fn serve_opening<
         Ok(made) => made,
         Err((fault, _disk)) => return Err(Fault::from(fault)),
     };
-    let shared = Shared::new(book);
+    let shared = Shared::new(book, calls);
     let listener = listen(machine, alloc, service.address, writer)?;
     told(serve_listener(
         machine,
