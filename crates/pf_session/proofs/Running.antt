@@ -225,7 +225,7 @@ module _ {C J G : Type 0} (passed : G → ℕ → ℕ → Type 0) (base : PlainD
       handed = start.last.now;
       group = subst (λ (cs : List Command). IsGroupAnswered base setting cs (Ok (told ++ answer ∷ left)) start.last.now) (t.split ∙ ap (λ (cs : List Command). t.earlier ++ cs) asks.is) group;
       place = t.place;
-      last_is = t.last;
+      last_is = inr t.last;
     }
 
     turn : IsTurn asks.c a b (reply_text answer.0)

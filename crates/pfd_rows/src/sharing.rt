@@ -1,5 +1,5 @@
 //! Sessions and peers' streams over a Book that callers may share, each with a Book of its own.
-ghost use Rattle.std.specs.Prelude.{◌≤◌};
+ghost use Rattle.std.specs.Prelude.{◌≡◌, ◌≤◌};
 ghost use Rattle.pf_book.specs.Books.{IsNamed};
 
 use crate::playing::{Device, history_of, opening_of};
@@ -7,7 +7,7 @@ use crate::spelling::line_bytes;
 use crate::streams::{Script, Tight};
 use crate::table::{Kind, Table};
 use crate::tally::{Case, Outcome, Tally};
-use pfd::{Book, Chapter, EngineFault, Gate, Opening, Seer, Shared, serve, serve_peer};
+use pfd::{Book, Chapter, EngineFault, Gate, NewCalls, Numbering, Opening, Seer, Shared, serve, serve_peer};
 use std::alloc::{AllocError, Global};
 use std::marker::Brand;
 use std::sync::Wait;
@@ -50,7 +50,7 @@ fn end_of(
 }
 
 // Plays one session. Its end says how many lines passed its gate.
-fn run_session<J: Chapter, R: Wait>(
+fn run_session<J: Chapter + Numbering, R: Wait>(
     rt: &R,
     alloc: Global,
     shared: &Shared<Device, J, &R>,
@@ -84,7 +84,7 @@ fn run_session<J: Chapter, R: Wait>(
 }
 
 // Plays a peer's stream. Its end says how many changes the Book then has.
-fn follow<J: Chapter, R: Wait>(
+fn follow<J: Chapter + Numbering, R: Wait>(
     rt: &R,
     alloc: Global,
     shared: Shared<Device, J, &R>,
@@ -103,21 +103,23 @@ fn follow<J: Chapter, R: Wait>(
 }
 
 // Plays a case over an opening.
-fn share<J: Chapter, R: Wait>(
+fn share<J: Chapter + Numbering, R: Wait>(
     rt: &R,
     alloc: Global,
     kind: Kind,
     opening: Opening<Device>,
+    calls: NewCalls,
     history: usize,
     case: &Case,
 ) -> Result<Outcome, AllocError>
     requires name { IsNamed J.base J.history J.setting opening history }
+    requires calls { calls ≡ J.register }
     requires history { (1 ≤ history) × (history ≤ 1_048_576) }
 {
     let Ok((book, mut seers)) = Book::<Device, J, &R>::of(rt, alloc, opening, history, 1) else {
         return Err(AllocError);
     };
-    let shared = Shared::new(book);
+    let shared = Shared::new(book, calls);
     let Some(mut seer) = seers.pop() else {
         return Err(AllocError);
     };
@@ -137,7 +139,8 @@ pub(crate) fn share_each<R: Wait>(
     let mut tally = Tally::none(alloc);
     for case in &table.cases(alloc)? {
         let opening = opening_of(alloc, table)?;
-        let outcome = share::<Brand, _>(rt, alloc, table.kind, opening, history, case)?;
+        let calls = NewCalls::open();
+        let outcome = share::<Brand, _>(rt, alloc, table.kind, opening, calls, history, case)?;
         tally.note(alloc, case, &outcome)?;
     }
     Ok(tally)

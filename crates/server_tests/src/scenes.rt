@@ -1,10 +1,11 @@
 //! What a shared Book is tested with, each time over a fresh disk in memory.
+ghost use Rattle.std.specs.Prelude.{◌≡◌};
 ghost use Rattle.pfd_words.specs.declared.words.TheConstants.{HISTORY_LIMIT};
 ghost use Rattle.pf_book.specs.Books.{IsNamed};
 
 use crate::servers::{Answering, serve_clients, serve_until_it_fails};
 use crate::sharing::{answer_one, commit_at_once, judge_beside};
-use pfd::{Book, Chapter, HISTORY_LIMIT, MEMORY_SIZE, MemDisk, Opening, Shared, open_fresh};
+use pfd::{Book, Chapter, HISTORY_LIMIT, MEMORY_SIZE, MemDisk, NewCalls, Numbering, Opening, Shared, open_fresh};
 use std::alloc::Global;
 use std::marker::Brand;
 use std::net::{Net, TcpListener, TcpStream};
@@ -29,15 +30,16 @@ enum Scene {
 }
 
 fn play<
-    J: Chapter + Send + Sync,
+    J: Chapter + Numbering + Send + Sync,
     R: Net<Listener = TcpListener, Stream = TcpStream> + Wait + Threads + Abort + Sync,
->(rt: &R, alloc: Global, opening: Opening<MemDisk>, scene: Scene) -> Result<(), Fail>
-    requires { IsNamed J.base J.history J.setting opening HISTORY_LIMIT }
+>(rt: &R, alloc: Global, opening: Opening<MemDisk>, calls: NewCalls, scene: Scene) -> Result<(), Fail>
+    requires name { IsNamed J.base J.history J.setting opening HISTORY_LIMIT }
+    requires calls { calls ≡ J.register }
 {
     let Ok((book, seers)) = Book::<MemDisk, J, &R>::of(rt, alloc, opening, HISTORY_LIMIT, 2) else {
         return Err(Fail::from("a Book"));
     };
-    let shared = Shared::new(book);
+    let shared = Shared::new(book, calls);
     match scene {
         Scene::Answers => answer_one(rt, alloc, &shared),
         Scene::Commits => commit_at_once(rt, alloc, shared),
@@ -54,7 +56,7 @@ fn play_alone<R: Net<Listener = TcpListener, Stream = TcpStream> + Wait + Thread
 ) -> Result<(), Fail> {
     let disk = MemDisk::of(alloc, vec![in alloc; 0u8; MEMORY_SIZE]?)?;
     match open_fresh(alloc, disk) {
-        Ok(opening) => play::<Brand, _>(rt, alloc, opening, scene),
+        Ok(opening) => play::<Brand, _>(rt, alloc, opening, NewCalls::open(), scene),
         Err(_) => Err(Fail::from("a fresh disk")),
     }
 }

@@ -1,6 +1,6 @@
 //! A listener with its sessions and its peers.
 use crate::peers::MESSAGE;
-use pfd::{Accept, Chapter, EngineFault, Gate, MemDisk, Seer, Shared, serve_listener};
+use pfd::{Accept, Chapter, EngineFault, Gate, MemDisk, Numbering, Seer, Shared, serve_listener};
 use std::alloc::Global;
 use std::io::{self, ErrorKind, Read, Write};
 use std::net::{Net, Shutdown, SocketAddr, TcpListener, TcpStream};
@@ -214,7 +214,7 @@ fn ask_two<N: Net<Listener = TcpListener, Stream = TcpStream> + Abort>(
 
 /// Serves two clients by a listener that fails behind them, though it may have any number.
 pub(crate) fn serve_until_it_fails<
-    J: Chapter + Send + Sync,
+    J: Chapter + Numbering + Send + Sync,
     R: Net<Listener = TcpListener, Stream = TcpStream> + Wait + Threads + Abort + Sync,
 >(rt: &R, alloc: Global, shared: &Shared<MemDisk, J, &R>, seers: Vec<Seer<J>>) -> Result<(), Fail> {
     let listener = &TcpListener::bind(rt, "127.0.0.1:0")?;
@@ -236,7 +236,7 @@ pub(crate) fn serve_until_it_fails<
 
 /// Serves clients by a listener until all have ended.
 pub(crate) fn serve_clients<
-    J: Chapter + Send + Sync,
+    J: Chapter + Numbering + Send + Sync,
     R: Net<Listener = TcpListener, Stream = TcpStream> + Wait + Threads + Abort + Sync,
 >(
     rt: &R,

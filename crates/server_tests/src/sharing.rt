@@ -1,7 +1,7 @@
 //! Callers that share a Book, each in a thread of its own: their receipts, and what is judged beside them.
 use pf_line::{parse_line, write_judged, write_reply};
 use pf_rule::Packet;
-use pfd::{Book, Chapter, MemDisk, Receipt, Seer, Shared};
+use pfd::{Book, Chapter, MemDisk, Numbering, Receipt, Seer, Shared};
 use std::alloc::Global;
 use std::io::{self, ErrorKind};
 use std::process::Abort;
@@ -14,7 +14,7 @@ use std::thread::Threads;
 const COMMITS: usize = 50;
 
 /// One call: the text of its reply. The caller hands in its last receipt, and keeps the new one after it.
-fn call<J: Chapter, R: Wait>(
+fn call<J: Chapter + Numbering, R: Wait>(
     rt: &R,
     alloc: Global,
     shared: &Shared<MemDisk, J, &R>,
@@ -35,7 +35,7 @@ fn call<J: Chapter, R: Wait>(
 }
 
 /// Plays lines that have to be answered so: their receipts.
-fn call_all<J: Chapter, R: Wait + Abort>(
+fn call_all<J: Chapter + Numbering, R: Wait + Abort>(
     rt: &R,
     alloc: Global,
     shared: &Shared<MemDisk, J, &R>,
@@ -50,7 +50,7 @@ fn call_all<J: Chapter, R: Wait + Abort>(
 }
 
 /// Commits a ruleset of one rule.
-fn commit<J: Chapter, R: Wait + Abort>(
+fn commit<J: Chapter + Numbering, R: Wait + Abort>(
     rt: &R,
     alloc: Global,
     shared: &Shared<MemDisk, J, &R>,
@@ -72,7 +72,7 @@ fn commit<J: Chapter, R: Wait + Abort>(
 }
 
 /// Makes a caller's commits: their receipts.
-fn commits<J: Chapter, R: Wait + Abort>(
+fn commits<J: Chapter + Numbering, R: Wait + Abort>(
     rt: &R,
     alloc: Global,
     shared: &Shared<MemDisk, J, &R>,
@@ -102,7 +102,7 @@ fn confirm_all<J: Chapter, R: Wait + Abort>(
 }
 
 /// Two callers commit, each in a thread of its own. Each change has its own number, and the Book confirms each receipt.
-pub(crate) fn commit_at_once<J: Chapter + Send + Sync, R: Wait + Threads + Abort + Sync>(
+pub(crate) fn commit_at_once<J: Chapter + Numbering + Send + Sync, R: Wait + Threads + Abort + Sync>(
     rt: &R,
     alloc: Global,
     shared: Shared<MemDisk, J, &R>,
@@ -137,7 +137,7 @@ const ANSWERED: &[(&str, &str)] = &[
 ];
 
 /// A caller is answered by what it did before, and its receipts say the same.
-pub(crate) fn answer_one<J: Chapter, R: Wait + Abort>(
+pub(crate) fn answer_one<J: Chapter + Numbering, R: Wait + Abort>(
     rt: &R,
     alloc: Global,
     shared: &Shared<MemDisk, J, &R>,
@@ -174,7 +174,7 @@ fn judged<J: Chapter>(alloc: Global, seer: &mut Seer<J>) -> io::Result<Vec<u8>> 
 }
 
 // One seer learns of a commit, another doesn't; both judge by it, each in a thread of its own. Returns the receipts of the commit's lines.
-fn see_commit<J: Chapter + Send + Sync, R: Wait + Threads + Abort + Sync>(
+fn see_commit<J: Chapter + Numbering + Send + Sync, R: Wait + Threads + Abort + Sync>(
     rt: &R,
     alloc: Global,
     shared: &Shared<MemDisk, J, &R>,
@@ -198,7 +198,7 @@ fn see_commit<J: Chapter + Send + Sync, R: Wait + Threads + Abort + Sync>(
 }
 
 /// Two seers judge beside a Book by what it shows, and no more once it is dropped.
-pub(crate) fn judge_beside<J: Chapter + Send + Sync, R: Wait + Threads + Abort + Sync>(
+pub(crate) fn judge_beside<J: Chapter + Numbering + Send + Sync, R: Wait + Threads + Abort + Sync>(
     rt: &R,
     alloc: Global,
     shared: Shared<MemDisk, J, &R>,

@@ -8,3 +8,6 @@ ghosts-play-J-Naming g a = record { base = a.opening.given; history = a.opening.
 
 abbrev pub ghosts-play-J-Chapter : goal.ghosts-play-J-Chapter
 ghosts-play-J-Chapter g a = record { setting = setting_of a.opening HISTORY_LIMIT }
+
+abbrev pub ghosts-play-J-Numbering : goal.ghosts-play-J-Numbering
+ghosts-play-J-Numbering g a = record { register = a.calls }
