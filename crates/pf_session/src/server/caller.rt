@@ -1,5 +1,5 @@
 //! What sessions and streams call: a Book that others use too.
-ghost use Rattle.std.specs.Option.{option_copied};
+ghost use Rattle.std.specs.{Option.option_copied, Prelude.{◌≡◌, MatchOption, None, Ok, Err}};
 ghost use Rattle.pf_book.specs.{Groups.{IsGroupAnswered, told}, Receipts.IsAnswered, Together.IsAnsweredTogether};
 
 use pf_book::shared::Shared;
@@ -14,13 +14,15 @@ pub(crate) trait CallBook<J: Chapter> {
     fn call(&self, command: Command, last: Option<&Receipt<J>>) -> (Reply, Receipt<J>)
         ensures { IsAnswered J.base J.setting command result.0 result.1 (option_copied last.entry) };
 
-    /// Runs a command, alone or in one group with those of other callers, as [`Shared::run_together`] does.
+    /// Runs a command, alone or in one group with those of other callers, as [`Shared::run_together`] does. The receipt that is handed in is
+    /// taken out. `None`: the device failed in a group, and the receipt is back.
     fn call_together(
         &self,
         command: Command,
-        last: Option<Receipt<J>>,
-    ) -> Result<(Reply, Receipt<J>), Option<Receipt<J>>>
-        ensures { IsAnsweredTogether J.base J.setting (record { command = command; last = last }) result };
+        last: &mut Option<Receipt<J>>,
+    ) -> Option<(Reply, Receipt<J>)>
+        ensures { MatchOption result (IsAnsweredTogether J.base J.setting (record { command = command; last = last.old }) (Err last.new))
+            (λ a. (last.new ≡ None) × IsAnsweredTogether J.base J.setting (record { command = command; last = last.old }) (Ok a)) };
 
     /// Runs commands as a group, as [`Shared::group`] does.
     fn call_group(
@@ -66,11 +68,15 @@ impl<'a, W: Wait, D: Disk + Drop, J: Chapter + Numbering, S: Publisher<J> + Drop
     fn call_together(
         &self,
         command: Command,
-        last: Option<Receipt<J>>,
-    ) -> Result<(Reply, Receipt<J>), Option<Receipt<J>>>
-        ensures { IsAnsweredTogether J.base J.setting (record { command = command; last = last }) result }
-    {
-        self.shared.run_together(self.rt, command, last)
+        last: &mut Option<Receipt<J>>,
+    ) -> Option<(Reply, Receipt<J>)> {
+        match self.shared.run_together(self.rt, command, last.take()) {
+            Ok(answer) => Some(answer),
+            Err(back) => {
+                *last = back;
+                None
+            }
+        }
     }
 
     fn call_group(

@@ -123,12 +123,9 @@ impl<'a, C: CallBook<J>, J: Chapter, G: Gate> Session<'a, C, J, G> {
         ensures run { (text : List ℕ) × RunsBy None J.base J.setting command (sitting self.old) (sitting self.new) text ×
             Writes result (O.contents writer.old) (O.contents writer.new) text }
     {
-        match self.book.call_together(command, self.last.take()) {
-            Ok(answer) => self.tell_one(answer, writer),
-            Err(last) => {
-                *self.last = last;
-                refuse(writer, Refusal::Fault)
-            }
+        match self.book.call_together(command, self.last) {
+            Some(answer) => self.tell_one(answer, writer),
+            None => refuse(writer, Refusal::Fault),
         }
     }
 
