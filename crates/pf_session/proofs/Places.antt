@@ -1,13 +1,13 @@
 -- A command's place in a group.
-use Rattle.std.proofs.{Common.{◌≡◌, ◌⊎◌, ◌∙◌, ℕ, ◌+◌, ◌≤◌, List, [], ◌∷◌, ◌++◌, length, Option, Some, None, Result, Ok, Err, inl, inr, refl, sym, ap, subst, append_assoc, append-nil, arith, length-append}, lemmas.{List.Elements.{All-head, All-tail}, List.Sums.fold-append}}
+use Rattle.std.proofs.{Common.{◌≡◌, ◌⊎◌, ◌∙◌, ℕ, ◌+◌, ◌≤◌, List, [], ◌∷◌, ◌++◌, length, Option, Some, Ok, inl, inr, refl, sym, ap, subst, append_assoc, append-nil, arith, length-append}, lemmas.{List.Elements.{All-head, All-tail}, List.Sums.fold-append}}
 use Rattle.std.specs.{Prelude.{All, map}, Option.ForSome}
 use mathlib.Core.List.{IsPrefix}
-use Rattle.pf_core.specs.declared.{command.Command.Command, reply.Refusal.Refusal, reply.Outcome.Outcome, reply.Reply.Reply, reply.Reply.TheVariants.Applied}
+use Rattle.pf_core.specs.declared.{command.Command.Command, reply.Outcome.Outcome, reply.Reply.Reply, reply.Reply.TheVariants.Applied}
 use Rattle.pf_core.specs.{Durable.Changes.{PlainDurable, PlainChange}, Worlds.{Setting, CurrentOpening, State, Event, LegalGroup, IsLegal, down, called_group, log_of, heard_group, group_all, step_in, changes_of, flat, grouped, amid, changes_with, changes_due}}
 use Rattle.pf_core.proofs.{Courses.{IsAccepted, accepted, flat-with}, LongerWorlds.in-two}
 use Rattle.pf_book.specs.{Groups.{Answered as Receipted, IsAnsweredAmid, AreAnswered, IsGroupAnswered, replies_of}, Receipts.{PlainReceipt, IsNumberOf, token_of}}
 use Rattle.pf_book.proofs.GroupTurns.{numbers}
-use Rattle.pf_view.proofs.Prefixes.{prefix_length, prefix_self, prefix_trans}
+use Rattle.pf_view.proofs.Prefixes.{prefix_self, prefix_trans}
 use Rattle.pf_session.specs.Server.{Sittings.IsAnsweredInGroup, Streams.last_receipt}
 
 -- what all commands want begins with what they want so far

@@ -1,7 +1,7 @@
-use Rattle.std.proofs.{Common.{◌≡◌, ◌∙◌, ℕ, List, [], ◌∷◌, length, subst, arith}, lemmas.Result.err_from_is_err_and, lemmas.List.nil_from_length}
+use Rattle.std.proofs.{Common.{◌≡◌, List, [], subst, arith}, lemmas.Result.err_from_is_err_and, lemmas.List.nil_from_length}
 use Rattle.std.specs.Vec.Iter.{into_iter_items}
 use Rattle.pf_core.specs.declared.command.Command.{Command}
-use Rattle.pf_session.proofs.Running.{IsUnderWay, IsTurn, begun, one-more, one-cut, all-run, turn-by}
+use Rattle.pf_session.proofs.Running.{IsUnderWay, begun, one-more, one-cut, all-run, turn-by}
 use Rattle.pf_session.proofs.server.session.Session.run_each.Goals as goal
 
 pub loop-command-init : goal.loop-command-init
