@@ -1,21 +1,27 @@
-//! A publisher that refuses some of its calls, as a shower does that is out of memory.
+//! What shows the changes of a Book, and is refused memory at some of its calls, as a shower is that is out of memory.
+use pf_book::{Front, Naming, Publisher, Shower, Token};
 use pf_core::{Change, Durable};
-use pf_view::{Front, Naming, Publisher, Shower, Token};
 use std::alloc::AllocError;
 use std::sync::{Arc, Wait};
 
 /// Which calls of a kind are refused: so many go through at first, and so many after them are refused. All later ones go through.
 #[derive(Clone, Copy)]
 pub(crate) struct Refusals {
-    pub(crate) passed: usize,
-    pub(crate) refused: usize,
+    passed: u32,
+    refused: u32,
 }
 
 impl Refusals {
-    pub(crate) const NONE: Refusals = Refusals {
-        passed: 0,
-        refused: 0,
-    };
+    /// The refusals that the limits of a row have under a word, or none.
+    pub(crate) fn of(limits: &str, word: &str) -> Refusals {
+        let (_, rest) = limits.split_once(word).unwrap_or((limits, ""));
+        let (numbers, _) = rest.split_once(',').unwrap_or((rest, ""));
+        let mut numbers = numbers.split(' ');
+        Refusals {
+            passed: number(numbers.nth(1)),
+            refused: number(numbers.next()),
+        }
+    }
 
     // Whether the next call is refused.
     fn refuse_next(&mut self) -> bool {
@@ -23,12 +29,15 @@ impl Refusals {
             self.passed -= 1;
             return false;
         }
-        if self.refused > 0 {
-            self.refused -= 1;
-            return true;
-        }
-        false
+        let refuses = self.refused > 0;
+        self.refused = self.refused.saturating_sub(1);
+        refuses
     }
+}
+
+// The number in decimal digits, or 0 if there is none.
+fn number(text: Option<&str>) -> u32 {
+    text.unwrap_or("").parse::<u32>().unwrap_or(0)
 }
 
 /// A shower, some of whose calls are refused before they reach it.
