@@ -28,6 +28,11 @@ use std::sync::Wait;
 const QUESTIONS: &str =
     "show rules - | show rules web | show tables - | show tables web | show states | sum";
 
+/// The rows that may come anywhere, and need nothing that is open.
+const OF_DEVICES: &[&str] = &[
+    "bytes", "with", "openings", "faults", "failing", "pairs", "torn", "streams", "cuts", "images",
+];
+
 /// The calls of an opening and of two saves, or of one save that begins the other bank, and one more.
 const CALLS: u64 = 18;
 
@@ -185,28 +190,27 @@ impl<H: Wait + Drop + Copy> Bench<H> {
         Ok(())
     }
 
-    /// Plays a row for which nothing has to be open. Returns whether it is one.
-    fn play_device(&mut self, told: &mut String, row: &str) -> Result<bool, AllocError> {
+    /// Plays a row for which nothing has to be open.
+    fn play_device(&mut self, told: &mut String, row: &str) -> Result<(), AllocError> {
         let (word, rest) = cut_word(row);
         match word {
-            "zeros" => self.make(told, number(rest))?,
-            "file" => self.load(told, rest)?,
-            "format" => self.format(told)?,
-            "put" => self.put(told, rest)?,
-            "bytes" => self.tell_bytes(told, rest)?,
-            "with" => self.tell_changed(told, rest)?,
-            "openings" => self.open_often(told, number(rest))?,
-            "faults" => self.tell_faults(told, rest)?,
-            "failing" => self.tell_failing(told, rest)?,
-            "pairs" => self.tell_pairs(told, rest)?,
-            "torn" => self.tell_torn(told, rest)?,
-            "word" => self.add_word(told, rest)?,
-            "streams" => self.tell_streams(told, rest)?,
-            "cuts" => self.tell_cuts(told, rest)?,
-            "images" => self.tell_images(told, rest)?,
-            _ => return Ok(false),
+            "zeros" => self.make(told, number(rest)),
+            "file" => self.load(told, rest),
+            "format" => self.format(told),
+            "put" => self.put(told, rest),
+            "bytes" => self.tell_bytes(told, rest),
+            "with" => self.tell_changed(told, rest),
+            "openings" => self.open_often(told, number(rest)),
+            "faults" => self.tell_faults(told, rest),
+            "failing" => self.tell_failing(told, rest),
+            "pairs" => self.tell_pairs(told, rest),
+            "torn" => self.tell_torn(told, rest),
+            "word" => self.add_word(told, rest),
+            "streams" => self.tell_streams(told, rest),
+            "cuts" => self.tell_cuts(told, rest),
+            "images" => self.tell_images(told, rest),
+            _ => Ok(()),
         }
-        Ok(true)
     }
 
     fn play_row<B: Hold>(
@@ -215,9 +219,6 @@ impl<H: Wait + Drop + Copy> Bench<H> {
         book: &mut B,
         row: &str,
     ) -> Result<(), AllocError> {
-        if self.play_device(told, row)? {
-            return Ok(());
-        }
         let (word, rest) = cut_word(row);
         match word {
             "times" => self.call_often(told, book, rest),
@@ -227,6 +228,7 @@ impl<H: Wait + Drop + Copy> Bench<H> {
             "stopped" => self.tell_stopped(told, book.device()),
             "lines" => self.tell_lines(told, book, rest),
             "each" => self.tell_each_byte(told, book.device(), number(rest)),
+            _ if OF_DEVICES.contains(&word) => self.play_device(told, row),
             _ => self.call(told, book, row),
         }
     }

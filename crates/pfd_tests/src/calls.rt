@@ -15,8 +15,9 @@ use std::test::*;
 fn texts_are_read_and_written(rt: HostRuntime) -> Result<(), Fail> {
     let packet = Packet::parse(rt.alloc(), "in em0 tcp 10.0.0.1 1234 10.0.0.2 80")?;
     assert!(rt; packet.destination_port() == 80);
+    let rule = Rule::parse(rt.alloc(), "block drop in")?;
     let mut out = Vec::new(rt.alloc());
-    Rule::parse(rt.alloc(), "block drop in")?.write(&mut out)?;
+    rule.write(&mut out)?;
     assert!(rt; out.as_slice() == b"block in all".as_slice());
     Ok(())
 }

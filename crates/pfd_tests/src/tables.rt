@@ -122,7 +122,8 @@ fn lists_have_any_number_of_entries(rt: HostRuntime) -> Result<(), Fail> {
     for (deed, count, wanted) in ROWS {
         let command = command_of(alloc, *deed, *count)?;
         let mut text = Vec::new(alloc);
-        write_reply(&mut text, &answer(&mut core, &command, &mut changes))?;
+        let reply = answer(&mut core, &command, &mut changes);
+        write_reply(&mut text, &reply)?;
         assert!(rt; text.as_slice() == wanted.as_bytes(), "at {wanted}");
     }
     Ok(())

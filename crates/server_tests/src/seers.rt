@@ -24,6 +24,9 @@ use std::thread::Threads;
 /// How many changes each of two callers makes.
 const CHANGES: usize = 50;
 
+/// How many changes there are with the commit behind these.
+const ALL: usize = 2 * CHANGES + 1;
+
 /// The command that a line spells.
 fn command(alloc: Global, line: &str) -> io::Result<Command> {
     match parse_line(alloc, line.as_bytes()) {
@@ -91,11 +94,11 @@ fn change<J: Chapter + Numbering + Send + Sync, R: Wait + Threads + Abort + Sync
     let mut numbers = first?;
     numbers.extend_from_slice(&second?)?;
     numbers.sort()?;
-    assert!(rt; numbers.iter().copied().eq(1..=2 * CHANGES));
+    assert!(rt; numbers.iter().copied().eq(1..ALL));
     run(rt, alloc, shared, "begin filter -", None)?;
     run(rt, alloc, shared, "add - 1.1 block in all", None)?;
     let commit = run(rt, alloc, shared, "commit filter - 1.1", None)?;
-    assert!(rt; commit.seq() == 2 * CHANGES + 1 && commit.change().is_some());
+    assert!(rt; commit.seq() == ALL && commit.change().is_some());
     Ok(commit)
 }
 
@@ -193,8 +196,8 @@ fn play<J: Chapter + Numbering + Send + Sync, R: Wait + Threads + Abort + Sync>(
     fail_to_listen(rt, alloc, &shared, seers);
     let mut book = shared.close();
     assert!(rt; book.confirm(&commit));
-    assert!(rt; book.log_len() == commit.seq() && book.acked() == commit.seq());
-    assert!(rt; book.change_at(1).is_some() && book.change_at(commit.seq() + 1).is_none());
+    assert!(rt; book.log_len() == ALL && book.acked() == ALL);
+    assert!(rt; book.change_at(ALL).is_some() && book.change_at(ALL + 1).is_none());
     drop(book);
     let gone = judged(alloc, &mut untold)?;
     assert!(rt; gone.as_slice() == b"gone\n".as_slice());
