@@ -68,7 +68,13 @@ fn drop_rest(stream: &TcpStream) {
 }
 
 // Serves a connection to its end.
-fn serve_connection<W: Wait, D: Disk + Drop, J: Chapter + Numbering, S: Publisher<J> + Drop, G: Gate>(
+fn serve_connection<
+    W: Wait,
+    D: Disk + Drop,
+    J: Chapter + Numbering,
+    S: Publisher<J> + Drop,
+    G: Gate,
+>(
     rt: &W,
     alloc: Global,
     stream: &TcpStream,
@@ -120,14 +126,27 @@ trait ServeConnection<J: Chapter> {
 
 /// What serves connections by one Book. Workers needn't name a device, nor what waits.
 #[derive(Clone, Copy)]
-struct Server<'a, W: Wait, D: Disk + Drop, J: Chapter + Numbering, S: Publisher<J> + Drop, G: Gate> {
+struct Server<
+    'a,
+    W: Wait,
+    D: Disk + Drop,
+    J: Chapter + Numbering,
+    S: Publisher<J> + Drop,
+    G: Gate,
+> {
     rt: &'a W,
     shared: &'a Shared<D, J, S>,
     gate: &'a G,
 }
 
-impl<'a, W: Wait, D: Disk + Drop, J: Chapter + Numbering, S: Publisher<J> + Drop, G: Gate> ServeConnection<J>
-    for Server<'a, W, D, J, S, G> {
+impl<
+    'a,
+    W: Wait,
+    D: Disk + Drop,
+    J: Chapter + Numbering,
+    S: Publisher<J> + Drop,
+    G: Gate,
+> ServeConnection<J> for Server<'a, W, D, J, S, G> {
     fn serve_connection(
         &self,
         alloc: Global,

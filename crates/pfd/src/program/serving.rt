@@ -52,7 +52,9 @@ pub(crate) fn serve_file<
     match Opening::open(alloc, disk) {
         Ok(opening) => {
             let calls = NewCalls::open();
-            serve_opening::<Brand, _, _, _, _>(machine, alloc, opening, calls, service, writer, faults)
+            serve_opening::<Brand, _, _, _, _>(
+                machine, alloc, opening, calls, service, writer, faults,
+            )
         }
         Err((fault, _disk)) => Err(Fault::from(fault)),
     }
