@@ -79,13 +79,12 @@ fn judged<J: Chapter>(alloc: Global, seer: &mut Seer<J>) -> io::Result<Vec<u8>> 
     Ok(text)
 }
 
-/// Two callers change tables, each in a thread of its own: each change has its own number. Behind them a rule that blocks is committed: the
-/// receipt of that.
-fn change<J: Chapter + Numbering + Send + Sync, R: Wait + Threads + Abort + Sync>(
+/// Two callers change tables, each in a thread of its own: the numbers of all changes.
+fn change_at_once<J: Chapter + Numbering + Send + Sync, R: Wait + Threads + Sync>(
     rt: &R,
     alloc: Global,
     shared: &Shared<MemDisk, J, &R>,
-) -> Result<Receipt<J>, Fail> {
+) -> io::Result<Vec<usize>> {
     let (first, second) = thread::join(
         rt,
         || change_often(rt, alloc, shared, "tset - a 10/8"),
@@ -93,6 +92,16 @@ fn change<J: Chapter + Numbering + Send + Sync, R: Wait + Threads + Abort + Sync
     );
     let mut numbers = first?;
     numbers.extend_from_slice(&second?)?;
+    Ok(numbers)
+}
+
+/// Each change of two callers has its own number. Behind them a rule that blocks is committed: the receipt of that.
+fn change<J: Chapter + Numbering + Send + Sync, R: Wait + Threads + Abort + Sync>(
+    rt: &R,
+    alloc: Global,
+    shared: &Shared<MemDisk, J, &R>,
+) -> Result<Receipt<J>, Fail> {
+    let mut numbers = change_at_once(rt, alloc, shared)?;
     numbers.sort()?;
     assert!(rt; numbers.iter().copied().eq(1..ALL));
     run(rt, alloc, shared, "begin filter -", None)?;
