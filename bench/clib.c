@@ -9,6 +9,7 @@
  * clib judge-lines FILE < PACKETS: the same by a file of lines.
  * clib time FILE THREADS ROUNDS < PACKETS: judges the packets so many times in each of so many threads, and writes the nanoseconds of a
  *     processor that a packet took, one at a time and in arrays of 256.
+ * clib alone FILE < PACKETS: judges each once, and writes nothing.
  * clib stack FILE < PACKETS: how many bytes of a stack their verdicts take, by a file of lines.
  */
 #include <arpa/inet.h>
@@ -275,6 +276,17 @@ static void time_all(struct wirdalf *config, size_t threads, size_t rounds)
     free(runs);
 }
 
+static void judge_alone(struct wirdalf *config)
+{
+    size_t count;
+    struct wirdalf_packet *packets = packets_of(stdin, &count);
+    struct wirdalf_verdict verdict;
+
+    for (size_t i = 0; i < count; i++)
+        wirdalf_judge(config, &packets[i], &verdict);
+    free(packets);
+}
+
 /* One who judges on a stack of its own, and where it begins there. */
 struct diver {
     struct wirdalf *config;
@@ -336,6 +348,8 @@ int main(int count, char **words)
         judge_all(&config);
     else if (count == 5 && strcmp(words[1], "time") == 0)
         time_all(&config, (size_t)atol(words[3]), (size_t)atol(words[4]));
+    else if (count == 3 && strcmp(words[1], "alone") == 0)
+        judge_alone(&config);
     else if (count == 3 && strcmp(words[1], "stack") == 0)
         measure_stack(&config);
     else
