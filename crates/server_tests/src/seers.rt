@@ -179,6 +179,60 @@ fn fail_to_listen<J: Chapter + Numbering + Send + Sync, R: Wait + Threads + Abor
     assert!(rt; listener.calls.load(Ordering::SeqCst) == 3);
 }
 
+/// Callers and seers beside a Book that is shared: the receipt of a commit, which both seers then judge by.
+fn call<J: Chapter + Numbering + Send + Sync, R: Wait + Threads + Abort + Sync>(
+    rt: &R,
+    alloc: Global,
+    shared: &Shared<MemDisk, J, &R>,
+    told: &mut Seer<J>,
+    untold: &mut Seer<J>,
+) -> Result<Receipt<J>, Fail> {
+    let before = judged(alloc, untold)?;
+    assert!(rt; before.as_slice() == b"pass default\n".as_slice());
+    let commit = change(rt, alloc, shared)?;
+    judge(rt, alloc, &commit, told, untold)?;
+    ask(rt, alloc, shared, &commit)?;
+    Ok(commit)
+}
+
+/// What a Book says of a commit that was the last call.
+fn confirm<J: Chapter, R: Wait + Abort>(
+    rt: &R,
+    book: &mut Book<MemDisk, J, &R>,
+    commit: &Receipt<J>,
+) {
+    assert!(rt; book.confirm(commit));
+    assert!(rt; book.log_len() == commit.seq() && book.acked() == commit.seq());
+    assert!(rt; book.change_at(1).is_some() && book.change_at(commit.seq() + 1).is_none());
+}
+
+/// A seer of a Book that is gone judges no more.
+fn judge_no_more<J: Chapter, R: Abort>(
+    rt: &R,
+    alloc: Global,
+    seer: &mut Seer<J>,
+) -> Result<(), Fail> {
+    let gone = judged(alloc, seer)?;
+    assert!(rt; gone.as_slice() == b"gone\n".as_slice());
+    Ok(())
+}
+
+/// Shares a Book with callers, seers and a listener, and takes it back from them.
+fn share<J: Chapter + Numbering + Send + Sync, R: Wait + Threads + Abort + Sync>(
+    rt: &R,
+    alloc: Global,
+    shared: Shared<MemDisk, J, &R>,
+    told: &mut Seer<J>,
+    untold: &mut Seer<J>,
+    seers: Vec<Seer<J>>,
+) -> Result<(), Fail> {
+    let commit = call(rt, alloc, &shared, told, untold)?;
+    fail_to_listen(rt, alloc, &shared, seers);
+    let mut book = shared.close();
+    confirm(rt, &mut book, &commit);
+    Ok(())
+}
+
 /// Callers and seers beside a Book, and what the Book says once they have ended.
 fn play<J: Chapter + Numbering + Send + Sync, R: Wait + Threads + Abort + Sync>(
     rt: &R,
@@ -193,24 +247,12 @@ fn play<J: Chapter + Numbering + Send + Sync, R: Wait + Threads + Abort + Sync>(
     else {
         return Err(Fail::from("a Book"));
     };
+    let shared = Shared::new(book, calls);
     let (Some(mut told), Some(mut untold)) = (seers.pop(), seers.pop()) else {
         return Err(Fail::from("two seers"));
     };
-    let before = judged(alloc, &mut untold)?;
-    assert!(rt; before.as_slice() == b"pass default\n".as_slice());
-    let shared = Shared::new(book, calls);
-    let commit = change(rt, alloc, &shared)?;
-    judge(rt, alloc, &commit, &mut told, &mut untold)?;
-    ask(rt, alloc, &shared, &commit)?;
-    fail_to_listen(rt, alloc, &shared, seers);
-    let mut book = shared.close();
-    assert!(rt; book.confirm(&commit));
-    assert!(rt; book.log_len() == ALL && book.acked() == ALL);
-    assert!(rt; book.change_at(ALL).is_some() && book.change_at(ALL + 1).is_none());
-    drop(book);
-    let gone = judged(alloc, &mut untold)?;
-    assert!(rt; gone.as_slice() == b"gone\n".as_slice());
-    Ok(())
+    share(rt, alloc, shared, &mut told, &mut untold, seers)?;
+    judge_no_more(rt, alloc, &mut untold)
 }
 
 #[test]
