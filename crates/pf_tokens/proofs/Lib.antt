@@ -7,5 +7,6 @@ pub mod Macros
 pub mod Stopping
 pub mod Lines
 pub mod Continued
+pub mod InOrder
 pub mod MacroFree
 pub mod Plain

@@ -1,5 +1,5 @@
 -- No use of a macro is left.
-use Rattle.std.proofs.Common.{◌≡◌, ℕ, zero, suc, ◌+◌, ◌==◌, ◌&&◌, ◌||◌, Bool, true, false, nat_lt, Option, Some, None, List, [], ◌∷◌, ◌++◌, map, length, take, Result, Ok, Err, refl, ap, subst, ◌∙◌, if◌then◌else◌}
+use Rattle.std.proofs.Common.{◌≡◌, ℕ, zero, suc, ◌+◌, ◌==◌, ◌&&◌, ◌||◌, Bool, true, false, nat_lt, Option, Some, None, List, [], ◌∷◌, ◌++◌, map, length, take, Result, Ok, Err, refl, ap, ◌∙◌, if◌then◌else◌}
 use Rattle.std.specs.{List.{list_any, list_all}, Option.{option_to_list}}
 use Rattle.std.proofs.lemmas.List.Folds.{list_any-append}
 use Rattle.pf_form.specs.Form.Forms.{◌>>=◌}
@@ -12,6 +12,7 @@ use Rattle.pf_tokens.specs.declared.lexing.Run.TheVariants as runs
 use Rattle.pf_tokens.specs.{Places.{start_of, text_of}, Stops.faulty, Words.{moved, is_newline, is_macro, same_kind}, Placed.placed, Laws.HasNoMacro}
 use Rattle.pf_tokens.specs.Lexing.{front, lex, token_of, skipped, word, a_quoted, a_symbol, symbol_more, quoted, word_checked, run_of, is_quote, is_letter}
 use Rattle.pf_tokens.specs.Files.{text_of_file}
+use Rattle.pf_tokens.proofs.Binds.{then_all, or_else, ok_all, err_all}
 use Rattle.pf_tokens.specs.Flat.{State, parts_of, value_at, used_at, value_of, latest, replaced, Left, put, put_each, put_line, braces, tokens_of_value, joined, short, defined, defined_by, defining, name_checked, first_place, file_name, leaving, Including, Line, longer, lines, define, with_left, read_line, read_lines, read_text, including, read_file, all_closed, is_closed, is_definition, is_include}
 
 abbrev Free : List Token → Type 0
@@ -36,22 +37,6 @@ free-tail t ts is = or-false_right (is_macro t) (list_any is_macro ts) is
 
 free-cons : (t : Token) (ts : List Token) → is_macro t ≡ false → Free ts → Free (t ∷ ts)
 free-cons t ts a b = rw (a, b) refl
-
--- ---- what holds of whatever steps give
-
-then_all : {A B E : Type 0} (P : B → Type 0) (r : Result A E) (f : A → Result B E) (y : B) → ((x : A) → r ≡ Ok x → f x ≡ Ok y → P y) → (r >>= f) ≡ Ok y → P y
-then_all P (Ok x) f y all is = all x refl is
-then_all P (Err e) f y all is = cc
-
-or_else : {B E : Type 0} (P : B → Type 0) (b : Bool) {r s : Result B E} (y : B) → (r ≡ Ok y → P y) → (s ≡ Ok y → P y) → (if b then r else s) ≡ Ok y → P y
-or_else P true y first second is = first is
-or_else P false y first second is = second is
-
-ok_all : {B E : Type 0} (P : B → Type 0) (x y : B) → P x → ◌≡◌ {A = Result B E} (Ok x) (Ok y) → P y
-ok_all P x y holds is = let same : x ≡ y = cc in subst P same holds
-
-err_all : {B E : Type 0} (P : B → Type 0) (e : E) (y : B) → ◌≡◌ {A = Result B E} (Err e) (Ok y) → P y
-err_all P e y is = cc
 
 -- ---- a value's tokens
 

@@ -1,5 +1,5 @@
 -- What the laws of texts and tokens speak of.
-use Rattle.std.specs.Prelude.{◌≡◌, ℕ, ◌==◌, ◌&&◌, not, Bool, false, List, [], ◌∷◌, ◌++◌, fold, if◌then◌else◌}
+use Rattle.std.specs.Prelude.{◌≡◌, ◌⊎◌, ℕ, ◌==◌, ◌&&◌, not, Bool, false, List, [], ◌∷◌, ◌++◌, fold, if◌then◌else◌}
 use Rattle.std.specs.List.{list_any, flat_map}
 use Rattle.pf_tokens.specs.declared.{place.Place.Place, place.Placed.Placed, token.Token.Token, flat.Macro.Macro, flat.Flat.Flat}
 use Rattle.pf_tokens.specs.{Places.{at, behind}, Words.{is_newline, is_macro}, Flat.{Line, braces, is_definition, is_include}}
@@ -22,6 +22,17 @@ uncontinued [] = []
 uncontinued (c ∷ []) = c ∷ []
 uncontinued (c ∷ d ∷ cs) =
     if c.byte == 92 then (if d.byte == 10 then uncontinued cs else c ∷ d ∷ uncontinued cs) else c ∷ uncontinued (d ∷ cs)
+
+-- ---- tokens
+
+-- a text has these bytes in this order, each where it stands in the text, and maybe others before, between and behind them
+abbrev pub HasInOrder : List Placed → List Placed → Type 0
+HasInOrder text [] = Unit {0}
+HasInOrder [] (c ∷ cs) = ⊥
+HasInOrder (d ∷ ds) (c ∷ cs) = ((c ≡ d) × HasInOrder ds cs) ⊎ HasInOrder ds (c ∷ cs)
+
+abbrev pub bytes_of : List Token → List Placed
+bytes_of ts = flat_map (λ (t : Token). t.text) ts
 
 -- ---- macros
 

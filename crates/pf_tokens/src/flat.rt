@@ -1,5 +1,5 @@
 //! Tokens without macros, definitions of macros and includes.
-ghost use Rattle.std.specs.Prelude.{◌≡◌, ◌≤◌, ◌<◌, ◌+◌, ◌∷◌, ◌++◌, [], drop, length, Some, Err, Ok, IfSome, IsTrue, MatchOption};
+ghost use Rattle.std.specs.Prelude.{◌≡◌, ◌≤◌, ◌<◌, ◌+◌, ◌∷◌, ◌++◌, [], drop, length, Some, Err, Ok, IfSome, IsTrue, MatchOption, OnOk};
 ghost use Rattle.pf_tokens.specs.{declared.place.Place.Place, Places.{start_of, text_of}, Stops.{Gives, Leaves}, Words.{is_newline}, Placed.placed, Lexing.lex};
 ghost use Rattle.pf_tokens.specs.Flat.{latest, with_parts, replaced, is_definition, has_letters_alone, name_checked, part_checked, with_part, joined, tokens_of_value, first_place, defined, is_include, only_string, file_name, defining, lines, braces, put, put_each, put_line, all_closed, Reaches, ReachesLine, including, read_line, read_file};
 
@@ -354,8 +354,8 @@ impl Flat {
         }
     }
 
-    /// Reads the file of this number, which has this text, and what it includes, at most so deep. A fault leaves the macros that were
-    /// defined before it.
+    /// Reads the file of this number, which has this text, and what it includes, at most so deep. Each file that is read counts. A fault
+    /// leaves the macros that were defined before it.
     #[cycle(reading)]
     #[tactic(auto, unfolding(crate::specs::Flat::read_lines))]
     pub fn read(
@@ -368,7 +368,9 @@ impl Flat {
     ) -> Result<(), Stop>
         requires short { length text.now ≤ FILE_LIMIT }
         requires room { self.old.files_read < READING_LIMIT }
-        ensures { Reaches result self.new (read_file files.now deep number text.now self.old) }
+        ensures reached { Reaches result self.new (read_file files.now deep number text.now self.old) }
+        ensures counted { OnOk result (self.old.files_read < self.new.files_read) }
+        ensures within { self.new.files_read ≤ READING_LIMIT }
     {
         let tokens = tokens_of(alloc, number, text)?;
         self.files_read += 1;
@@ -393,7 +395,10 @@ impl Flat {
         newline: &Token,
         opened: &mut Items<Place>,
     ) -> Result<(), Stop>
-        ensures { ReachesLine result (opened.new, self.new) (read_line (including files.now deep) line.now newline.now (opened.old, self.old)) }
+        requires { self.old.files_read ≤ READING_LIMIT }
+        ensures reached { ReachesLine result (opened.new, self.new) (read_line (including files.now deep) line.now newline.now (opened.old, self.old)) }
+        ensures counted { OnOk result (self.old.files_read ≤ self.new.files_read) }
+        ensures within { self.new.files_read ≤ READING_LIMIT }
     {
         if opened.len() == 0 {
             if is_definition(line) {
@@ -411,7 +416,8 @@ impl Flat {
     /// Defines the macro of a line.
     fn define(&mut self, alloc: Global, line: &[Token], line_end: Place) -> Result<(), Stop>
         requires { 2 ≤ length line.now }
-        ensures { Reaches result self.new (defining self.old line.now line_end) }
+        ensures reached { Reaches result self.new (defining self.old line.now line_end) }
+        ensures unread { self.new.files_read ≡ self.old.files_read }
     {
         let definition = definition(alloc, &self.macros, &line[0], &line[2..], line_end)?;
         self.macros.push(definition)?;
@@ -422,7 +428,10 @@ impl Flat {
     #[cycle(reading)]
     #[tactic(auto, using(crate::proofs::Lines::including_deeper), unfolding(crate::specs::Flat::including))]
     fn include(&mut self, alloc: Global, files: &Files, deep: u32, name: &Token) -> Result<(), Stop>
-        ensures { Reaches result self.new (including files.now deep name.now self.old) }
+        requires { self.old.files_read ≤ READING_LIMIT }
+        ensures reached { Reaches result self.new (including files.now deep name.now self.old) }
+        ensures counted { OnOk result (self.old.files_read < self.new.files_read) }
+        ensures within { self.new.files_read ≤ READING_LIMIT }
     {
         if deep == 0 {
             return Err(refusal(name.place, Mistake::DeepInclude));

@@ -27,7 +27,9 @@ pub use fault::{Fault, Mistake, Stop};
 pub use files::{Contents, FILE_LIMIT, File, Files, READING_LIMIT, text_of_file};
 pub use flat::{Flat, INCLUDE_LIMIT, Macro, Macros};
 pub use items::{Bytes, Items, PlacedText};
-pub use laws::{continued_lines_vanish, no_macro_is_left, plain_lines_are_left};
+pub use laws::{
+    continued_lines_vanish, no_macro_is_left, plain_lines_are_left, tokens_stand_in_their_text,
+};
 pub use lexing::{Source, lex};
 pub use place::{Place, Placed};
 pub use placing::placed;
