@@ -1,5 +1,5 @@
 -- What tokens are made of stands in their text.
-use Rattle.std.proofs.Common.{◌≡◌, ◌⊎◌, ℕ, zero, suc, ◌+◌, ◌==◌, ◌≤◌, ◌||◌, Some, None, List, [], ◌∷◌, ◌++◌, length, take, drop, take_while, Result, Ok, Err, refl, sym, ap, subst, ◌∙◌, inl, inr, arith}
+use Rattle.std.proofs.Common.{◌≡◌, ℕ, zero, suc, ◌+◌, ◌==◌, ◌≤◌, ◌||◌, List, [], ◌∷◌, ◌++◌, length, take, drop, Ok, refl, sym, subst, inl, inr, arith}
 use Rattle.std.specs.Option.{option_to_list}
 use Rattle.std.proofs.lemmas.{List.{take-append-drop, append-nil}, List.Concat.flat_map-append}
 use Rattle.pf_form.specs.Form.Forms.{◌>>=◌}

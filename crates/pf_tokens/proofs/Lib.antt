@@ -6,6 +6,7 @@ pub mod Tokens
 pub mod Macros
 pub mod Stopping
 pub mod Lines
+pub mod Shown
 pub mod Continued
 pub mod InOrder
 pub mod MacroFree

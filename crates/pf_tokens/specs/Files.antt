@@ -1,5 +1,5 @@
 -- The files that are given: a function from names to what they have.
-use Rattle.std.specs.Prelude.{◌≡◌, ℕ, ◌+◌, nat_lt, nat_le, List, [], ◌∷◌, length, Option, Some, None, Result, Ok, Err, if◌then◌else◌}
+use Rattle.std.specs.Prelude.{◌≡◌, ℕ, ◌+◌, nat_lt, nat_le, List, [], ◌∷◌, length, Option, Some, None, Result, Ok, Err, IsErr, if◌then◌else◌}
 use Rattle.std.specs.Str.{bytes_eq}
 use denote.Ref.{Bor}
 use Rattle.pf_tokens.specs.declared.{place.Place.Place, files.File.File, files.Contents.Contents, files.Contents.TheVariants.{Text, Unreadable}, files.TheConstants.{FILE_LIMIT, READING_LIMIT}, fault.Stop.Stop, fault.Stop.TheVariants.{Faulty, Needs, Memory}}
@@ -27,9 +27,9 @@ unfoldable pub text_of_file : List File → ℕ → Place → List ℕ → Resul
 text_of_file files files_read at name =
     if nat_lt files_read READING_LIMIT then contents_at at name (file_from 0 name files) else Err (faulty at mistakes.ManyFiles)
 
--- what is found is what is wanted, unless memory runs out
+-- What is found is what is wanted. Memory can only run out where a name is told.
 abbrev pub Finds : Result (ℕ × Bor (List ℕ)) Stop → Result (ℕ × List ℕ) Stop → Type 0
 Finds (Ok (n, text)) wanted = wanted ≡ Ok (n, text.now)
 Finds (Err (Faulty f)) wanted = wanted ≡ Err (Faulty f)
 Finds (Err (Needs name)) wanted = wanted ≡ Err (Needs name)
-Finds (Err Memory) wanted = Unit {0}
+Finds (Err Memory) wanted = IsErr wanted

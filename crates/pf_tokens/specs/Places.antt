@@ -1,5 +1,5 @@
 -- Places in files: lines from 1, columns from 1 in bytes.
-use Rattle.std.specs.{Prelude.{ℕ, ◌+◌, ◌==◌, ◌&&◌, not, Bool, List, map, length, None, if◌then◌else◌}, List.list_all, Char.is_ascii_digit}
+use Rattle.std.specs.{Prelude.{ℕ, ◌+◌, ◌==◌, ◌&&◌, not, Bool, List, [], map, length, None, if◌then◌else◌}, List.list_all, Char.is_ascii_digit, Str.is_utf8}
 use Rattle.pf_tokens.specs.declared.{place.Place.Place, place.Placed.Placed}
 
 abbrev pub start_of : ℕ → Place
@@ -21,6 +21,10 @@ at b p = record { byte = b; place = p }
 -- the bytes without their places
 abbrev pub text_of : List Placed → List ℕ
 text_of cs = map (λ (c : Placed). c.byte) cs
+
+-- what is told of a word or a name: its bytes, if they are a text
+abbrev pub shown : List ℕ → List ℕ
+shown bytes = if is_utf8 bytes then bytes else []
 
 abbrev pub each_is_digit : List Placed → Bool
 each_is_digit text = list_all (λ (c : Placed). is_ascii_digit c.byte) text

@@ -45,7 +45,8 @@ fn file_named<'a>(files: &'a [File], name: &[u8]) -> Option<(usize, &'a File)>
     None
 }
 
-/// The number and the text of a file that is named at this place, as the next after so many that were read.
+/// The number and the text of a file that is named at this place, as the next after so many that were read. `Needs`: it isn't given.
+/// `Faulty`: it is one too many, or can't be read, or is too long. Memory can only run out where its name is told.
 #[tactic(auto, unfolding(crate::specs::Files::text_of_file))]
 pub fn text_of_file<'a>(
     alloc: Global,

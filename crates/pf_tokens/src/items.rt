@@ -1,5 +1,6 @@
 //! Lists that own their items.
-ghost use Rattle.std.specs.Prelude.{◌≡◌, ◌∷◌, ◌++◌, ◌-◌, [], length, take, IfOk, OnErr, OnOk};
+ghost use Rattle.std.specs.Prelude.{◌≡◌, ◌∷◌, ◌++◌, ◌-◌, [], length, take, Some, IfOk, OnErr, OnOk};
+ghost use Rattle.pf_tokens.specs.Places.{shown};
 
 use crate::place::Placed;
 use std::alloc::{AllocError, Global};
@@ -90,11 +91,14 @@ impl Items<u8> {
     }
 }
 
+/// The bytes, if they are a text in UTF-8; else nothing.
 impl Display for Items<u8> {
+    ghost output = { λ bytes. Some (shown bytes) };
+
     fn fmt<W: Write>(&self, f: &mut Formatter<W>) -> fmt::Result {
         match str::from_utf8(self.as_slice()) {
             Ok(text) => f.write_str(text),
-            Err(_) => Ok(()),
+            Err(_) => f.write_str(""),
         }
     }
 }
