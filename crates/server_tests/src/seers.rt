@@ -35,16 +35,17 @@ fn command(alloc: Global, line: &str) -> io::Result<Command> {
     }
 }
 
-/// One call, with the receipt of an earlier one: its receipt.
+/// One call, with the receipt of the one before it: its receipt becomes the last one.
 fn run<J: Chapter + Numbering, R: Wait>(
     rt: &R,
     alloc: Global,
     shared: &Shared<MemDisk, J, &R>,
     line: &str,
-    last: Option<&Receipt<J>>,
-) -> io::Result<Receipt<J>> {
-    let (_reply, receipt) = shared.run(rt, command(alloc, line)?, last);
-    Ok(receipt)
+    receipts: &mut Vec<Receipt<J>>,
+) -> io::Result<()> {
+    let (_reply, receipt) = shared.run(rt, command(alloc, line)?, receipts.last());
+    receipts.push(receipt)?;
+    Ok(())
 }
 
 /// Makes changes, alone or in one group with those of another caller, each call with the receipt of the one before it: their numbers.
@@ -95,6 +96,22 @@ fn change_at_once<J: Chapter + Numbering + Send + Sync, R: Wait + Threads + Sync
     Ok(numbers)
 }
 
+/// Commits a rule that blocks: the receipt.
+fn commit_block<J: Chapter + Numbering, R: Wait>(
+    rt: &R,
+    alloc: Global,
+    shared: &Shared<MemDisk, J, &R>,
+) -> io::Result<Receipt<J>> {
+    let mut receipts = Vec::new(alloc);
+    run(rt, alloc, shared, "begin filter -", &mut receipts)?;
+    run(rt, alloc, shared, "add - 1.1 block in all", &mut receipts)?;
+    run(rt, alloc, shared, "commit filter - 1.1", &mut receipts)?;
+    match receipts.pop() {
+        Some(commit) => Ok(commit),
+        None => Err(io::Error::from(ErrorKind::Other)),
+    }
+}
+
 /// Each change of two callers has its own number. Behind them a rule that blocks is committed: the receipt of that.
 fn change<J: Chapter + Numbering + Send + Sync, R: Wait + Threads + Abort + Sync>(
     rt: &R,
@@ -104,9 +121,7 @@ fn change<J: Chapter + Numbering + Send + Sync, R: Wait + Threads + Abort + Sync
     let mut numbers = change_at_once(rt, alloc, shared)?;
     numbers.sort()?;
     assert!(rt; numbers.iter().copied().eq(1..ALL));
-    run(rt, alloc, shared, "begin filter -", None)?;
-    run(rt, alloc, shared, "add - 1.1 block in all", None)?;
-    let commit = run(rt, alloc, shared, "commit filter - 1.1", None)?;
+    let commit = commit_block(rt, alloc, shared)?;
     assert!(rt; commit.seq() == ALL && commit.change().is_some());
     Ok(commit)
 }
@@ -137,7 +152,7 @@ fn ask<J: Chapter + Numbering, R: Wait + Abort>(
     commit: &Receipt<J>,
 ) -> Result<(), Fail> {
     for line in ["test - a 10.0.0.1", "tkill - none"] {
-        let receipt = run(rt, alloc, shared, line, Some(commit))?;
+        let (_reply, receipt) = shared.run(rt, command(alloc, line)?, Some(commit));
         assert!(rt; receipt.seq() == commit.seq(), "at {line}");
         assert!(rt;
             receipt.change().is_none() && receipt.token().is_none(),
@@ -203,7 +218,7 @@ fn confirm<J: Chapter, R: Wait + Abort>(
 ) {
     assert!(rt; book.confirm(commit));
     assert!(rt; book.log_len() == commit.seq() && book.acked() == commit.seq());
-    assert!(rt; book.change_at(1).is_some() && book.change_at(commit.seq() + 1).is_none());
+    assert!(rt; book.change_at(1).is_some() && book.change_at(ALL + 1).is_none());
 }
 
 /// A seer of a Book that is gone judges no more.
