@@ -9,6 +9,8 @@
  * clib judge-lines FILE < PACKETS: the same by a file of lines.
  * clib time FILE THREADS ROUNDS < PACKETS: judges the packets so many times in each of so many threads, and writes the nanoseconds of a
  *     processor that a packet took, one at a time and in arrays of 256.
+ * clib alone FILE < PACKETS: judges each once, and writes nothing.
+ * clib stack FILE < PACKETS: how many bytes of a stack their verdicts take, by a file of lines.
  */
 #include <arpa/inet.h>
 #include <inttypes.h>
@@ -274,9 +276,65 @@ static void time_all(struct wirdalf *config, size_t threads, size_t rounds)
     free(runs);
 }
 
+static void judge_alone(struct wirdalf *config)
+{
+    size_t count;
+    struct wirdalf_packet *packets = packets_of(stdin, &count);
+    struct wirdalf_verdict verdict;
+
+    for (size_t i = 0; i < count; i++)
+        wirdalf_judge(config, &packets[i], &verdict);
+    free(packets);
+}
+
+/* One who judges on a stack of its own, and where it begins there. */
+struct diver {
+    struct wirdalf *config;
+    const struct wirdalf_packet *packets;
+    size_t count;
+    uintptr_t begun;
+};
+
+static void *dive(void *argument)
+{
+    struct diver *diver = argument;
+    struct wirdalf_verdict verdict;
+
+    diver->begun = (uintptr_t)&verdict;
+    for (size_t i = 0; i < diver->count; i++)
+        wirdalf_judge(diver->config, &diver->packets[i], &verdict);
+    return NULL;
+}
+
+static void measure_stack(struct wirdalf *config)
+{
+    enum { SIZE = 1 << 21, PAGE = 1 << 12 };
+    struct diver diver = { .config = config };
+    struct wirdalf_packet *packets = packets_of(stdin, &diver.count);
+    pthread_attr_t how;
+    pthread_t thread;
+    void *stack = aligned_alloc(PAGE, SIZE);
+    uint8_t *lowest = stack;
+
+    if (stack == NULL || pthread_attr_init(&how) != 0 || pthread_attr_setstack(&how, stack, SIZE) != 0)
+        stop("memory");
+    memset(stack, 0xA5, SIZE);
+    diver.packets = packets;
+    if (pthread_create(&thread, &how, dive, &diver) != 0)
+        stop("threads");
+    pthread_join(thread, NULL);
+    while (*lowest == 0xA5)
+        lowest++;
+    printf("%zu\n", (size_t)(diver.begun - (uintptr_t)lowest));
+    pthread_attr_destroy(&how);
+    free(packets);
+    free(stack);
+}
+
 int main(int count, char **words)
 {
     struct wirdalf config;
+    int is_lines;
 
     if (count == 2 && (strcmp(words[1], "show") == 0 || strcmp(words[1], "lines") == 0)) {
         do_all(words[1][0] == 's' ? show : do_lines);
@@ -284,11 +342,16 @@ int main(int count, char **words)
     }
     if (count < 3)
         stop("words");
-    config = made_of(words[2], strcmp(words[1], "judge-lines") == 0);
+    is_lines = strcmp(words[1], "judge-lines") == 0 || strcmp(words[1], "stack") == 0;
+    config = made_of(words[2], is_lines);
     if (count == 3 && strncmp(words[1], "judge", 5) == 0)
         judge_all(&config);
     else if (count == 5 && strcmp(words[1], "time") == 0)
         time_all(&config, (size_t)atol(words[3]), (size_t)atol(words[4]));
+    else if (count == 3 && strcmp(words[1], "alone") == 0)
+        judge_alone(&config);
+    else if (count == 3 && strcmp(words[1], "stack") == 0)
+        measure_stack(&config);
     else
         stop("words");
     wirdalf_free(config);

@@ -67,7 +67,7 @@ struct wirdalf_packet {
     uint16_t destination_port; /* host order */
     uint8_t source[16];        /* network order; IPv4 in the first four */
     uint8_t destination[16];   /* network order */
-    char interface[16];        /* 1 to 15 bytes and a zero */
+    char interface[16];        /* 1 to 15 bytes and a zero; nothing but zeros behind it is fastest */
 };
 
 /* A verdict. A field that its kind has no use for is 0. */
@@ -114,7 +114,8 @@ uint32_t wirdalf_clone(struct wirdalf *config, struct wirdalf *copy);
 /* Lets it go. The last of those that share something frees it. */
 void wirdalf_free(struct wirdalf config);
 
-/* What happens to a packet: a state of its flow passes it, else the rules decide. */
+/* What happens to a packet: a state of its flow passes it, else the rules decide. It wants 512 KiB of the stack: where anchor rules lead to
+ * rulesets again and again a verdict takes 440 KiB, and else a few. */
 void wirdalf_judge(struct wirdalf *config, const struct wirdalf_packet *packet, struct wirdalf_verdict *verdict);
 
 /* The same for each of an array, and how many were judged: as many as there are packets and room for verdicts. */

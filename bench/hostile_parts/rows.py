@@ -135,7 +135,7 @@ def play_peers(table, count):
 
 
 def play_table(table, count):
-    if table.has("words", "fails", "locked"):
+    if table.has("words", "server", "fails", "locked"):
         return
     if table.has("peer"):
         play_peers(table, count)

@@ -1,12 +1,12 @@
 -- Rules eight at a time: what a block gives, and what is left after it.
-use Rattle.std.proofs.Common.{◌≡◌, ◌<◌, ◌≤◌, ℕ, zero, suc, ◌+◌, ◌-◌, ◌*◌, Bool, true, false, cond, ◌&&◌, ◌||◌, List, [], ◌∷◌, length, take, drop, get_or, Option, Some, None, refl, sym, ap, ◌∙◌, arith, ⊎_elim}
-use Rattle.std.specs.{Prelude.{slice_get, bit_and}, Int.div_ceil, Option.option_or}
-use Rattle.std.proofs.lemmas.{Bool.{cases_lt, or_parts}, Grind.div_ceil_times, List.drop-drop, Option.slice_get-get_or}
+use Rattle.std.proofs.Common.{◌≡◌, ◌<◌, ◌≤◌, ℕ, zero, suc, ◌+◌, ◌-◌, ◌*◌, ◌^◌, Bool, true, false, cond, ◌&&◌, ◌||◌, List, [], ◌∷◌, length, take, drop, get_or, Option, Some, None, refl, sym, ap, ◌∙◌, arith, ⊎_elim, w8}
+use Rattle.std.specs.{Prelude.{slice_get, bit_and, nat_eq, MatchOption, IfSome}, Int.div_ceil, Option.option_or}
+use Rattle.std.proofs.lemmas.{Bool.{cases_lt, or_parts}, Grind.div_ceil_times, List.drop-drop, Nat.Bits.bit_at-trailing_zeros, Option.slice_get-get_or}
 use Rattle.pf_addr.specs.Path.References.{PlainReference}
-use Rattle.pf_rule.specs.{Rules.PlainRule, declared.{rule.Action.Action, rule.Effect.Effect, rule.Effect.TheVariants.Decide, rule.Effect.TheVariants.Evaluate}}
+use Rattle.pf_rule.specs.{Packets.PlainPacket, Rules.PlainRule, declared.{rule.Action.Action, rule.Effect.Effect, rule.Effect.TheVariants.Decide, rule.Effect.TheVariants.Evaluate}}
 use Rattle.pf_lanes.specs.{Masks.{is_set, AreEnds}, Answered.{bit_by, block_mark, eight_from, is_anchor, stops}}
 use Rattle.pf_lanes.proofs.{Bits.{none_set, is_set-and}, Counted.taken_above, Places.eight_get}
-use Rattle.pf_anchor.specs.{Blocks.AreStops, declared.{evaluated.Evaluated.Evaluated, evaluated.Evaluated.TheVariants.Open, evaluated.Evaluated.TheVariants.Ended}, Matches.{PlainMatch, found}, Rulesets.PlainPlaced, Evaluation.{and_then, settled, effected, rules_give}}
+use Rattle.pf_anchor.specs.{Blocks.{AreStops, GivesLast, given_from}, declared.{evaluate.LastBlock.LastBlock, evaluated.Evaluated.Evaluated, evaluated.Evaluated.TheVariants.Open, evaluated.Evaluated.TheVariants.Ended}, Matches.{PlainMatch, found}, Rulesets.PlainPlaced, Configurations.PlainConfig, Evaluation.{and_then, settled, effected, rules_give}}
 use Rattle.pf_anchor.proofs.{Evaluations.{none_and_then, and_then_assoc}, Turns.then_open}
 use Rattle.pf_map.proofs.Tests.{same_entry}
 
@@ -73,6 +73,47 @@ left_open f c p n false q e free = (None, refl)
 left_open f c p n true false (Decide a) free = (Some (found p n a), refl)
 left_open f c p n true false (Evaluate s) free = absurd (cc (free refl))
 left_open f c p n true true e free = absurd (cc (free refl))
+
+-- if it matches, it decides
+decides : (f : PlainPlaced → Evaluated PlainMatch) (c : List PlainPlaced) (p : List ℕ) (n : ℕ) (b q : Bool) (e : Effect) → b ≡ true → (b ≡ true → (q || is_anchor e) ≡ false) →
+    (m : PlainMatch) × (cond b (settled q (effected f c p n e)) (Open None) ≡ Open (Some m))
+decides f c p n false q e is free = absurd (cc (is))
+decides f c p n true false (Decide a) is free = (found p n a, refl)
+decides f c p n true false (Evaluate s) is free = absurd (cc (free refl))
+decides f c p n true true e is free = absurd (cc (free refl))
+
+both_open : (a b : Option PlainMatch) → and_then (Open a) (Open b) ≡ Open (option_or b a)
+both_open a None = refl
+both_open a (Some m) = refl
+
+some_stands : (o : Option PlainMatch) (m : PlainMatch) → (k : PlainMatch) × (option_or o (Some m) ≡ Some k)
+some_stands None m = (m, refl)
+some_stands (Some k) m = (k, refl)
+
+-- rules don't end the evaluation if none that matches is a quick or an anchor rule
+stay_open : (f : PlainPlaced → Evaluated PlainMatch) (c : List PlainPlaced) (p : List ℕ) (test : PlainRule → Bool) (n : ℕ) (rs : List PlainRule) →
+    ((i : ℕ) → bit_by test (slice_get rs i) ≡ true → bit_by stops (slice_get rs i) ≡ false) →
+    (o : Option PlainMatch) × (rules_give (λ k x. effected f c p k x.effect) test n rs ≡ Open o)
+stay_open f c p test n [] free = (None, refl)
+stay_open f c p test n (x ∷ xs) free =
+    let here = left_open f c p n (test x) x.quick x.effect (free 0) in
+    let rest = stay_open f c p test (n + 1) xs (λ i. free (suc i)) in
+    (option_or rest.0 here.0, (λ j. and_then (here.1 j) (rest.1 j)) ∙ both_open here.0 rest.0)
+
+-- if one of them matches, there is a last match
+one_decides : (f : PlainPlaced → Evaluated PlainMatch) (c : List PlainPlaced) (p : List ℕ) (test : PlainRule → Bool) (n : ℕ) (rs : List PlainRule) →
+    ((i : ℕ) → bit_by test (slice_get rs i) ≡ true → bit_by stops (slice_get rs i) ≡ false) → (i : ℕ) → bit_by test (slice_get rs i) ≡ true →
+    (m : PlainMatch) × (rules_give (λ k x. effected f c p k x.effect) test n rs ≡ Open (Some m))
+one_decides f c p test n [] free i is = absurd (cc (is))
+one_decides f c p test n (x ∷ xs) free zero is =
+    let here = decides f c p n (test x) x.quick x.effect is (free 0) in
+    let rest = stay_open f c p test (n + 1) xs (λ i. free (suc i)) in
+    let last = some_stands rest.0 here.0 in
+    (last.0, (λ j. and_then (here.1 j) (rest.1 j)) ∙ both_open (Some here.0) rest.0 ∙ ap (λ (o : Option PlainMatch). Open o) last.1)
+one_decides f c p test n (x ∷ xs) free (suc i) is =
+    let here = left_open f c p n (test x) x.quick x.effect (free 0) in
+    let rest = one_decides f c p test (n + 1) xs (λ i. free (suc i)) i is in
+    (rest.0, (λ j. and_then (here.1 j) (rest.1 j)))
 
 -- the rule at this lane matches, none after it does, and none that matches is a quick or an anchor rule
 record IsLast (test : PlainRule → Bool) (rs : List PlainRule) (lane : ℕ) (r : PlainRule) : Type 0 where
@@ -142,6 +183,56 @@ last_found f c p test rules block mask first last r a bits free ends there decid
           (cases_lt i 8);
     })
     decides
+
+-- a mask with a bit: there is a last match
+pub one_found : (f : PlainPlaced → Evaluated PlainMatch) (c : List PlainPlaced) (p : List ℕ) (test : PlainRule → Bool) (rules : List PlainRule) (block mask : ℕ) →
+    HasBits test rules block mask → ((i : ℕ) → i < 8 → is_set mask i ≡ true → block_mark stops rules block i ≡ false) → 0 < mask → mask < 2 ^ 8 →
+    (m : PlainMatch) × (rules_give (λ k x. effected f c p k x.effect) test (8 * block) (eight_from (8 * block) rules) ≡ Open (Some m))
+one_found f c p test rules block mask bits free some fits =
+    let low = bit_at-trailing_zeros w8 mask some fits in
+    one_decides f c p test (8 * block) (eight_from (8 * block) rules)
+    (λ i is. ⊎_elim
+    (λ (lt : i < 8). eight_bit stops rules block i lt ∙ free i lt (bits.each i lt ∙ sym (eight_bit test rules block i lt) ∙ is))
+    (λ (le : 8 ≤ i). no_ninth stops rules block i le)
+    (cases_lt i 8))
+    _ (eight_bit test rules block _ low.0 ∙ sym (bits.each _ low.0) ∙ ap (λ b. nat_eq b 1) low.1)
+
+-- ---- the last block with a match, of those passed
+
+-- its match stands, whatever was before it
+pub record IsLastBlock (c : PlainConfig) (packet : PlainPacket) (e : PlainPlaced) (from to : ℕ) (before : Option PlainMatch) (block mask : ℕ) : Type 0 where
+  pub within : block ≤ length e.1
+  pub stands : PlainMatch
+  pub is_its : (last : Option PlainMatch) → GivesLast e block mask last → last ≡ Some stands
+  pub gives : given_from c packet e from before ≡ given_from c packet e to (Some stands)
+
+-- after the blocks from one up to another the last block's match stands, or the one before if no rule of them matches
+abbrev pub Passes : PlainConfig → PlainPacket → PlainPlaced → ℕ → ℕ → Option PlainMatch → Option LastBlock → Type 0
+Passes c packet e from to before last_block =
+    MatchOption last_block (given_from c packet e from before ≡ given_from c packet e to before) (λ b. IsLastBlock c packet e from to before b.block b.mask)
+
+pub some_last : (c : PlainConfig) (packet : PlainPacket) (e : PlainPlaced) (from to : ℕ) (before : Option PlainMatch) (last_block : Option LastBlock) → Passes c packet e from to before last_block →
+    (last : Option PlainMatch) × (given_from c packet e from before ≡ given_from c packet e to last)
+some_last c packet e from to before None passes = (before, passes)
+some_last c packet e from to before (Some b) passes = (Some passes.stands, passes.gives)
+
+-- further on, past rules that don't match
+pub further : (c : PlainConfig) (packet : PlainPacket) (e : PlainPlaced) (from to next : ℕ) (before : Option PlainMatch) (last_block : Option LastBlock) → Passes c packet e from to before last_block →
+    ((last : Option PlainMatch) → given_from c packet e to last ≡ given_from c packet e next last) → Passes c packet e from next before last_block
+further c packet e from to next before None passes same = passes ∙ same before
+further c packet e from to next before (Some b) passes same =
+    record { within = passes.within; stands = passes.stands; is_its = passes.is_its; gives = passes.gives ∙ same (Some passes.stands) }
+
+pub last_within : (c : PlainConfig) (packet : PlainPacket) (e : PlainPlaced) (from to : ℕ) (before : Option PlainMatch) (last_block : Option LastBlock) → Passes c packet e from to before last_block →
+    IfSome last_block (λ b. b.block ≤ length e.1)
+last_within c packet e from to before None passes = tt
+last_within c packet e from to before (Some b) passes = passes.within
+
+-- what the last block gives, or what was before
+pub at_last : (c : PlainConfig) (packet : PlainPacket) (e : PlainPlaced) (from to : ℕ) (before : Option PlainMatch) (last_block : Option LastBlock) (last : Option PlainMatch) →
+    Passes c packet e from to before last_block → MatchOption last_block (last ≡ before) (λ b. GivesLast e b.block b.mask last) → given_from c packet e from before ≡ given_from c packet e to last
+at_last c packet e from to before None last passes is = passes ∙ ap (λ (o : Option PlainMatch). given_from c packet e to o) (sym is)
+at_last c packet e from to before (Some b) last passes is = passes.gives ∙ ap (λ (o : Option PlainMatch). given_from c packet e to o) (sym (passes.is_its last is))
 
 pub past_all : (rules items : List PlainRule) (k : ℕ) → rules ≡ items → length rules ≤ k → slice_get items k ≡ None
 past_all rules items k same le = ap (λ (rs : List PlainRule). slice_get rs k) (sym same) ∙ past rules k le where
@@ -216,3 +307,6 @@ blocks_passed effect test rules from to le none =
 
 pub block_within : (len blocks block : ℕ) → blocks ≡ div_ceil len 8 → block < blocks → block < len
 block_within len blocks block is lt = let times = div_ceil_times len 8 (omega arith) in omega (arith, is, lt, times.1)
+
+pub block_past : (len blocks block : ℕ) → blocks ≡ div_ceil len 8 → blocks ≤ block → len ≤ 8 * block
+block_past len blocks block is le = let times = div_ceil_times len 8 (omega arith) in omega (arith, is, le, times.0)

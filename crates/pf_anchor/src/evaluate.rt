@@ -112,6 +112,30 @@ fn last_match<'a>(placed: &'a Placed, block: usize, mask: u8) -> Option<Match<'a
     }
 }
 
+/// The last of the blocks that are passed in which rules match. None of these rules is a quick or an anchor rule.
+#[derive(Clone, Copy)]
+struct LastBlock {
+    block: usize,
+    /// Which of its rules match.
+    mask: u8,
+}
+
+// The last match after blocks that are passed: that of the last block in which rules match, or the one before if there is no such block.
+#[inline(always)]
+fn last_so_far<'a>(
+    placed: &'a Placed,
+    last_block: Option<LastBlock>,
+    before: Option<Match<'a>>,
+) -> Option<Match<'a>>
+    requires { IfSome last_block (λ b. b.block ≤ length placed.now.1) }
+    ensures { MatchOption last_block (result ≡ before.entry) (λ b. GivesLast placed.now b.block b.mask result) }
+{
+    match last_block {
+        Some(LastBlock { block, mask }) => last_match(placed, block, mask),
+        None => before,
+    }
+}
+
 /// A block in which a quick or an anchor rule may match.
 #[derive(Clone, Copy)]
 struct Stop {
@@ -145,7 +169,7 @@ fn pass_blocks<'a, T: AskedTables>(
         (λ s. IsStop question.now.config.now question.now.packet.now placed.now from before.entry r.last s.block s.mask)) }
 {
     let blocks = placed.value().as_slice().len().div_ceil(LANES);
-    let mut last = before;
+    let mut last_block = None;
     let mut block = next_near(probe, from);
     while block < blocks {
         let mask = matching_by(tables, placed, probe, question.packet, block);
@@ -153,12 +177,17 @@ fn pass_blocks<'a, T: AskedTables>(
             return None;
         }
         if stopping(placed, block, mask) != 0 {
+            let last = last_so_far(placed, last_block, before);
             let stop = Some(Stop { block, mask });
             return Some(Passed { last, stop });
         }
-        last = last_match(placed, block, mask).or(last);
+        if mask != 0 {
+            // its rule is read only if no later block has a match, since rules lie far from one another in memory
+            last_block = Some(LastBlock { block, mask });
+        }
         block = next_near(probe, block + 1);
     }
+    let last = last_so_far(placed, last_block, before);
     Some(Passed { last, stop: None })
 }
 

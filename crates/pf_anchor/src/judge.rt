@@ -16,7 +16,7 @@ impl Config {
     /// The verdict of the rules on a packet: the rule that decides by the main ruleset's evaluation (pf.conf(5), PACKET FILTERING and
     /// ANCHORS), with its ruleset's path and its number there, or the default pass. It takes no memory.
     ///
-    /// Rulesets are evaluated as rules lead to them, until 1,024 rules and once more as many as there are in all, but no more than 131,072,
+    /// Rulesets are evaluated as rules lead to them, until 1,024 rules and once more as many as there are in all, but no more than 65,536,
     /// were looked at, or tables were asked 512 times. If that doesn't suffice, each table is asked for both addresses once, and then each
     /// ruleset evaluated once, by what is known of those that its rules lead to. So it looks at each rule about twice at most, whatever the
     /// anchors, as long as there are no more than 1,024 rulesets and 1,024 tables.

@@ -6,14 +6,14 @@ use std::cell::Cell;
 const AT_FIRST: usize = 1024;
 
 // How many rules a packet may look at in this way at most. Where there are more in all, evaluating each ruleset once takes longer than this by far.
-const AT_MOST: usize = 131_072;
+const AT_MOST: usize = 65_536;
 
 // How many times tables may be asked. An answer may take as long as some hundred rules, and the rules of a few rulesets can ask some ten
 // thousand times; few packets ask more than some ten times.
 const ANSWERS: usize = 512;
 
 /// How many rules a packet may still look at by going from ruleset to ruleset: first 1,024, and then once as many as there are in all, up to
-/// 131,072; and how many times their rules may still ask tables. It decides nothing of what an evaluation gives.
+/// 65,536; and how many times their rules may still ask tables. It decides nothing of what an evaluation gives.
 #[derive(Drop)]
 pub(crate) struct Work {
     left: Cell<usize>,

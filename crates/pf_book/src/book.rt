@@ -464,6 +464,11 @@ impl<D: Disk + Drop, J: Chapter, S: Publisher<J> + Drop> Book<D, J, S> {
         }
     }
 
+    /// Where its memory comes from.
+    pub(crate) fn alloc(&self) -> Global {
+        self.alloc
+    }
+
     /// How many of the changes were acknowledged: all, or all but those of one call.
     pub fn acked(&self) -> usize
         ensures { result ≡ length (flat self.now.acked) }

@@ -1,17 +1,22 @@
 //! A Book that threads share.
-ghost use Rattle.std.specs.{Option.option_copied, Prelude.{ℕ, List, nat_lt}};
+ghost use Rattle.std.specs.{Option.option_copied, Prelude.{◌≡◌, ℕ, List, Option, nat_lt}};
 ghost use Rattle.pf_disk.specs.Disk.{EachMoment, IsImage};
 ghost use Rattle.pf_core.specs.{Calls.call, WorldBooks.{IsAt, Leads, LeadsGroup}, Worlds.{CurrentOpening, idle, calling, grouping, upshot}};
-ghost use Rattle.pf_book.specs.{Books.{HoldsLeft, IsOpenable, StaysOpenable, StaysUnlessAnyKept, StaysUnlessKept, world_book}, Groups.{IsGroupAnswered, replies_of, told}, Receipts.{IsReached, IsAnswered}};
+ghost use Rattle.pf_book.specs.{Books.{HoldsLeft, IsOpenable, StaysOpenable, StaysUnlessAnyKept, StaysUnlessKept, world_book}, Groups.{IsGroupAnswered, replies_of, told}, Receipts.{IsReached, IsAnswered, TakesUp, PlainReceipt}, Together.IsAnsweredTogether};
+
+mod together;
 
 use crate::book::Book;
 use crate::chapter::Chapter;
 use crate::receipt::Receipt;
 use pf_core::{Command, Refusal, Reply};
 use pf_disk::Disk;
+use pf_queue::{Numbering, Queue};
 use pf_view::Publisher;
 use std::marker::Model;
-use std::sync::{Mutex, Wait};
+use std::sync::Wait;
+use together::Asked;
+pub use together::{AskedEntry, NewCalls};
 
 // What is under the lock: a Book that stands for some world of this opening.
 #[derive(Drop)]
@@ -63,26 +68,38 @@ impl<D: Disk + Drop, J: Chapter, S: Publisher<J> + Drop> Locked<D, J, S> {
         self.book.between_calls();
         answers
     }
-}
 
-/// A Book under a lock, which any thread may call, and what publishes its changes. The crate's [`Shared`](crate::Shared) is one over a
-/// [`Shower`](pf_view::Shower).
-#[derive(Drop)]
-pub struct Shared<D: Disk + Drop, J: Chapter, S: Publisher<J> + Drop> {
-    locked: Mutex<Locked<D, J, S>>,
-}
-
-impl<D: Disk + Drop, J: Chapter, S: Publisher<J> + Drop> Shared<D, J, S> {
-    /// Shares a Book that stands for some world of its opening, as a new one does. It takes no memory.
-    pub fn new(book: Book<D, J, S>) -> Shared<D, J, S>
-        requires { IsReached J.base J.setting (world_book book) }
+    // One group for several callers, each of which may have handed in a receipt.
+    fn group_for_all(&mut self, commands: &[Command]) -> Result<Vec<(Reply, Receipt<J>)>, Refusal>
+        ensures { (last : Option PlainReceipt) → TakesUp last (world_book self.old) → IsGroupAnswered J.base J.setting commands.now (told result) last }
     {
+        let answers = self.book.answer_each(commands);
+        self.book.between_calls();
+        answers
+    }
+}
+
+/// A Book under a lock, which any thread may call, and what publishes its changes. Callers take turns, in the order in which they came. The
+/// crate's [`Shared`](crate::Shared) is one over a [`Shower`](pf_view::Shower).
+#[derive(Drop)]
+pub struct Shared<D: Disk + Drop, J: Chapter + Numbering, S: Publisher<J> + Drop> {
+    queue: Queue<J, Locked<D, J, S>>,
+}
+
+impl<D: Disk + Drop, J: Chapter + Numbering, S: Publisher<J> + Drop> Shared<D, J, S> {
+    /// Shares a Book that stands for some world of its opening, as a new one does, with the register in which its callers' commands are
+    /// numbered. It takes no memory.
+    pub fn new(book: Book<D, J, S>, calls: NewCalls) -> Shared<D, J, S>
+        requires reached { IsReached J.base J.setting (world_book book) }
+        requires name { calls ≡ J.register }
+    {
+        let alloc = book.alloc();
         Shared {
-            locked: Mutex::new(Locked { book }),
+            queue: Queue::new(alloc, calls, Locked { book }),
         }
     }
 
-    /// One call, as `Book::run` answers it, with a receipt. It waits for the lock, and under it for workers that are judging.
+    /// One call, as `Book::run` answers it, with a receipt. It waits for its turn, and then for workers that are judging.
     ///
     /// The reply is legal in a world of this opening whose last event is this call. The receipt's front is the history after it, and begins
     /// with the front of a receipt that is handed in; that receipt's change, if it has one, is acknowledged there, and no fewer changes are
@@ -95,11 +112,35 @@ impl<D: Disk + Drop, J: Chapter, S: Publisher<J> + Drop> Shared<D, J, S> {
     ) -> (Reply, Receipt<J>)
         ensures { IsAnswered J.base J.setting command result.0 result.1 (option_copied last.entry) }
     {
-        self.locked.lock(rt).run(&command, last)
+        let turn = self.queue.come(rt);
+        let answer = self.queue.value(rt).run(&command, last);
+        self.queue.end(rt, turn);
+        answer
     }
 
-    /// A group of commands, as `Book::group` runs it, with a receipt for each reply. It waits for the lock, and under it for workers that
-    /// are judging.
+    /// One call, as [`run`](Self::run) makes it, which may be run in one group with those of other callers that wait. So while one caller is
+    /// under the lock, the device is written once for the changes of all who came meanwhile. A command that no group may have is run by
+    /// itself, and so is any if there is no memory for it to wait.
+    ///
+    /// If it was run in a group, the receipt is as [`group`](Self::group) says, and the history before the group begins with the front of
+    /// the receipt that is handed in. If such a group is refused whole, each of its commands is run by itself, but after `Refusal::Fault`:
+    /// then the changes of the group stand in the history, not acknowledged, and this is `Err`, with the receipt that was handed in.
+    pub fn run_together<W: Wait>(
+        &self,
+        rt: &W,
+        command: Command,
+        last: Option<Receipt<J>>,
+    ) -> Result<(Reply, Receipt<J>), Option<Receipt<J>>>
+        ensures { IsAnsweredTogether J.base J.setting (record { command = command; last = last }) result }
+    {
+        if command.may_be_grouped() {
+            return self.queue.run(rt, Asked { command, last });
+        }
+        Ok(self.run(rt, command, last.as_ref()))
+    }
+
+    /// A group of commands, as `Book::group` runs it, with a receipt for each reply. It waits for its turn, and then for workers that are
+    /// judging.
     ///
     /// The replies are legal in a world of this opening whose last event is this group. Each receipt's front is the history with the
     /// changes of the group's commands so far; its change is the one that its command wanted, if it was kept; and after `Applied` its token
@@ -114,7 +155,10 @@ impl<D: Disk + Drop, J: Chapter, S: Publisher<J> + Drop> Shared<D, J, S> {
     ) -> Result<Vec<(Reply, Receipt<J>)>, Refusal>
         ensures { IsGroupAnswered J.base J.setting commands.now (told result) (option_copied last.entry) }
     {
-        self.locked.lock(rt).group(commands, last)
+        let turn = self.queue.come(rt);
+        let answers = self.queue.value(rt).group(commands, last);
+        self.queue.end(rt, turn);
+        answers
     }
 
     /// The Book, once all callers have ended. It confirms each receipt of this opening. As after each call of `Book::run`, each image of
@@ -126,8 +170,8 @@ impl<D: Disk + Drop, J: Chapter, S: Publisher<J> + Drop> Shared<D, J, S> {
             → IsImage (D.seen result.disk) (D.unsynced result.disk) c → HoldsLeft h idle c }
         ensures openable { IsOpenable D.seen D.unsynced result }
     {
-        let Shared { locked } = self;
-        let Locked { book } = locked.into_inner();
+        let Shared { queue } = self;
+        let Locked { book } = queue.into_inner();
         book.between_calls();
         book
     }

@@ -1,12 +1,11 @@
 -- The receipts of one caller, each within the last.
 use Rattle.std.proofs.{Common.{◌≡◌, ◌∙◌, ℕ, List, [], ◌∷◌, ◌++◌, Option, Some, None, Result, Ok, Err, inl, inr, refl, sym, ap, subst, append_assoc, append-nil}, lemmas.List.Elements.{All-nil, All-cons, All-weaker}}
-use Rattle.std.specs.{Prelude.map, Option.ForSome}
+use Rattle.std.specs.{Option.ForSome}
 use mathlib.Core.List.{IsPrefix}
 use Rattle.pf_rule.specs.Packets.{PlainPacket}
 use Rattle.pf_core.specs.declared.{command.Command.Command, reply.Refusal.Refusal, reply.Reply.Reply}
-use Rattle.pf_core.specs.{Durable.Changes.{PlainDurable, PlainChange}, Worlds.{Setting, CurrentOpening, State, Event, LegalGroup, IsLegal, down, called_group, log_of, heard_group, step_in, changes_of, flat, grouped, amid, changes_with}}
-use Rattle.pf_core.proofs.{Courses.{accepted, flat-with}, LongerWorlds.in-two}
-use Rattle.pf_book.specs.{Groups.{Answered as Receipted, IsAnsweredAmid, AreAnswered, IsGroupAnswered, replies_of}, Receipts.{PlainReceipt, IsAnswered}}
+use Rattle.pf_core.specs.{Durable.Changes.{PlainDurable, PlainChange}, Worlds.{Setting, CurrentOpening, log_of, heard_group, step_in, changes_of, amid, changes_with}}
+use Rattle.pf_book.specs.{Groups.{Answered as Receipted, AreAnswered, IsGroupAnswered, replies_of}, Receipts.{PlainReceipt}}
 use Rattle.pf_view.proofs.Prefixes.{prefix_self, prefix_trans}
 use Rattle.pf_book.proofs.LockedCalls.{front-begins}
 use Rattle.pf_session.specs.declared.line_engine.fault.EngineFault.{EngineFault}

@@ -2,8 +2,8 @@
 use Rattle.std.proofs.Common.{◌≡◌, ◌∙◌, ℕ, List, [], ◌∷◌, ◌++◌, Option, Some, None, refl, sym, ap, subst, append_assoc, append-nil}
 use Rattle.std.specs.Prelude.{flat_map}
 use Rattle.pf_state.specs.declared.{peer.fault.PeerFault.PeerFault, peer.message.Message.Message}
-use Rattle.pf_state.specs.Peer.{Outcomes.{TakenAs, ending, kept}, Streams.{Ending, Unfinished, Faulty, IsUnfinished, Reads}}
-use Rattle.pf_session.specs.{Laws.Streams.AreOneStream, Server.Streams.{ArePieces, IsPiece, Part, Piece, messages_of, told}}
+use Rattle.pf_state.specs.Peer.{Outcomes.{TakenAs, ending}, Streams.{Ending, Unfinished, Faulty, IsUnfinished, Reads}}
+use Rattle.pf_session.specs.{Laws.Streams.AreOneStream, Server.Streams.{ArePieces, Piece, messages_of, told}}
 
 reads-more : (bytes piece : List ℕ) (ms others : List Message) (rest : List ℕ) (e : Ending) → Reads bytes ms (Unfinished rest) → Reads (rest ++ piece) others e → Reads (bytes ++ piece) (ms ++ others) e
 reads-more bytes piece [] others rest e (is, unfinished) more = subst (λ (l : List ℕ). Reads (l ++ piece) others e) (sym is) more

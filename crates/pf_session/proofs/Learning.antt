@@ -1,5 +1,5 @@
 -- What a session's seer has learnt.
-use Rattle.std.proofs.Common.{◌≡◌, ◌∙◌, ◌≤◌, ℕ, List, ◌∷◌, ◌++◌, length, Option, Some, None, Result, Ok, inl, inr, sym, ap, subst, arith}
+use Rattle.std.proofs.Common.{◌≡◌, ◌∙◌, ◌≤◌, ℕ, List, ◌∷◌, ◌++◌, length, Option, Some, None, Ok, inl, inr, sym, ap, subst, arith}
 use Rattle.std.specs.Option.{ForSome}
 use mathlib.Core.List.{IsPrefix}
 use Rattle.pf_rule.specs.Packets.{PlainPacket}

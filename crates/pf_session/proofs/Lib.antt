@@ -17,3 +17,4 @@ pub mod Calling
 pub mod Limits
 mod TakingOver
 pub mod Flushing
+pub mod JoinedCalls

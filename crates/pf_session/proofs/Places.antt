@@ -1,13 +1,13 @@
 -- A command's place in a group.
-use Rattle.std.proofs.{Common.{◌≡◌, ◌∙◌, ℕ, ◌+◌, ◌≤◌, List, [], ◌∷◌, ◌++◌, length, Option, Some, None, Result, Ok, Err, inl, inr, refl, sym, ap, subst, append_assoc, append-nil, arith, length-append}, lemmas.{List.Elements.{All-head, All-tail}, List.Sums.fold-append}}
+use Rattle.std.proofs.{Common.{◌≡◌, ◌⊎◌, ◌∙◌, ℕ, ◌+◌, ◌≤◌, List, [], ◌∷◌, ◌++◌, length, Option, Some, Ok, inl, inr, refl, sym, ap, subst, append_assoc, append-nil, arith, length-append}, lemmas.{List.Elements.{All-head, All-tail}, List.Sums.fold-append}}
 use Rattle.std.specs.{Prelude.{All, map}, Option.ForSome}
 use mathlib.Core.List.{IsPrefix}
-use Rattle.pf_core.specs.declared.{command.Command.Command, reply.Refusal.Refusal, reply.Outcome.Outcome, reply.Reply.Reply, reply.Reply.TheVariants.Applied}
+use Rattle.pf_core.specs.declared.{command.Command.Command, reply.Outcome.Outcome, reply.Reply.Reply, reply.Reply.TheVariants.Applied}
 use Rattle.pf_core.specs.{Durable.Changes.{PlainDurable, PlainChange}, Worlds.{Setting, CurrentOpening, State, Event, LegalGroup, IsLegal, down, called_group, log_of, heard_group, group_all, step_in, changes_of, flat, grouped, amid, changes_with, changes_due}}
 use Rattle.pf_core.proofs.{Courses.{IsAccepted, accepted, flat-with}, LongerWorlds.in-two}
 use Rattle.pf_book.specs.{Groups.{Answered as Receipted, IsAnsweredAmid, AreAnswered, IsGroupAnswered, replies_of}, Receipts.{PlainReceipt, IsNumberOf, token_of}}
 use Rattle.pf_book.proofs.GroupTurns.{numbers}
-use Rattle.pf_view.proofs.Prefixes.{prefix_length, prefix_self, prefix_trans}
+use Rattle.pf_view.proofs.Prefixes.{prefix_self, prefix_trans}
 use Rattle.pf_session.specs.Server.{Sittings.IsAnsweredInGroup, Streams.last_receipt}
 
 -- what all commands want begins with what they want so far
@@ -59,6 +59,22 @@ module _ (h : CurrentOpening) (none : h.pending ≡ []) where
   last-so changes shown (k ∷ earlier) later (a ∷ told) others last place are so =
       last-so (changes_with h changes k) shown earlier later told others (Some a.1) (omega (arith, place)) are.1
       (λ slip is. let same : a.1 ≡ slip = cc (is) in subst (λ (s : PlainReceipt). IsSoBy h (changes_with h changes k) s) same (own-so changes shown k a.0 a.1 are.0))
+
+  -- what is so by some changes is so by more of them
+  so-more : (changes more : List PlainChange) (slip : PlainReceipt) → IsPrefix changes more → IsSoBy h changes slip → IsSoBy h more slip
+  so-more changes more slip p so =
+      let whole : (log_of h ++ changes) ++ p.0 ≡ log_of h ++ more = append_assoc (log_of h) changes p.0 ∙ ap (λ (l : List PlainChange). log_of h ++ l) p.1 in record {
+        begins = prefix_trans slip.front (log_of h ++ changes) (log_of h ++ more) so.begins (p.0, whole);
+        acked = omega (arith, so.acked, ap length whole, length-append (log_of h ++ changes) p.0);
+      }
+
+  -- so is the receipt that was handed in, or the last one behind these commands
+  pub either-so : (shown : List PlainChange) (earlier later : List Command) (told others : List Receipted) (handed last : Option PlainReceipt) → length told ≡ length earlier
+      → AreAnswered h shown [] (earlier ++ later) (told ++ others) → ForSome handed (λ l. IsSoBy h [] l) → (last ≡ handed) ⊎ (last ≡ last_receipt handed (Ok told))
+      → ForSome last (λ l. IsSoBy h (changes_due h [] earlier) l)
+  either-so shown earlier later told others handed last place are so (inl is) = λ slip some. so-more [] (changes_due h [] earlier) slip (due-more h [] earlier) (so slip (sym is ∙ some))
+  either-so shown earlier later told others handed last place are so (inr is) =
+      subst (λ (l : Option PlainReceipt). ForSome l (λ s. IsSoBy h (changes_due h [] earlier) s)) (sym is) (last-so [] shown earlier later told others handed place are so)
 
   -- the answer at a place
   pub at-place : (changes shown : List PlainChange) (earlier later : List Command) (c : Command) (told others : List Receipted) (r : Reply) (slip : PlainReceipt) → length told ≡ length earlier
@@ -125,8 +141,7 @@ module _ (base : PlainDurable) (setting : Setting) (c : Command) (r : Reply) (sl
 
   last_so : ForSome last (λ l. IsSoBy h so_far l)
   last_so =
-      subst (λ (l : Option PlainReceipt). ForSome l (λ s. IsSoBy h so_far s)) (sym at.last_is)
-      (last-so h none [] log at.earlier (c ∷ at.later) at.told ((r, slip) ∷ at.others) at.handed at.place at.group.receipts (handed-so base setting commands answers at.handed at.group))
+      either-so h none log at.earlier (c ∷ at.later) at.told ((r, slip) ∷ at.others) at.handed last at.place at.group.receipts (handed-so base setting commands answers at.handed at.group) at.last_is
 
   -- the last receipt's front begins that of the reply
   pub place-begins : (l : PlainReceipt) → last ≡ Some l → IsPrefix l.front slip.front

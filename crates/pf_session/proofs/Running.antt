@@ -1,7 +1,7 @@
 -- Lines of a session whose commands are run one after the other, or as a group.
-use Rattle.std.proofs.{Common.{◌≡◌, ◌∙◌, ℕ, zero, suc, ◌+◌, ◌<◌, List, [], ◌∷◌, ◌++◌, length, Bool, true, Option, Some, None, Result, Ok, Err, inl, inr, refl, sym, ap, subst, append_assoc, append-nil, arith, length-append}, KnownBytes.{Appends-nil, Appends-trans}}
+use Rattle.std.proofs.{Common.{◌≡◌, ◌∙◌, ℕ, suc, ◌+◌, ◌<◌, List, [], ◌∷◌, ◌++◌, length, true, Option, Some, None, Result, Ok, Err, inl, inr, refl, sym, ap, subst, append_assoc, append-nil, arith, length-append}, KnownBytes.{Appends-nil, Appends-trans}}
 use Rattle.std.specs.Io.KnownBytes.{Appends}
-use Rattle.pf_addr.specs.Writing.{Writes, WritesFront}
+use Rattle.pf_addr.specs.Writing.{WritesFront}
 use Rattle.pf_core.specs.declared.{command.Command.Command, command.Command.TheVariants.{Transact, Edit, States, Ask, History}, reply.Refusal.Refusal, reply.Refusal.TheVariants.Fault, reply.Reply.TheVariants.Refused}
 use Rattle.pf_core.specs.{Commands.may_be_grouped, Durable.Changes.PlainDurable, Worlds.{Setting, log_of, heard_group}}
 use Rattle.pf_rule.specs.Packets.{PlainPacket}
@@ -225,7 +225,7 @@ module _ {C J G : Type 0} (passed : G → ℕ → ℕ → Type 0) (base : PlainD
       handed = start.last.now;
       group = subst (λ (cs : List Command). IsGroupAnswered base setting cs (Ok (told ++ answer ∷ left)) start.last.now) (t.split ∙ ap (λ (cs : List Command). t.earlier ++ cs) asks.is) group;
       place = t.place;
-      last_is = t.last;
+      last_is = inr t.last;
     }
 
     turn : IsTurn asks.c a b (reply_text answer.0)

@@ -1,11 +1,9 @@
 // Devices over files, beside one in memory. The files are in the directory where the program runs.
 ghost use Rattle.std.specs.Prelude.{◌≡◌, length, IfOk};
-ghost use Rattle.pf_disk.specs.Disk.{IsSynced};
 
 use crate::chance::Chance;
-use crate::records::{START, with_two};
 use pf_disk::{Disk, FileDisk, Fill, MemDisk};
-use pf_journal::{ReadFault, read_all};
+use pf_journal::ReadFault;
 use std::alloc::Global;
 use std::fs::{self, File, OpenOptions};
 use std::os::unix::fs::FileExt;
@@ -76,7 +74,6 @@ fn read_image(rt: &HostRuntime, name: &str) -> Result<Image, ReadFault> {
 
 pub fn play(rt: &HostRuntime, told: &mut String) -> Result<(), ReadFault> {
     tell_script(rt, told)?;
-    tell_journal(rt, told)?;
     for size in [0, SIZE - 1, SIZE + 1] {
         tell_taken(rt, told, "script", size)?;
     }
@@ -95,7 +92,6 @@ fn open(rt: &HostRuntime, name: &str) -> Result<File, ReadFault> {
 
 fn device(alloc: Global, file: File) -> Result<FileDisk, ReadFault>
     ensures size { IfOk result (λ disk. length (⟦<FileDisk as Disk>⟧.seen disk) ≡ SIZE) }
-    ensures synced { IfOk result (λ disk. IsSynced (⟦<FileDisk as Disk>⟧.unsynced disk)) }
     ensures faults { IfOk result (λ disk. ⟦<FileDisk as Disk>⟧.fault_count disk ≡ 0) }
 {
     match FileDisk::of(alloc, file, SIZE) {
@@ -155,23 +151,6 @@ fn tell_script(rt: &HostRuntime, told: &mut String) -> Result<(), ReadFault> {
     Ok(())
 }
 
-/// A journal in a file, and what the file is read as when it is opened again.
-fn tell_journal(rt: &HostRuntime, told: &mut String) -> Result<(), ReadFault> {
-    let alloc = rt.alloc();
-    let disk = device(alloc, open(rt, "journal")?)?;
-    let Ok(journal) = with_two(alloc, disk, SIZE) else {
-        return Err(ReadFault::Fault);
-    };
-    let mut again = device(alloc, open(rt, "journal")?)?;
-    let found = read_all(alloc, &mut again, START, SIZE)?;
-    write!(
-        told,
-        "a file has {:?}, gate {} of {}\n",
-        found.payloads, found.gate, journal.gate
-    )?;
-    Ok(())
-}
-
 /// What a file is taken as if it should have `size` bytes.
 fn tell_taken(
     rt: &HostRuntime,
@@ -188,10 +167,10 @@ fn tell_taken(
 
 /// A read fails after another program wrote other bytes than were written here.
 fn tell_other_bytes(rt: &HostRuntime, told: &mut String) -> Result<(), ReadFault> {
-    let mut disk = device(rt.alloc(), open(rt, "journal")?)?;
+    let mut disk = device(rt.alloc(), open(rt, "other")?)?;
     let mut buffer = [0u8; 8];
     let before = disk.read_at(8, &mut buffer);
-    let other = open(rt, "journal")?.write_all_at(b"1", 12).is_ok();
+    let other = open(rt, "other")?.write_all_at(b"1", 12).is_ok();
     let after = disk.read_at(8, &mut buffer);
     write!(
         told,
@@ -202,7 +181,7 @@ fn tell_other_bytes(rt: &HostRuntime, told: &mut String) -> Result<(), ReadFault
 
 /// A file that is open for reading only takes no write, and nothing more after that.
 fn tell_read_only(rt: &HostRuntime, told: &mut String) -> Result<(), ReadFault> {
-    let Ok(file) = File::open(rt, "journal") else {
+    let Ok(file) = File::open(rt, "other") else {
         return Err(ReadFault::Fault);
     };
     let mut disk = device(rt.alloc(), file)?;

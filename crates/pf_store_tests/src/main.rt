@@ -1,19 +1,17 @@
-//! A program of tests: it plays disks, journals and histories over devices, and writes what came of them. It shows what no contract says,
-//! and what files do. `stdout` is what it has to write wherever it runs. The files that it works on are in `data`; it expects them in the
-//! directory where it runs.
+//! A program of tests: it plays disks and histories over devices, and writes what came of them. It shows what no contract says, and what
+//! files do. `stdout` is what it has to write wherever it runs. The files that it works on are in `data`; it expects them in the directory
+//! where it runs.
 //!
 //! It knows the public items of the crates below. It doesn't know what should come out: that is in `stdout`. Read `stdout` first, and then
 //! the module of each part:
 //!
-//! - `records`: the devices and journals that the others play on, and what an open gate with no record after it is read as.
-//! - `crashes`: how many records a crash leaves, by call and by fill, and what an append comes to on a device whose calls fail.
 //! - `files`: a thousand calls on a file beside the same calls in memory, and files that aren't taken as a device: one has another length,
 //!   one can't be synced. It also reads the images of older versions, on which `saves` plays rows.
 //! - `saves`: the rows of `stdin`, whose head says how they are written, on devices in memory: openings, saves, crashes and faults.
 //!   Behind them, in its `stops`, devices that tear a call and openings that are stopped, and in its `chances` lines, streams and images at
 //!   random.
-//! - `books`: lines over a `Book` of `pf_book`, and what is read of its device; `saves` uses it.
-//! - `streams`: peers' streams over a `Book`, at random and in pieces; `saves` uses it.
+//! - `books`: what is asked of a `Book` of `pf_book`, what it replies, and what is read of its device; `saves` uses it.
+//! - `streams`: peers' streams, at random and in pieces; `saves` uses it.
 //! - `words`: lines and messages at random, of words that rows give.
 //! - `chance`: numbers that look random, and how often each outcome came.
 //! - `rows`: how rows are spelled.
@@ -23,9 +21,7 @@
 
 mod books;
 mod chance;
-mod crashes;
 mod files;
-mod records;
 mod rows;
 mod saves;
 mod streams;
@@ -51,8 +47,6 @@ fn play<H: Wait + Drop + Copy>(
     rows: &str,
 ) -> Result<(), ReadFault> {
     let alloc = rt.alloc();
-    records::play(alloc, told)?;
-    crashes::play(alloc, told)?;
     files::play(rt, told)?;
     let images = files::older_images(rt)?;
     Ok(saves::play(waits, alloc, images, told, rows)?)

@@ -8,13 +8,13 @@ pub const GROUPED: &str = " + ";
 
 /// Rows that are played in turn, over an opening if they open a device.
 #[derive(Drop)]
-pub struct Segment {
+pub struct Segment<'a> {
     pub opens: bool,
-    pub rows: Vec<String>,
+    pub rows: Vec<&'a str>,
 }
 
-impl Segment {
-    fn new(alloc: Global, opens: bool) -> Segment {
+impl<'a> Segment<'a> {
+    fn new(alloc: Global, opens: bool) -> Segment<'a> {
         Segment {
             opens,
             rows: Vec::new(alloc),
@@ -23,7 +23,7 @@ impl Segment {
 }
 
 /// The rows of a text, cut before each that makes, formats or opens a device. The row of an opening is left out.
-pub fn segments(alloc: Global, text: &str) -> Result<Vec<Segment>, AllocError> {
+pub fn segments<'a>(alloc: Global, text: &'a str) -> Result<Vec<Segment<'a>>, AllocError> {
     let mut segments = Vec::new(alloc);
     let mut segment = Segment::new(alloc, false);
     for row in text.split('\n') {
@@ -34,7 +34,7 @@ pub fn segments(alloc: Global, text: &str) -> Result<Vec<Segment>, AllocError> {
             segment = Segment::new(alloc, opens);
         }
         if !opens {
-            segment.rows.push(String::from_str(alloc, row)?)?;
+            segment.rows.push(row)?;
         }
     }
     segments.push(segment)?;
@@ -59,15 +59,6 @@ pub fn cut_word(row: &str) -> (&str, &str) {
 /// What comes before the first bar, and what comes after it.
 pub fn cut_bar(text: &str) -> (&str, &str) {
     text.split_once(" | ").unwrap_or((text, ""))
-}
-
-/// The lines of a text with bars between them.
-pub fn lines_of(alloc: Global, text: &str) -> Result<Vec<String>, AllocError> {
-    let mut lines = Vec::new(alloc);
-    for line in text.split(" | ") {
-        lines.push(String::from_str(alloc, line)?)?;
-    }
-    Ok(lines)
 }
 
 /// The number in decimal digits, or 0 if it is none.

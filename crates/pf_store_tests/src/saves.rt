@@ -1,20 +1,22 @@
 // Openings and saves over devices in memory, as the rows of `stdin` say.
-ghost use Rattle.std.specs.Prelude.{◌≡◌, IfOk};
+ghost use Rattle.std.specs.Prelude.{◌≡◌, IfOk, length};
+ghost use Rattle.pf_disk.specs.Filled.{FillsAll};
 ghost use Rattle.pf_book.specs.Books.{IsNamed};
 ghost use Rattle.pf_store_tests.specs.declared.books.TheConstants.{HISTORY_LIMIT};
 
 mod chances;
 mod stops;
 
-use crate::books::{HISTORY_LIMIT, closed_gate, replies, replies_over, reply};
-use crate::crashes::fill;
+use crate::books::{
+    HISTORY_LIMIT, Hold, Told, ask, asked_by_row, asked_in_turn, closed_gate, told_in_turn, told_to,
+};
 use crate::files::Image;
 use crate::rows::{
-    GROUPED, Segment, cut_bar, cut_word, fill_at_random, lines_of, number, put_bytes, segments,
-    tell_row,
+    GROUPED, Segment, cut_bar, cut_word, fill_at_random, number, put_bytes, segments, tell_row,
 };
 use crate::words::Words;
 use pf_book::{Book, Chapter, Disk, FuseDisk, MemDisk, OpenFault, Opening, format};
+use pf_core::Durable;
 use pf_disk::Fill;
 use pf_snap::NEWEST;
 use pf_store::{read_durable, write_durable};
@@ -25,6 +27,11 @@ use std::sync::Wait;
 /// The replies to these lines say all that the rows keep, but for the epoch and the tick, which no line asks for.
 const QUESTIONS: &str =
     "show rules - | show rules web | show tables - | show tables web | show states | sum";
+
+/// The rows that may come anywhere, and need nothing that is open.
+const OF_DEVICES: &[&str] = &[
+    "bytes", "with", "openings", "faults", "failing", "pairs", "torn", "streams", "cuts", "images",
+];
 
 /// The calls of an opening and of two saves, or of one save that begins the other bank, and one more.
 const CALLS: u64 = 18;
@@ -39,7 +46,6 @@ struct Bench<H: Wait + Drop + Copy> {
     alloc: Global,
     images: Vec<Image>,
     bytes: Vec<u8>,
-    questions: Vec<String>,
     /// What was kept in that opening: at its start, and after each save.
     kept: Vec<String>,
     words: Words,
@@ -67,7 +73,6 @@ pub fn play<H: Wait + Drop + Copy>(
         alloc,
         images,
         bytes: Vec::new(alloc),
-        questions: lines_of(alloc, QUESTIONS)?,
         kept: Vec::new(alloc),
         words: Words::new(alloc),
     };
@@ -82,12 +87,59 @@ fn with_tick(alloc: Global, told: &str, tick: u64) -> Result<String, AllocError>
     format!(in alloc; "{told}, tick {tick}")
 }
 
+/// Writes how many bytes a snapshot of what is kept has, and whether it reads back the same.
+fn tell_snapshot(alloc: Global, told: &mut String, kept: &Durable) -> Result<(), AllocError> {
+    let Ok(bytes) = write_durable(alloc, NEWEST, kept) else {
+        return Err(AllocError);
+    };
+    let Ok(read) = read_durable(alloc, NEWEST, &bytes) else {
+        return Err(AllocError);
+    };
+    let Ok(again) = write_durable(alloc, NEWEST, &read) else {
+        return Err(AllocError);
+    };
+    let is_same = bytes.as_slice() == again.as_slice();
+    write!(told, "{} bytes, read back: {is_same}", bytes.len())
+}
+
+/// One of six fills, of which the last has these bytes.
+fn fill(number: u32, bytes: &[u8]) -> Fill<'_>
+    ensures { FillsAll result (length bytes.now) }
+{
+    match number {
+        0 => Fill::Old,
+        1 => Fill::New,
+        2 => Fill::Zeros,
+        3 => Fill::Open,
+        4 => Fill::Inverted,
+        _ => Fill::Bytes(bytes),
+    }
+}
+
+/// What was opened, and what was told to the questions then.
+fn opened_as(alloc: Global, told: Told<MemDisk>) -> Result<Opened, AllocError> {
+    let Told {
+        epoch,
+        tick,
+        text,
+        disk,
+    } = told;
+    let kept = with_tick(alloc, text.as_str(), tick)?;
+    let gate = closed_gate(alloc, &disk.image(alloc, u64::MAX, Fill::New)?)?;
+    Ok(Opened {
+        epoch,
+        gate,
+        kept,
+        disk,
+    })
+}
+
 /// Makes a Book of an opening, and plays rows over it.
 fn play_over<J: Chapter, H: Wait + Drop + Copy>(
     bench: &mut Bench<H>,
     opening: Opening<MemDisk>,
     told: &mut String,
-    rows: &[String],
+    rows: &[&str],
 ) -> Result<(), AllocError>
     requires { IsNamed J.base J.history J.setting opening HISTORY_LIMIT }
 {
@@ -112,7 +164,7 @@ impl<H: Wait + Drop + Copy> Bench<H> {
         }
     }
 
-    fn play_unopened(&mut self, told: &mut String, rows: &[String]) -> Result<(), AllocError> {
+    fn play_unopened(&mut self, told: &mut String, rows: &[&str]) -> Result<(), AllocError> {
         for row in rows {
             if tell_row(told, row)? {
                 self.play_device(told, row)?;
@@ -122,11 +174,11 @@ impl<H: Wait + Drop + Copy> Bench<H> {
         Ok(())
     }
 
-    fn play_opened<J: Chapter>(
+    fn play_opened<B: Hold>(
         &mut self,
         told: &mut String,
-        book: &mut Book<MemDisk, J, H>,
-        rows: &[String],
+        book: &mut B,
+        rows: &[&str],
     ) -> Result<(), AllocError> {
         self.begin(told, book)?;
         for row in rows {
@@ -161,31 +213,22 @@ impl<H: Wait + Drop + Copy> Bench<H> {
         }
     }
 
-    fn play_row<J: Chapter>(
+    fn play_row<B: Hold>(
         &mut self,
         told: &mut String,
-        book: &mut Book<MemDisk, J, H>,
+        book: &mut B,
         row: &str,
     ) -> Result<(), AllocError> {
         let (word, rest) = cut_word(row);
         match word {
-            "bytes"
-            | "with"
-            | "openings"
-            | "faults"
-            | "failing"
-            | "pairs"
-            | "torn"
-            | "streams"
-            | "cuts"
-            | "images" => self.play_device(told, row),
             "times" => self.call_often(told, book, rest),
-            "snapshot" => self.tell_snapshot(told, book),
-            "crash" => self.tell_crash(told, book.disk(), rest),
-            "crashes" => self.tell_crashes(told, book.disk()),
-            "stopped" => self.tell_stopped(told, book.disk()),
+            "snapshot" => tell_snapshot(self.alloc, told, book.kept()),
+            "crash" => self.tell_crash(told, book.device(), rest),
+            "crashes" => self.tell_crashes(told, book.device()),
+            "stopped" => self.tell_stopped(told, book.device()),
             "lines" => self.tell_lines(told, book, rest),
-            "each" => self.tell_each_byte(told, book.disk(), number(rest)),
+            "each" => self.tell_each_byte(told, book.device(), number(rest)),
+            _ if OF_DEVICES.contains(&word) => self.play_device(told, row),
             _ => self.call(told, book, row),
         }
     }
@@ -238,66 +281,55 @@ impl<H: Wait + Drop + Copy> Bench<H> {
     }
 
     /// Writes what was opened. What is kept then is what was kept after no save.
-    fn begin<J: Chapter>(
-        &mut self,
-        told: &mut String,
-        book: &mut Book<MemDisk, J, H>,
-    ) -> Result<(), AllocError> {
+    fn begin<B: Hold>(&mut self, told: &mut String, book: &mut B) -> Result<(), AllocError> {
         self.kept = Vec::new(self.alloc);
         self.keep(book)?;
-        let (epoch, gate) = (
-            book.durable().epoch(),
-            closed_gate(self.alloc, &self.bytes)?,
-        );
-        write!(
-            told,
-            "epoch {epoch}, gate {gate}, {} calls\n",
-            book.disk().calls()
-        )?;
-        Ok(())
+        let gate = closed_gate(self.alloc, &self.bytes)?;
+        let (epoch, calls) = (book.kept().epoch(), book.device().calls());
+        write!(told, "epoch {epoch}, gate {gate}, {calls} calls\n")
     }
 
     /// Takes over what the Book's device holds now.
-    fn keep<J: Chapter>(&mut self, book: &mut Book<MemDisk, J, H>) -> Result<(), AllocError> {
+    fn keep<B: Hold>(&mut self, book: &mut B) -> Result<(), AllocError> {
         let kept = self.kept_by(book)?;
         self.kept.push(kept)?;
-        self.bytes = book.disk().image(self.alloc, u64::MAX, Fill::Old)?;
+        self.bytes = book.device().image(self.alloc, u64::MAX, Fill::Old)?;
         Ok(())
     }
 
     /// All that the Book keeps, but for the epoch.
-    fn kept_by<J: Chapter>(&self, book: &mut Book<MemDisk, J, H>) -> Result<String, AllocError> {
-        let told = replies(self.alloc, book, &self.questions)?;
-        with_tick(self.alloc, told.as_str(), book.durable().tick())
+    fn kept_by<B: Hold>(&self, book: &mut B) -> Result<String, AllocError> {
+        let told = told_in_turn(self.alloc, book, asked_in_turn(self.alloc, QUESTIONS)?)?;
+        with_tick(self.alloc, told.as_str(), book.kept().tick())
     }
 
-    /// Plays one line of a client.
-    fn call<J: Chapter>(
+    /// Plays one line of a client, or one group.
+    fn call<B: Hold>(
         &mut self,
         told: &mut String,
-        book: &mut Book<MemDisk, J, H>,
-        line: &str,
+        book: &mut B,
+        row: &str,
     ) -> Result<(), AllocError> {
-        let text = reply(self.alloc, book, line)?;
+        let text = told_to(self.alloc, book, asked_by_row(self.alloc, row)?)?;
         told.push_str(&text)?;
-        if text.contains("applied") {
-            self.keep(book)?;
-            let gate = closed_gate(self.alloc, &self.bytes)?;
-            write!(told, ", gate {gate}")?;
+        if !text.contains("applied") {
+            return Ok(());
         }
-        Ok(())
+        self.keep(book)?;
+        let gate = closed_gate(self.alloc, &self.bytes)?;
+        write!(told, ", gate {gate}")
     }
 
     /// Plays one line of a client several times, and writes the reply to the last.
-    fn call_often<J: Chapter>(
+    fn call_often<B: Hold>(
         &mut self,
         told: &mut String,
-        book: &mut Book<MemDisk, J, H>,
+        book: &mut B,
         how: &str,
     ) -> Result<(), AllocError> {
         let (times, line) = cut_word(how);
         for _ in 1..number(times) {
-            reply(self.alloc, book, line)?;
+            told_to(self.alloc, book, asked_by_row(self.alloc, line)?)?;
         }
         self.call(told, book, line)
     }
@@ -315,25 +347,6 @@ impl<H: Wait + Drop + Copy> Bench<H> {
             write!(told, "{byte:02x}")?;
         }
         Ok(())
-    }
-
-    /// Writes how many bytes a snapshot of all that is kept has, and whether it reads back the same.
-    fn tell_snapshot<J: Chapter>(
-        &self,
-        told: &mut String,
-        book: &Book<MemDisk, J, H>,
-    ) -> Result<(), AllocError> {
-        let Ok(bytes) = write_durable(self.alloc, NEWEST, book.durable()) else {
-            return Err(AllocError);
-        };
-        let Ok(read) = read_durable(self.alloc, NEWEST, &bytes) else {
-            return Err(AllocError);
-        };
-        let Ok(again) = write_durable(self.alloc, NEWEST, &read) else {
-            return Err(AllocError);
-        };
-        let is_same = bytes.as_slice() == again.as_slice();
-        write!(told, "{} bytes, read back: {is_same}", bytes.len())
     }
 
     /// Writes what the device is opened as with some bytes changed.
@@ -424,7 +437,7 @@ impl<H: Wait + Drop + Copy> Bench<H> {
 
     /// Plays an opening and the same line twice, on devices whose calls fail.
     fn tell_faults(&self, told: &mut String, line: &str) -> Result<(), AllocError> {
-        let lines = lines_of(self.alloc, &format!(in self.alloc; "{line} | {line}")?)?;
+        let lines = format!(in self.alloc; "{line} | {line}")?;
         for calls in 0..CALLS {
             write!(told, "\n  one behind {calls} calls fails: ")?;
             self.tell_fault(told, FuseDisk::once(self.device()?, calls), &lines)?;
@@ -438,7 +451,7 @@ impl<H: Wait + Drop + Copy> Bench<H> {
     fn tell_failing(&self, told: &mut String, how: &str) -> Result<(), AllocError> {
         let (calls, lines) = cut_bar(how);
         let disk = FuseDisk::after(self.device()?, number(calls) as u64);
-        self.tell_fault(told, disk, &lines_of(self.alloc, lines)?)
+        self.tell_fault(told, disk, lines)
     }
 
     /// Writes what the lines come to, and what the device below is opened as then: with the bytes of its last sync, and with all written
@@ -447,7 +460,7 @@ impl<H: Wait + Drop + Copy> Bench<H> {
         &self,
         told: &mut String,
         disk: FuseDisk<MemDisk>,
-        lines: &[String],
+        lines: &str,
     ) -> Result<(), AllocError>
         requires { ⟦<FuseDisk<MemDisk> as Disk>⟧.fault_count disk ≡ 0 }
     {
@@ -464,12 +477,13 @@ impl<H: Wait + Drop + Copy> Bench<H> {
     fn played(
         &self,
         disk: FuseDisk<MemDisk>,
-        lines: &[String],
+        lines: &str,
     ) -> Result<(String, FuseDisk<MemDisk>), AllocError>
         requires { ⟦<FuseDisk<MemDisk> as Disk>⟧.fault_count disk ≡ 0 }
     {
-        match Opening::open(self.alloc, disk) {
-            Ok(opening) => { replies_over::<_, Brand, _>(self.waits, self.alloc, opening, lines) }
+        let asked = asked_in_turn(self.alloc, lines)?;
+        match ask(self.waits, self.alloc, disk, asked)? {
+            Ok(Told { text, disk, .. }) => Ok((text, disk)),
             Err((fault, disk)) => Ok((format!(in self.alloc; "{fault:?}")?, disk)),
         }
     }
@@ -524,36 +538,26 @@ impl<H: Wait + Drop + Copy> Bench<H> {
         bytes: Vec<u8>,
         lines: &str,
     ) -> Result<(), AllocError> {
-        let Ok(opening) = Opening::open(self.alloc, MemDisk::of(self.alloc, bytes)?) else {
-            return Ok(());
-        };
-        let lines = lines_of(self.alloc, lines)?;
-        let (text, _disk) = replies_over::<_, Brand, _>(self.waits, self.alloc, opening, &lines)?;
-        told.push_str(&text)
+        let (disk, asked) = (
+            MemDisk::of(self.alloc, bytes)?,
+            asked_in_turn(self.alloc, lines)?,
+        );
+        match ask(self.waits, self.alloc, disk, asked)? {
+            Ok(over) => told.push_str(&over.text),
+            Err(_) => Ok(()),
+        }
     }
 
     /// Opens a device with these bytes.
     fn opened(&self, bytes: Vec<u8>) -> Result<Result<Opened, OpenFault>, AllocError> {
-        let opening = match Opening::open(self.alloc, MemDisk::of(self.alloc, bytes)?) {
-            Ok(opening) => opening,
-            Err((fault, _disk)) => return Ok(Err(fault)),
-        };
-        let (epoch, tick) = (opening.durable().epoch(), opening.durable().tick());
-        let (told, disk) = replies_over::<_, Brand, _>(
-            self.waits,
-            self.alloc,
-            opening,
-            &self.questions,
-        )?;
-        let kept = with_tick(self.alloc, told.as_str(), tick)?;
-        let bytes = disk.image(self.alloc, u64::MAX, Fill::New)?;
-        let gate = closed_gate(self.alloc, &bytes)?;
-        Ok(Ok(Opened {
-            epoch,
-            gate,
-            kept,
-            disk,
-        }))
+        let (disk, asked) = (
+            MemDisk::of(self.alloc, bytes)?,
+            asked_in_turn(self.alloc, QUESTIONS)?,
+        );
+        match ask(self.waits, self.alloc, disk, asked)? {
+            Ok(told) => Ok(Ok(opened_as(self.alloc, told)?)),
+            Err((fault, _disk)) => Ok(Err(fault)),
+        }
     }
 
     /// Writes what a device with these bytes is opened as.

@@ -1,15 +1,12 @@
 // Peers' streams: at random, whole and in pieces.
-ghost use Rattle.pf_book.specs.Books.{IsNamed};
-ghost use Rattle.pf_store_tests.specs.declared.books.TheConstants.{HISTORY_LIMIT};
 
-use crate::books::{HISTORY_LIMIT, message_reply, reply};
+use crate::books::{Asked, asked_by};
 use crate::chance::Chance;
 use crate::rows::bytes_of;
 use crate::words::Words;
-use pf_book::{Book, Chapter, Disk, Opening};
-use pf_state::{Fed, FeedError, PeerReader};
+use pf_core::{Command, StateCommand};
+use pf_state::{Fed, FeedError, PeerFault, PeerReader};
 use std::alloc::{AllocError, Global};
-use std::sync::Wait;
 
 /// Bytes that mean something in a message.
 const BYTES: &[u8] = &[0, 1, 2, 4, 5, 6, 17, 58, 64, 68, 88, 152, 255];
@@ -96,48 +93,36 @@ pub fn pieces_of<'a>(
     Ok(pieces)
 }
 
-/// Makes a Book of an opening, and tells what a stream in these pieces comes to over it.
-pub fn stream_over<D: Disk + Drop, J: Chapter, H: Wait + Drop>(
-    waits: H,
+/// What a stream asks that comes in these pieces: each of its messages, and then the states. Before it how many messages these are, and the
+/// stream's fault.
+pub fn asked_by_stream(
     alloc: Global,
-    opening: Opening<D>,
     pieces: &[&[u8]],
-) -> Result<String, AllocError>
-    requires { IsNamed J.base J.history J.setting opening HISTORY_LIMIT }
-{
-    match Book::<D, J, H>::of(waits, alloc, opening, HISTORY_LIMIT, 1) {
-        Ok((mut book, _seers)) => stream_reply(alloc, &mut book, pieces),
-        Err(_) => Err(AllocError),
-    }
-}
-
-// How many messages a stream has that comes in these pieces, and its fault; behind a colon the replies to them, and the states then.
-fn stream_reply<D: Disk + Drop, J: Chapter, H: Wait + Drop>(
-    alloc: Global,
-    book: &mut Book<D, J, H>,
-    pieces: &[&[u8]],
-) -> Result<String, AllocError> {
+) -> Result<(String, Vec<Asked>), AllocError> {
     let mut reader = PeerReader::new(alloc);
-    let mut replies = String::new(alloc);
-    let (mut count, mut ended) = (0u64, None);
+    let (mut asked, mut ended) = (Vec::new(alloc), None);
     for piece in pieces {
-        let Fed { messages, fault } = match reader.feed(alloc, piece) {
-            Ok(fed) => fed,
+        match reader.feed(alloc, piece) {
+            Ok(fed) => ended = take_messages(&mut asked, fed)?,
             Err(FeedError::Failed) => break,
             Err(FeedError::Memory) => return Err(AllocError),
-        };
-        for message in messages {
-            count = count.saturating_add(1);
-            let reply = message_reply(alloc, book, message)?;
-            write!(replies, "{reply}, ")?;
         }
-        ended = fault;
     }
     if let Ok(fault) = reader.finish() {
         ended = fault;
     }
-    let states = reply(alloc, book, "show states")?;
-    format!(in alloc; "{count} messages, {ended:?}: {replies}{states}")
+    let head = format!(in alloc; "{} messages, {ended:?}: ", asked.len())?;
+    asked.push(asked_by(alloc, b"show states")?)?;
+    Ok((head, asked))
+}
+
+// Appends the messages of a piece, and returns its fault.
+fn take_messages(asked: &mut Vec<Asked>, fed: Fed) -> Result<Option<PeerFault>, AllocError> {
+    let Fed { messages, fault } = fed;
+    for message in messages {
+        asked.push(Asked::One(Command::States(StateCommand::Peer(message))))?;
+    }
+    Ok(fault)
 }
 
 /// What a stream comes to that ends behind its front, and goes on after that.

@@ -1,7 +1,7 @@
 // Lines, messages and whatever else is made of words that rows give.
 
 use crate::chance::Chance;
-use crate::rows::{cut_bar, lines_of};
+use crate::rows::cut_bar;
 use std::alloc::{AllocError, Global};
 
 /// How deep a word's texts may stand within one another.
@@ -14,7 +14,9 @@ const BYTES: &[u8] = b"\0\t\r\n !\"#*-./0:<>@a\x7f\x80\xff";
 #[derive(Drop)]
 struct Word {
     name: String,
-    texts: Vec<String>,
+    /// Its texts, with bars between them, and how many they are.
+    texts: String,
+    count: usize,
 }
 
 /// Words that stand for texts. `TICKET` stands for the last ticket that was given.
@@ -37,10 +39,10 @@ impl Words {
     /// Adds the word that a row begins with, and its texts, and returns how many these are.
     pub fn add(&mut self, row: &str) -> Result<usize, AllocError> {
         let (name, texts) = cut_bar(row);
-        let texts = lines_of(self.alloc, texts)?;
-        let count = texts.len();
+        let count = texts.split(" | ").count();
         let name = String::from_str(self.alloc, name)?;
-        self.words.push(Word { name, texts })?;
+        let texts = String::from_str(self.alloc, texts)?;
+        self.words.push(Word { name, texts, count })?;
         Ok(count)
     }
 
@@ -71,10 +73,10 @@ impl Words {
             return self.ticket.as_str();
         }
         match self.words.iter().find(|it| it.name.as_str() == word) {
-            Some(found) => match found.texts.get(chance.below(found.texts.len())) {
-                Some(text) => text.as_str(),
-                None => word,
-            },
+            Some(found) => {
+                let place = chance.below(found.count);
+                found.texts.split(" | ").nth(place).unwrap_or(word)
+            }
             None => word,
         }
     }

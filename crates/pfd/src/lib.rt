@@ -29,7 +29,10 @@ mod program;
 
 pub use accepting::Accept;
 pub use listener::serve_listener;
-pub use pf_book::{Book, Chapter, Disk, FuseDisk, MemDisk, Opening, Receipt, Seer, Shared, format};
+pub use pf_book::{
+    Book, Chapter, Disk, FuseDisk, MemDisk, NewCalls, Numbering, Opening, Receipt, Seer, Shared,
+    format,
+};
 pub use pf_session::{
     EngineFault, Gate, OpenGate, line_engine, serve, serve_alone, serve_from, serve_peer,
     serve_peer_from,

@@ -3,7 +3,7 @@ ghost use Rattle.std.specs.Prelude.{◌≡◌, ◌⊎◌, IfErr};
 
 use crate::accepting::{Accept, Acceptor};
 use pf_book::shared::Shared;
-use pf_book::{Chapter, Disk, Publisher, Seer};
+use pf_book::{Chapter, Disk, Numbering, Publisher, Seer};
 use pf_session::{EngineFault, Gate, serve, serve_peer};
 use std::alloc::Global;
 use std::io::{self, BufWriter, ErrorKind, Read};
@@ -68,7 +68,13 @@ fn drop_rest(stream: &TcpStream) {
 }
 
 // Serves a connection to its end.
-fn serve_connection<W: Wait, D: Disk + Drop, J: Chapter, S: Publisher<J> + Drop, G: Gate>(
+fn serve_connection<
+    W: Wait,
+    D: Disk + Drop,
+    J: Chapter + Numbering,
+    S: Publisher<J> + Drop,
+    G: Gate,
+>(
     rt: &W,
     alloc: Global,
     stream: &TcpStream,
@@ -120,14 +126,27 @@ trait ServeConnection<J: Chapter> {
 
 /// What serves connections by one Book. Workers needn't name a device, nor what waits.
 #[derive(Clone, Copy)]
-struct Server<'a, W: Wait, D: Disk + Drop, J: Chapter, S: Publisher<J> + Drop, G: Gate> {
+struct Server<
+    'a,
+    W: Wait,
+    D: Disk + Drop,
+    J: Chapter + Numbering,
+    S: Publisher<J> + Drop,
+    G: Gate,
+> {
     rt: &'a W,
     shared: &'a Shared<D, J, S>,
     gate: &'a G,
 }
 
-impl<'a, W: Wait, D: Disk + Drop, J: Chapter, S: Publisher<J> + Drop, G: Gate> ServeConnection<J>
-    for Server<'a, W, D, J, S, G> {
+impl<
+    'a,
+    W: Wait,
+    D: Disk + Drop,
+    J: Chapter + Numbering,
+    S: Publisher<J> + Drop,
+    G: Gate,
+> ServeConnection<J> for Server<'a, W, D, J, S, G> {
     fn serve_connection(
         &self,
         alloc: Global,
@@ -218,7 +237,7 @@ pub fn serve_listener<
     M: Wait + Threads + Sync,
     A: Accept<Connection = TcpStream> + Sync,
     D: Disk + Drop + Send,
-    J: Chapter + Send + Sync,
+    J: Chapter + Numbering + Send + Sync,
     S: Publisher<J> + Drop + Send,
     G: Gate + Sync,
 >(

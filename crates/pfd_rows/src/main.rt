@@ -7,7 +7,9 @@
 //!
 //! - `playing`: lines and their replies, over Books.
 //! - `starting`: starts of the program, by its words.
+//! - `serving`: clients of a server, over real connections.
 //! - `sharing`: sessions and peers' streams over a Book that callers may share.
+//! - `refusing`: what shows the changes of such a Book, and may be refused memory.
 //! - `table` and `spelling`: how tables and rows are read.
 //! - `tally`: what a table came to.
 //! - `streams`: readers and writers that follow a script, faults included.
@@ -17,6 +19,8 @@
 #![tactic(auto)]
 
 mod playing;
+mod refusing;
+mod serving;
 mod sharing;
 mod spelling;
 mod starting;
@@ -25,6 +29,7 @@ mod table;
 mod tally;
 
 use crate::playing::play_lines;
+use crate::serving::serve_each;
 use crate::sharing::share_each;
 use crate::starting::start_each;
 use crate::table::{Kind, Table};
@@ -57,6 +62,7 @@ fn play<N: Wait + Threads + Net<Listener = TcpListener, Stream = TcpStream> + Sy
     match table.kind {
         Kind::Lines => Ok(play_lines(machine, rt.alloc(), table)?),
         Kind::Words => start_each(machine, rt, table),
+        Kind::Clients => serve_each(machine, rt, table),
         Kind::Sessions | Kind::Peers => Ok(share_each(machine, rt.alloc(), table)?),
     }
 }

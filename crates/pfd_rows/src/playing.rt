@@ -40,11 +40,23 @@ fn written_instead<J: Chapter, H: Wait + Drop>(
     }
 }
 
+// A Book whose lines are played, whatever the name of its opening and what waits.
+trait Play {
+    // What is written for an input, if that isn't what is wanted.
+    fn written_instead(&mut self, alloc: Global, input: &[u8], wanted: &[u8]) -> Option<Vec<u8>>;
+}
+
+impl<J: Chapter, H: Wait + Drop> Play for Book<Device, J, H> {
+    fn written_instead(&mut self, alloc: Global, input: &[u8], wanted: &[u8]) -> Option<Vec<u8>> {
+        written_instead(alloc, self, input, wanted)
+    }
+}
+
 // Plays a line, and notes it if the reply differs.
-fn play_line<J: Chapter, H: Wait + Drop>(
+fn play_line<B: Play>(
     alloc: Global,
     table: &Table,
-    book: &mut Book<Device, J, H>,
+    book: &mut B,
     line: &str,
     reply: &str,
     differing: &mut String,
@@ -54,7 +66,7 @@ fn play_line<J: Chapter, H: Wait + Drop>(
         input.push(b'\n')?;
     }
     let wanted = reply_bytes(alloc, reply)?;
-    if let Some(written) = written_instead(alloc, book, input.as_slice(), wanted.as_slice()) {
+    if let Some(written) = book.written_instead(alloc, input.as_slice(), wanted.as_slice()) {
         let written = std::str::from_utf8(written.as_slice()).unwrap_or("no text");
         write!(differing, "  {line} -> {written:?}\n")?;
     }
@@ -62,10 +74,10 @@ fn play_line<J: Chapter, H: Wait + Drop>(
 }
 
 // Plays rows in turn, with the fields put into their places.
-fn play_rows<J: Chapter, H: Wait + Drop>(
+fn play_rows<B: Play>(
     alloc: Global,
     table: &Table,
-    book: &mut Book<Device, J, H>,
+    book: &mut B,
     rows: &[&str],
     fields: &[String],
     differing: &mut String,
@@ -75,6 +87,24 @@ fn play_rows<J: Chapter, H: Wait + Drop>(
         let line = fill(alloc, line, fields)?;
         let reply = fill(alloc, reply, fields)?;
         play_line(alloc, table, book, line.as_str(), reply.as_str(), differing)?;
+    }
+    Ok(())
+}
+
+// Plays what comes before the rows of a table, and then some of its rows.
+fn play_some<B: Play>(
+    alloc: Global,
+    table: &Table,
+    book: &mut B,
+    rows: &[Vec<String>],
+    tally: &mut Tally,
+) -> Result<(), AllocError> {
+    let before = table.before.as_slice();
+    play_rows(alloc, table, book, before, &[], &mut tally.differing)?;
+    let shapes = table.shapes.as_slice();
+    for fields in rows {
+        play_rows(alloc, table, book, shapes, fields, &mut tally.differing)?;
+        tally.rows = tally.rows.saturating_add(1);
     }
     Ok(())
 }
@@ -106,118 +136,41 @@ pub(crate) fn history_of(table: &Table) -> usize
     table.history.clamp(1, MOST_HISTORY)
 }
 
-// A Book of a table, after what comes before its rows.
-fn begun<J: Chapter, H: Wait + Drop>(
+// Plays some rows of a table over a Book of their own.
+fn play_over<J: Chapter, H: Wait + Drop>(
     waits: H,
     alloc: Global,
     table: &Table,
     opening: Opening<Device>,
     history: usize,
-    differing: &mut String,
-) -> Result<Book<Device, J, H>, AllocError>
-    requires name { IsNamed J.base J.history J.setting opening history }
-    requires history { (1 ≤ history) × (history ≤ 1_048_576) }
-{
-    let Ok((mut book, _seers)) = Book::<Device, J, H>::of(waits, alloc, opening, history, 1) else {
-        return Err(AllocError);
-    };
-    play_rows(
-        alloc,
-        table,
-        &mut book,
-        table.before.as_slice(),
-        &[],
-        differing,
-    )?;
-    Ok(book)
-}
-
-// Plays a row with these fields.
-fn play_fields<J: Chapter, H: Wait + Drop>(
-    alloc: Global,
-    table: &Table,
-    book: &mut Book<Device, J, H>,
-    fields: &[String],
-    tally: &mut Tally,
-) -> Result<(), AllocError> {
-    let shapes = table.shapes.as_slice();
-    play_rows(alloc, table, book, shapes, fields, &mut tally.differing)?;
-    tally.rows = tally.rows.saturating_add(1);
-    Ok(())
-}
-
-// Plays all rows of a table over one Book.
-fn play_in_turn<J: Chapter, H: Wait + Drop>(
-    waits: H,
-    alloc: Global,
-    table: &Table,
-    opening: Opening<Device>,
-    history: usize,
+    rows: &[Vec<String>],
     tally: &mut Tally,
 ) -> Result<(), AllocError>
     requires name { IsNamed J.base J.history J.setting opening history }
     requires history { (1 ≤ history) × (history ≤ 1_048_576) }
 {
-    let mut book = begun::<J, H>(waits, alloc, table, opening, history, &mut tally.differing)?;
-    for fields in &table.rows {
-        play_fields(alloc, table, &mut book, fields.as_slice(), tally)?;
+    match Book::<Device, J, H>::of(waits, alloc, opening, history, 1) {
+        Ok((mut book, _seers)) => play_some(alloc, table, &mut book, rows, tally),
+        Err(_) => Err(AllocError),
     }
-    Ok(())
 }
 
-// Plays a row with these fields over a Book of its own.
-fn play_once<J: Chapter, H: Wait + Drop>(
-    waits: H,
-    alloc: Global,
-    table: &Table,
-    opening: Opening<Device>,
-    history: usize,
-    fields: &[String],
-    tally: &mut Tally,
-) -> Result<(), AllocError>
-    requires name { IsNamed J.base J.history J.setting opening history }
-    requires history { (1 ≤ history) × (history ≤ 1_048_576) }
-{
-    let mut book = begun::<J, H>(waits, alloc, table, opening, history, &mut tally.differing)?;
-    play_fields(alloc, table, &mut book, fields, tally)
-}
-
-// Plays all rows of a table, each over a Book of its own.
-fn play_apart<H: Wait + Drop + Copy>(
-    waits: H,
-    alloc: Global,
-    table: &Table,
-    tally: &mut Tally,
-) -> Result<(), AllocError> {
-    let history = history_of(table);
-    for fields in &table.rows {
-        let opening = opening_of(alloc, table)?;
-        play_once::<Brand, _>(
-            waits,
-            alloc,
-            table,
-            opening,
-            history,
-            fields.as_slice(),
-            tally,
-        )?;
-    }
-    Ok(())
-}
-
-/// Plays all rows of a table of lines.
+/// Plays all rows of a table of lines: over one Book, or each over its own.
 pub(crate) fn play_lines<H: Wait + Drop + Copy>(
     waits: H,
     alloc: Global,
     table: &Table,
 ) -> Result<Tally, AllocError> {
+    let history = history_of(table);
     let mut tally = Tally::none(alloc);
-    if table.in_turn {
-        let opening = opening_of(alloc, table)?;
-        let history = history_of(table);
-        play_in_turn::<Brand, _>(waits, alloc, table, opening, history, &mut tally)?;
+    let count = if table.in_turn {
+        table.rows.len().max(1)
     } else {
-        play_apart(waits, alloc, table, &mut tally)?;
+        1
+    };
+    for rows in table.rows.chunks(count) {
+        let opening = opening_of(alloc, table)?;
+        play_over::<Brand, _>(waits, alloc, table, opening, history, rows, &mut tally)?;
     }
     Ok(tally)
 }

@@ -1,17 +1,24 @@
 //! Sessions and peers' streams over a Book that callers may share, each with a Book of its own.
-ghost use Rattle.std.specs.Prelude.{◌≤◌};
-ghost use Rattle.pf_book.specs.Books.{IsNamed};
+ghost use Rattle.std.specs.Prelude.{◌≡◌, ◌≤◌, IfOk};
+ghost use Rattle.pf_book.specs.{Books.{IsNamed, world_book}, Receipts.IsReached};
 
 use crate::playing::{Device, history_of, opening_of};
+use crate::refusing::{Refusals, Refusing};
 use crate::spelling::line_bytes;
-use crate::streams::{Script, Tight};
+use crate::streams::{Script, Tight, Watch};
 use crate::table::{Kind, Table};
 use crate::tally::{Case, Outcome, Tally};
-use pfd::{Book, Chapter, EngineFault, Gate, Opening, Seer, Shared, serve, serve_peer};
+use pf_book::book::Book;
+use pf_book::shared::Shared;
+use pf_view::views;
+use pfd::{Chapter, EngineFault, Gate, NewCalls, Numbering, Opening, Seer, serve, serve_peer};
 use std::alloc::{AllocError, Global};
 use std::marker::Brand;
 use std::sync::Wait;
 use std::sync::atomic::{AtomicBool, AtomicU32, Ordering};
+
+// A Book that callers may share, whose changes may be refused memory when they are to be shown.
+type SharedBook<J, R> = Shared<Device, J, Refusing<J, R>>;
 
 /// The number of each session.
 const SESSION: u32 = 7;
@@ -50,20 +57,20 @@ fn end_of(
 }
 
 // Plays one session. Its end says how many lines passed its gate.
-fn run_session<J: Chapter, R: Wait>(
+fn run_session<J: Chapter + Numbering, R: Wait>(
     rt: &R,
     alloc: Global,
-    shared: &Shared<Device, J, &R>,
+    shared: &SharedBook<J, &R>,
     seer: &mut Seer<J>,
     case: &Case,
 ) -> Result<Outcome, AllocError> {
     let line = case.line.as_str();
     let (input, limits) = line.split_once(" > ").unwrap_or((line, ""));
     let input = line_bytes(alloc, input)?;
-    let waiting = &AtomicBool::new(false);
+    let watch = &Watch::new(true);
     let mut written = Vec::new(alloc);
-    let mut reader = Script::new(input.as_slice(), waiting);
-    let mut writer = Tight::new(&mut written, limits, waiting);
+    let mut reader = Script::new(input.as_slice(), watch);
+    let mut writer = Tight::new(&mut written, limits, watch);
     let gate = Counting {
         last: AtomicU32::new(0),
         is_wrong: AtomicBool::new(false),
@@ -84,40 +91,70 @@ fn run_session<J: Chapter, R: Wait>(
 }
 
 // Plays a peer's stream. Its end says how many changes the Book then has.
-fn follow<J: Chapter, R: Wait>(
+fn follow<J: Chapter + Numbering, R: Wait>(
     rt: &R,
     alloc: Global,
-    shared: Shared<Device, J, &R>,
+    shared: SharedBook<J, &R>,
     case: &Case,
 ) -> Result<Outcome, AllocError> {
     let line = case.line.as_str();
     let (input, limits) = line.split_once(" > ").unwrap_or((line, ""));
     let input = line_bytes(alloc, input)?;
-    let waiting = &AtomicBool::new(false);
+    let watch = &Watch::new(true);
     let mut written = Vec::new(alloc);
-    let mut reader = Script::new(input.as_slice(), waiting);
-    let mut writer = Tight::new(&mut written, limits, waiting);
+    let mut reader = Script::new(input.as_slice(), watch);
+    let mut writer = Tight::new(&mut written, limits, watch);
     let ended = serve_peer(rt, alloc, &mut reader, &mut writer, &shared);
     let end = end_of(alloc, ended, shared.close().log_len(), false)?;
     Ok(Outcome { end, written })
 }
 
+// A Book of an opening, and a seer of it. What shows its changes is refused memory as the limits of a row say.
+fn book_of<'a, J: Chapter, R: Wait>(
+    rt: &'a R,
+    alloc: Global,
+    opening: Opening<Device>,
+    history: usize,
+    limits: &str,
+) -> Result<(Book<Device, J, Refusing<J, &'a R>>, Vec<Seer<J>>), AllocError>
+    requires name { IsNamed J.base J.history J.setting opening history }
+    requires history { (1 ≤ history) × (history ≤ 1_048_576) }
+    ensures { IfOk result (λ made. IsReached J.base J.setting (world_book made.0)) }
+{
+    let Ok(named) = opening.named::<J>() else {
+        return Err(AllocError);
+    };
+    let Ok((shower, seers)) = views::<J, &R>(rt, alloc, named.base(), named.start(), 1) else {
+        return Err(AllocError);
+    };
+    let publisher = Refusing {
+        shower,
+        offers: Refusals::of(limits, "offers"),
+        shows: Refusals::of(limits, "shows"),
+    };
+    match Book::over(alloc, named, history, publisher) {
+        Ok(book) => Ok((book, seers)),
+        Err(_) => Err(AllocError),
+    }
+}
+
 // Plays a case over an opening.
-fn share<J: Chapter, R: Wait>(
+fn share<J: Chapter + Numbering, R: Wait>(
     rt: &R,
     alloc: Global,
     kind: Kind,
     opening: Opening<Device>,
+    calls: NewCalls,
     history: usize,
     case: &Case,
 ) -> Result<Outcome, AllocError>
     requires name { IsNamed J.base J.history J.setting opening history }
+    requires calls { calls ≡ J.register }
     requires history { (1 ≤ history) × (history ≤ 1_048_576) }
 {
-    let Ok((book, mut seers)) = Book::<Device, J, &R>::of(rt, alloc, opening, history, 1) else {
-        return Err(AllocError);
-    };
-    let shared = Shared::new(book);
+    let (_, limits) = case.line.split_once(" > ").unwrap_or(("", ""));
+    let (book, mut seers) = book_of::<J, R>(rt, alloc, opening, history, limits)?;
+    let shared = Shared::new(book, calls);
     let Some(mut seer) = seers.pop() else {
         return Err(AllocError);
     };
@@ -137,7 +174,8 @@ pub(crate) fn share_each<R: Wait>(
     let mut tally = Tally::none(alloc);
     for case in &table.cases(alloc)? {
         let opening = opening_of(alloc, table)?;
-        let outcome = share::<Brand, _>(rt, alloc, table.kind, opening, history, case)?;
+        let calls = NewCalls::open();
+        let outcome = share::<Brand, _>(rt, alloc, table.kind, opening, calls, history, case)?;
         tally.note(alloc, case, &outcome)?;
     }
     Ok(tally)

@@ -1,7 +1,7 @@
 //! Starts of the program: its words and its input, its status, what it says of its faults, and its output.
 
 use crate::spelling::{line_bytes, push_bytes};
-use crate::streams::{Script, Tight};
+use crate::streams::{Script, Tight, Watch};
 use crate::table::Table;
 use crate::tally::{Case, Outcome, Tally};
 use pfd::start;
@@ -10,7 +10,6 @@ use std::fs::{File, OpenOptions};
 use std::io::{self, ErrorKind, Write};
 use std::net::{Net, TcpListener, TcpStream};
 use std::sync::Wait;
-use std::sync::atomic::{AtomicBool, Ordering};
 use std::thread::Threads;
 
 // The file of a table, made anew and open; locked if the table says so.
@@ -50,23 +49,22 @@ fn end_of(alloc: Global, status: u8, told: &[u8]) -> Result<String, AllocError> 
     }
 }
 
-// Starts the program with the words of a case.
-fn started<N: Wait + Threads + Net<Listener = TcpListener, Stream = TcpStream> + Sync>(
+/// Starts the program with the words of a line, which end in what it reads and in the limits of its writer.
+pub(crate) fn started<N: Wait + Threads + Net<Listener = TcpListener, Stream = TcpStream> + Sync>(
     machine: &N,
     rt: &HostRuntime,
-    case: &Case,
+    line: &str,
+    watch: &Watch,
 ) -> Result<Outcome, AllocError> {
     let alloc = rt.alloc();
-    let line = case.line.as_str();
     let (line, limits) = line.split_once(" > ").unwrap_or((line, ""));
     let (words, input) = line.split_once(" < ").unwrap_or((line, ""));
     let words = words_of(alloc, words)?;
     let input = line_bytes(alloc, input)?;
-    let waiting = &AtomicBool::new(false);
     let mut written = Vec::new(alloc);
     let mut told = Vec::new(alloc);
-    let mut reader = Script::new(input.as_slice(), waiting);
-    let mut writer = Tight::new(&mut written, limits, waiting);
+    let mut reader = Script::new(input.as_slice(), watch);
+    let mut writer = Tight::new(&mut written, limits, watch);
     let words = words.as_slice();
     let status = start(
         machine,
@@ -77,7 +75,7 @@ fn started<N: Wait + Threads + Net<Listener = TcpListener, Stream = TcpStream> +
         &mut writer,
         &mut told,
     );
-    if status == 0 && waiting.load(Ordering::SeqCst) {
+    if status == 0 && watch.is_waiting() {
         told.extend_from_slice(b"what was written waits to be flushed\n")?;
     }
     let end = end_of(alloc, status, told.as_slice())?;
@@ -92,7 +90,7 @@ pub(crate) fn start_each<
     let _file = made(rt, table)?;
     let mut tally = Tally::none(alloc);
     for case in &table.cases(alloc)? {
-        let outcome = started(machine, rt, case)?;
+        let outcome = started(machine, rt, case.line.as_str(), &Watch::new(true))?;
         tally.note(alloc, case, &outcome)?;
     }
     Ok(tally)

@@ -1,23 +1,70 @@
 //! Readers and writers that follow a script.
 
 use std::io::{self, ErrorKind, Read, Write};
-use std::sync::atomic::{AtomicBool, Ordering};
+use std::sync::atomic::{AtomicBool, AtomicU32, Ordering};
+use std::thread;
 
-/// A reader whose reads each give the next piece, and after the last one are at the end. A piece `~` is an interruption, and `!` a fault. A
-/// read also fails while replies wait to be flushed.
+/// The most times that a client yields to other threads until a server listens.
+const MOST_TURNS: u32 = 10_000_000;
+
+/// What a writer tells others of what was written.
+#[derive(Drop)]
+pub(crate) struct Watch {
+    /// Nothing may be read while something waits to be flushed.
+    is_strict: bool,
+    /// Something waits to be flushed.
+    is_waiting: AtomicBool,
+    /// The port at which a server said that it listens; 0 before that.
+    port: AtomicU32,
+}
+
+impl Watch {
+    pub(crate) fn new(is_strict: bool) -> Watch {
+        Watch {
+            is_strict,
+            is_waiting: AtomicBool::new(false),
+            port: AtomicU32::new(0),
+        }
+    }
+
+    /// Whether something that was written waits to be flushed.
+    pub(crate) fn is_waiting(&self) -> bool {
+        self.is_waiting.load(Ordering::SeqCst)
+    }
+
+    // Takes note of the port in what a server wrote.
+    fn note_port(&self, text: &[u8]) {
+        let text = std::str::from_utf8(text).unwrap_or("").trim_end();
+        if let Some(port) = text.strip_prefix("listening 127.0.0.1:") {
+            let port = port.parse::<u32>().unwrap_or(0);
+            self.port.store(port, Ordering::SeqCst);
+        }
+    }
+
+    /// The port of a server, once it listens; 0 if it doesn't in time.
+    pub(crate) fn port(&self) -> u32 {
+        for _ in 0..MOST_TURNS {
+            if self.port.load(Ordering::SeqCst) != 0 {
+                break;
+            }
+            thread::yield_now();
+        }
+        self.port.load(Ordering::SeqCst)
+    }
+}
+
+/// A reader whose reads each give the next piece, and after the last one are at the end. A piece `~` is an interruption, `!` a fault, and
+/// `*` newlines without end. Under a strict watch a read also fails while replies wait to be flushed.
 #[derive(Drop)]
 pub(crate) struct Script<'a> {
     rest: &'a [u8],
-    waiting: &'a AtomicBool,
+    watch: &'a Watch,
 }
 
 impl<'a> Script<'a> {
     /// The reader of these bytes, with `|` between its pieces.
-    pub(crate) fn new(bytes: &'a [u8], waiting: &'a AtomicBool) -> Script<'a> {
-        Script {
-            rest: bytes,
-            waiting,
-        }
+    pub(crate) fn new(bytes: &'a [u8], watch: &'a Watch) -> Script<'a> {
+        Script { rest: bytes, watch }
     }
 
     fn next_piece(&mut self) -> &'a [u8] {
@@ -31,8 +78,12 @@ impl<'a> Script<'a> {
 
 impl Read for Script<'_> {
     fn read(&mut self, buf: &mut [u8]) -> io::Result<usize> {
+        if self.rest == b"*".as_slice() {
+            buf.fill(b'\n');
+            return Ok(buf.len());
+        }
         let mut piece = self.next_piece();
-        if self.waiting.load(Ordering::SeqCst) || piece == b"!".as_slice() {
+        if self.watch.is_strict && self.watch.is_waiting() || piece == b"!".as_slice() {
             return Err(io::Error::from(ErrorKind::Other));
         }
         if piece == b"~".as_slice() {
@@ -49,18 +100,18 @@ pub(crate) struct Tight<'a> {
     room: usize,
     interruptions: u32,
     flushes: u32,
-    waiting: &'a AtomicBool,
+    watch: &'a Watch,
 }
 
 impl<'a> Tight<'a> {
     /// A writer with these limits, as `stdin` spells them. What isn't named has no limit.
-    pub(crate) fn new(text: &'a mut Vec<u8>, limits: &str, waiting: &'a AtomicBool) -> Tight<'a> {
+    pub(crate) fn new(text: &'a mut Vec<u8>, limits: &str, watch: &'a Watch) -> Tight<'a> {
         let mut writer = Tight {
             text,
             room: usize::MAX,
             interruptions: 0,
             flushes: u32::MAX,
-            waiting,
+            watch,
         };
         for limit in limits.split(", ") {
             writer.limit(limit);
@@ -93,7 +144,7 @@ impl Write for Tight<'_> {
         let n = buf.len().min(self.room);
         self.text.extend_from_slice(&buf[..n])?;
         self.room -= n;
-        self.waiting.store(true, Ordering::SeqCst);
+        self.watch.is_waiting.store(true, Ordering::SeqCst);
         Ok(n)
     }
 
@@ -102,7 +153,8 @@ impl Write for Tight<'_> {
             return Err(io::Error::from(ErrorKind::Other));
         }
         self.flushes -= 1;
-        self.waiting.store(false, Ordering::SeqCst);
+        self.watch.is_waiting.store(false, Ordering::SeqCst);
+        self.watch.note_port(self.text);
         Ok(())
     }
 }

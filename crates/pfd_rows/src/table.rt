@@ -22,6 +22,8 @@ pub(crate) enum Kind {
     Sessions,
     /// Peers' streams over such a Book.
     Peers,
+    /// Clients of a server.
+    Clients,
 }
 
 impl Kind {
@@ -29,7 +31,7 @@ impl Kind {
     fn shape(self) -> &'static str {
         match self {
             Kind::Lines => "$1 -> $2",
-            Kind::Words | Kind::Sessions | Kind::Peers => "$1 -> $2 -> $3",
+            _ => "$1 -> $2 -> $3",
         }
     }
 }
@@ -54,6 +56,8 @@ pub(crate) struct Table<'a> {
     pub(crate) file: Option<&'a str>,
     /// The file is locked while the rows are played.
     pub(crate) is_locked: bool,
+    /// The words that the server is started with, whose clients the rows are.
+    pub(crate) server: &'a str,
     /// The rows that are played first on a Book.
     pub(crate) before: Vec<&'a str>,
     /// The rows that are played for each row, with its fields in their places.
@@ -74,6 +78,7 @@ impl<'a> Table<'a> {
             as_input: false,
             file: None,
             is_locked: false,
+            server: "",
             before: Vec::new(alloc),
             shapes: Vec::new(alloc),
             rows: Vec::new(alloc),
@@ -87,6 +92,10 @@ impl<'a> Table<'a> {
             "words" => self.kind = Kind::Words,
             "session" => self.kind = Kind::Sessions,
             "peer" => self.kind = Kind::Peers,
+            "server" => {
+                self.kind = Kind::Clients;
+                self.server = rest;
+            }
             "in" => self.in_turn = true,
             "input" => self.as_input = true,
             "history" => self.history = rest.parse::<usize>().unwrap_or(HISTORY_LIMIT),

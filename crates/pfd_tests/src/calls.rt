@@ -1,6 +1,6 @@
 //! Public calls that no line comes to, each once and with enough memory; and that values cross threads.
 use pf_addr::path::TableName;
-use pf_addr::{Addr, Net, write_addr, write_net};
+use pf_addr::{Addr, Net};
 use pf_anchor::{Config, Path, RuleList};
 use pf_core::{Change, Command, Durable, Reply};
 use pf_rule::{Packet, Rule};
@@ -16,15 +16,9 @@ fn texts_are_read_and_written(rt: HostRuntime) -> Result<(), Fail> {
     let packet = Packet::parse(rt.alloc(), "in em0 tcp 10.0.0.1 1234 10.0.0.2 80")?;
     assert!(rt; packet.destination_port() == 80);
     let rule = Rule::parse(rt.alloc(), "block drop in")?;
-    let address = Addr::V6(0x2001_0db8_0000_000f_0010_0100_1000_abcd);
     let mut out = Vec::new(rt.alloc());
-    write_addr(&mut out, address)?;
-    out.push(b' ')?;
-    write_net(&mut out, Net::new(Addr::V4(0x0a01_0203), 8))?;
-    out.push(b' ')?;
     rule.write(&mut out)?;
-    let wanted = b"2001:db8:0:f:10:100:1000:abcd 10.0.0.0/8 block in all";
-    assert!(rt; out.as_slice() == wanted.as_slice());
+    assert!(rt; out.as_slice() == b"block in all".as_slice());
     Ok(())
 }
 
@@ -41,28 +35,21 @@ fn nested(alloc: Global) -> Result<Config, Fail> {
     Ok(ruled.with_table(alloc, &Path::from_ascii(b"a/b")?, &name, &table)?)
 }
 
-/// The children of a path, each followed by a space.
-fn children(alloc: Global, config: &Config, path: &str) -> Result<Vec<u8>, Fail> {
-    let path = Path::from_ascii(path.as_bytes())?;
-    let mut text = Vec::new(alloc);
-    for child in &config.children(alloc, &path)? {
-        text.extend_from_slice(child.as_bytes())?;
-        text.push(b' ')?;
-    }
-    Ok(text)
-}
-
 #[test]
 fn rules_and_tables_are_put_at_their_paths(rt: HostRuntime) -> Result<(), Fail> {
     let config = nested(rt.alloc())?;
-    // A child has one component more than its parent.
-    for (path, wanted) in [("a", ""), ("a/b", "a/b/c "), ("a/b/c", "")] {
-        let found = children(rt.alloc(), &config, path)?;
-        assert!(rt; found.as_slice() == wanted.as_bytes(), "at {path}");
-    }
     let path = Path::from_ascii(b"a/b")?;
-    let name = TableName::from_ascii(b"web")?;
-    let holds = match config.table_at(&path, &name) {
+    // A child has one component more than its parent.
+    let children = config.children(rt.alloc(), &path)?;
+    let is_child = match children.as_slice() {
+        [child] => child.as_bytes() == b"a/b/c".as_slice(),
+        _ => false,
+    };
+    assert!(rt; is_child);
+    let above = config.children(rt.alloc(), &Path::from_ascii(b"a")?)?;
+    let below = config.children(rt.alloc(), &Path::from_ascii(b"a/b/c")?)?;
+    assert!(rt; above.is_empty() && below.is_empty());
+    let holds = match config.table_at(&path, &TableName::from_ascii(b"web")?) {
         Some(table) => table.test(Addr::V4(0x0a01_0203)),
         None => false,
     };

@@ -2,12 +2,11 @@
 //!
 //! - `calls`: public calls that no line comes to, and that values cross threads.
 //! - `tables`: commands whose lists no line can carry.
-//! - `faults`: the texts of all faults, and the words of a process.
+//! - `faults`: the texts of all faults.
 //! - `files`: the bytes of a file that isn't formatted.
-//! - `refusing`, `stored`: a publisher that refuses calls, and the changes of a Book over it, which are kept and not shown at once.
 //!
 //! It knows the public items of the crates below, and nothing depends on it. The replies to lines, what the program does by its words, and
-//! what sessions and peers are answered are in the tables of `pfd_rows`; what threads and connections show is in `server_tests`.
+//! what sessions and peers are answered are in the tables of `pfd_rows`; what threads show beside one Book is in `server_tests`.
 //!
 //! Nothing is proved here but that the tests keep the contracts of what they call.
 #![tactic(auto)]
@@ -18,9 +17,5 @@ mod calls;
 mod faults;
 #[cfg(test)]
 mod files;
-#[cfg(test)]
-mod refusing;
-#[cfg(test)]
-mod stored;
 #[cfg(test)]
 mod tables;

@@ -1,23 +1,16 @@
 //! Commands on tables that no line can carry: lists without entries, and lists longer than a line.
-ghost use Rattle.pfd_words.specs.declared.words.TheConstants.{HISTORY_LIMIT};
-ghost use Rattle.pf_book.specs.Books.{IsNamed};
-
 use pf_addr::path::TableName;
 use pf_addr::{Addr, Net};
 use pf_anchor::Path;
-use pf_core::{Command, EntryList, TableEdit, Transaction};
+use pf_core::{
+    Command, Core, Durable, EntryList, ReadyStep, Refusal, Reply, TableEdit, Transaction,
+};
 use pf_line::write_reply;
 use pf_table::{Entry, TABLE_LIMIT};
 use pf_ticket::{RulesetName, RulesetNames, RulesetTicket, RulesetTickets, Ticket};
-use pfd::{Book, Chapter, HISTORY_LIMIT, MemDisk, Opening, open_fresh};
 use std::alloc::Global;
-use std::marker::Brand;
-use std::process::Abort;
-use std::sync::Wait;
+use std::sync::Arc;
 use std::test::*;
-
-/// How many bytes a disk has: enough for two changes of a whole table.
-const DISK_SIZE: usize = 1 << 23;
 
 /// What is done with some entries, on the main ruleset's table `banned`.
 #[derive(Clone, Copy)]
@@ -32,48 +25,37 @@ enum Deed {
     Delete,
 }
 
-/// A deed, with how many addresses, from the first on, each as a network of its own; and its reply.
-type Row = (Deed, usize, &'static str);
-
-const WITHOUT_ENTRIES: &[Row] = &[
+/// Each deed in turn, with how many addresses, from the first on, each as a network of its own; and its reply.
+const ROWS: &[(Deed, usize, &str)] = &[
     // Nothing is added to a table that isn't there, and it still isn't there afterwards.
     (Deed::Add, 0, "applied 1 added 0 same 0 conflict 0\n"),
     (Deed::Delete, 0, "err absent\n"),
     (Deed::Set, 1, "applied 2\n"),
     (Deed::Add, 0, "applied 3 added 0 same 0 conflict 0\n"),
     (Deed::Delete, 0, "applied 4 deleted 0 absent 0\n"),
-];
-
-const FULL: &[Row] = &[
     (Deed::Set, TABLE_LIMIT + 1, "err table\n"),
-    (Deed::Set, TABLE_LIMIT, "applied 1\n"),
+    (Deed::Set, TABLE_LIMIT, "applied 5\n"),
     (Deed::Add, TABLE_LIMIT + 1, "err table\n"),
     (
         Deed::Add,
         TABLE_LIMIT,
-        "applied 2 added 0 same 65536 conflict 0\n",
+        "applied 6 added 0 same 65536 conflict 0\n",
     ),
-];
-
-const OFFERED: &[Row] = &[
-    (Deed::Begin, 0, "ok 1.1\n"),
-    (Deed::Define, TABLE_LIMIT + 1, "err table\n"),
-    (Deed::Define, TABLE_LIMIT, "ok\n"),
-];
-
-const EXTENDED: &[Row] = &[
+    (Deed::Set, 1, "applied 7\n"),
     (Deed::Begin, 0, "ok 1.1\n"),
     (Deed::Extend, 1, "err absent\n"),
+    (Deed::Define, TABLE_LIMIT + 1, "err table\n"),
+    (Deed::Define, TABLE_LIMIT, "ok\n"),
     (Deed::Define, 1, "ok\n"),
     (Deed::Extend, 0, "ok\n"),
     (Deed::Extend, TABLE_LIMIT + 1, "err table\n"),
     (Deed::Extend, TABLE_LIMIT, "ok\n"),
     (Deed::Extend, TABLE_LIMIT + 1, "err table\n"),
-    (Deed::Commit, 0, "applied 1\n"),
+    (Deed::Commit, 0, "applied 8\n"),
     (
         Deed::Add,
         TABLE_LIMIT,
-        "applied 2 added 0 same 65536 conflict 0\n",
+        "applied 9 added 0 same 65536 conflict 0\n",
     ),
 ];
 
@@ -153,46 +135,35 @@ fn command_of(alloc: Global, deed: Deed, count: usize) -> Result<Command, Fail> 
     Ok(command(deed, name, entries, tables, tickets))
 }
 
-// It borrows the Book, so that it needn't drop it wherever it may fail.
-fn play_on<J: Chapter, R: Wait + Abort>(
-    rt: &R,
-    alloc: Global,
-    book: &mut Book<MemDisk, J, &R>,
-    rows: &[Row],
-) -> Result<(), Fail> {
-    for (deed, count, wanted) in rows {
-        let reply = book.run(command_of(alloc, *deed, *count)?);
-        let mut text = Vec::new(alloc);
-        write_reply(&mut text, &reply)?;
-        assert!(rt; text.as_slice() == wanted.as_bytes(), "at {wanted}");
+/// The reply to a command. A change that it wants is kept, and is the one after so many others.
+fn answer(core: &mut Core, command: &Command, changes: &mut u64) -> Reply {
+    match core.step_ready(command) {
+        Ok(ReadyStep::Done(answer)) => Reply::Answer(answer),
+        Ok(ReadyStep::Wants(_change, next, outcome)) => {
+            core.accept(next);
+            *changes = changes.saturating_add(1);
+            Reply::Applied {
+                seq: *changes,
+                outcome,
+            }
+        }
+        // no row has a command of the history
+        Ok(ReadyStep::OfHistory(_)) => Reply::Refused(Refusal::Halted),
+        Err(refusal) => Reply::Refused(refusal),
     }
-    Ok(())
-}
-
-fn play<J: Chapter, R: Wait + Abort>(
-    rt: &R,
-    alloc: Global,
-    opening: Opening<MemDisk>,
-    rows: &[Row],
-) -> Result<(), Fail>
-    requires { IsNamed J.base J.history J.setting opening HISTORY_LIMIT }
-{
-    match Book::<MemDisk, J, &R>::of(rt, alloc, opening, HISTORY_LIMIT, 1) {
-        Ok((mut book, _seers)) => play_on(rt, alloc, &mut book, rows),
-        Err(_) => Err(Fail::from("a Book")),
-    }
-}
-
-/// A fresh disk in memory, opened.
-fn opened(alloc: Global) -> Result<Opening<MemDisk>, Fail> {
-    let disk = MemDisk::of(alloc, vec![in alloc; 0u8; DISK_SIZE]?)?;
-    open_fresh(alloc, disk).map_err(|_| Fail::from("a fresh disk"))
 }
 
 #[test]
 fn lists_have_any_number_of_entries(rt: HostRuntime) -> Result<(), Fail> {
-    for rows in [WITHOUT_ENTRIES, FULL, OFFERED, EXTENDED] {
-        play::<Brand, _>(&rt, rt.alloc(), opened(rt.alloc())?, rows)?;
+    let alloc = rt.alloc();
+    let mut core = Core::new(alloc, Arc::new(alloc, Durable::empty(alloc, 1)?)?);
+    let mut changes = 0;
+    for (deed, count, wanted) in ROWS {
+        let command = command_of(alloc, *deed, *count)?;
+        let mut text = Vec::new(alloc);
+        let reply = answer(&mut core, &command, &mut changes);
+        write_reply(&mut text, &reply)?;
+        assert!(rt; text.as_slice() == wanted.as_bytes(), "at {wanted}");
     }
     Ok(())
 }

@@ -1,25 +1,13 @@
-//! Tests of what threads and connections show.
+//! A test of what threads show beside one Book.
 //!
-//! - `scenes`: a Book that is shared, over a fresh disk in memory, for each test of the next two modules.
-//! - `sharing`: callers that share a Book, each in a thread of its own, and seers that judge beside it.
-//! - `servers`: a listener with its sessions and its peers.
-//! - `clients`: the program's own server and client.
-//! - `peers`: a peer's stream in pieces.
+//! - `seers`: callers that share a Book, each in a thread of its own, seers that judge beside it, and a listener whose accept fails.
 //!
-//! It knows the public items of the crates below, and nothing depends on it. What one session or one peer is answered is in the tables of
-//! `pfd_rows`.
+//! It knows the public items of the crates below, and nothing depends on it. What sessions and peers are answered, and what the program's
+//! server and its clients do over connections, is in the tables of `pfd_rows`.
 //!
-//! Nothing is proved here but that the tests keep the contracts of what they call. That threads and connections really do what the
-//! contracts take them to do is only tested.
+//! Nothing is proved here but that the test keeps the contracts of what it calls. That threads really do what the contracts take them to do
+//! is only tested.
 #![tactic(auto)]
 
 #[cfg(test)]
-mod clients;
-#[cfg(test)]
-mod peers;
-#[cfg(test)]
-mod scenes;
-#[cfg(test)]
-mod servers;
-#[cfg(test)]
-mod sharing;
+mod seers;

@@ -1,9 +1,11 @@
 mod Configurations
 mod Fronts
+mod Halves
 mod Interfaces
 mod Kept
 mod LineSteps
 mod LineWords
 mod Many
+mod Passing
 mod Values
 mod Verdicts

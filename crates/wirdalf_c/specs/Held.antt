@@ -2,7 +2,8 @@
 use Rattle.std.specs.{Prelude.{Option, None, Some}, Box.Ownership.box_owns, declared.alloc.Global.Global, contracts.impls.GlobalAllocator.TheImpl.ghosts}
 use base.Fml.{Fml, ftrue}
 use denote.RawPtr.{Ptr}
-use Rattle.pf_core.specs.{Durable.Changes.{PlainDurable}, contracts.durable.durable.Durable.the_row}
+use Rattle.pf_core.specs.Durable.Changes.{PlainDurable}
+use Rattle.wirdalf_c.specs.contracts.holding.Holding.{the_row}
 
 -- the C library's heap; a value of this type is only the leave to use it
 abbrev pub heap : Global

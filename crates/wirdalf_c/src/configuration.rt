@@ -1,10 +1,10 @@
 //! What C has of a configuration: a pointer to what is kept, in a box of its own.
 ghost use Rattle.std.specs.{Prelude.{◌≡◌, Option, Some, IsSome}, Coded.coded_option};
-ghost use Rattle.pf_core.specs.{Durable.Changes.{PlainDurable}, contracts.durable.durable.Durable.the_row};
-ghost use Rattle.wirdalf_c.specs.Held.{holds};
+ghost use Rattle.pf_core.specs.Durable.Changes.{PlainDurable};
+ghost use Rattle.wirdalf_c.specs.{Held.{holds}, contracts.holding.Holding.the_row};
 
+use crate::holding::Holding;
 use crate::loose::Loose;
-use pf_core::Durable;
 use std::alloc::Global;
 use std::marker::Model;
 
@@ -30,7 +30,7 @@ impl Configuration {
     // These three are all that follow a pointer or make one; they are proved by hand.
 
     /// The configuration that holds what was in the box.
-    pub fn of(held: Loose<Durable, Global>) -> Configuration
+    pub fn of(held: Loose<Holding, Global>) -> Configuration
         ensures { result.held ≡ Some held.value }
     {
         let Loose { at, alloc: _ } = held;
@@ -38,23 +38,23 @@ impl Configuration {
     }
 
     /// The box with what it holds.
-    pub fn into_loose(self, alloc: Global) -> Loose<Durable, Global>
+    pub fn into_loose(self, alloc: Global) -> Loose<Holding, Global>
         requires { IsSome self.held }
         ensures { self.held ≡ Some result.value }
     {
         let Configuration { at } = self;
         Loose {
-            at: at as *mut Durable,
+            at: at as *mut Holding,
             alloc,
         }
     }
 
     /// What it holds.
-    pub fn lend(&mut self) -> &mut Durable
+    pub fn lend(&mut self) -> &mut Holding
         requires { IsSome self.old.held }
         ensures* writes_back { sem 𝓛 (LendsHeld self.entry result) }
         ensures value { self.old.held ≡ Some result.now }
     {
-        unsafe { &mut *(self.at as *mut Durable) }
+        unsafe { &mut *(self.at as *mut Holding) }
     }
 }

@@ -1,40 +1,65 @@
 //! What a configuration says.
-ghost use Rattle.std.specs.Prelude.{◌≡◌, ◌<◌, ◌≤◌, ℕ, length, min, slice_get, Some, IfSome};
-ghost use Rattle.pf_core.specs.Durable.Changes.{main_sum};
+ghost use Rattle.std.specs.Prelude.{◌≡◌, ◌<◌, ◌≤◌, ℕ, length, min, slice_get, Some, IfSome, MatchOption};
+ghost use Rattle.pf_anchor.specs.Evaluation.{judged};
+ghost use Rattle.pf_core.specs.{Durable.Changes.{main_sum, verdict}, declared.durable.verdict.Verdict.TheVariants.{State as Stateful, Rules}};
 ghost use Rattle.wirdalf_c.specs.Answers.{AreCounts, IsJudged, IsTested};
 
-use crate::packet::{address_in, packet_in};
+use crate::holding::Holding;
+use crate::packet::address_in;
 use crate::record::{CountsRecord, FAMILY_V4, FAMILY_V6, PacketRecord, VerdictRecord};
-use crate::verdict::tell;
+use crate::verdict::{tell_nothing, tell_rules, tell_state};
 use pf_addr::path::{Path, TableName};
 use pf_core::Durable;
+use pf_rule::Packet;
+use pf_state::StateName;
 
 /// Judges the packet that a record says, and writes the verdict. It takes no memory.
 #[tactic(auto, unfolding(crate::specs::Answers::IsJudged))]
-pub fn judge(durable: &Durable, packet: &PacketRecord, verdict: &mut VerdictRecord)
-    ensures { IsJudged durable.now packet.now verdict.new }
+pub fn judge(holding: &mut Holding, packet: &PacketRecord, verdict: &mut VerdictRecord)
+    ensures judged { IsJudged holding.old packet.now verdict.new }
+    ensures same { holding.new ≡ holding.old }
 {
-    match packet_in(packet) {
-        Some(packet) => tell(Some(durable.verdict(&packet)), verdict),
-        None => tell(None, verdict),
+    let Some(packet) = holding.packet_in(packet) else {
+        return tell_nothing(verdict);
+    };
+    let durable = holding.durable();
+    match passing_state(durable, &packet) {
+        Some(name) => tell_state(name, verdict),
+        None => tell_rules(durable.config().judge(&packet), verdict),
+    }
+}
+
+// The state that passes a packet; None: the rules decide. Where there are no states the packet's flow isn't even made.
+#[tactic(auto, using(crate::proofs::Passing::none_passes))]
+fn passing_state(durable: &Durable, packet: &Packet) -> Option<StateName>
+    ensures { MatchOption result (verdict durable.now packet.now ≡ Rules (judged durable.now.config packet.now))
+        (λ name. verdict durable.now packet.now ≡ Stateful name) }
+{
+    if durable.states().len() == 0 {
+        return None;
+    }
+    match durable.states().find(packet) {
+        Some(state) if state.value().stands(durable.tick()) => Some(*state.key()),
+        _ => None,
     }
 }
 
 /// Judges each of these packets, as [`judge`] does, and writes as many verdicts. If there are fewer of one of them, so many are judged;
 /// the verdicts after them stay as they were. Returns how many were judged.
 pub fn judge_many(
-    durable: &Durable,
+    holding: &mut Holding,
     packets: &[PacketRecord],
     verdicts: &mut [VerdictRecord],
 ) -> usize
     ensures count { result ≡ min (length packets.now) (length verdicts.old) }
     ensures judged { (i : ℕ) → i < result
-        → IfSome (slice_get packets.now i) (λ p. IfSome (slice_get verdicts.new i) (λ v. IsJudged durable.now p v)) }
+        → IfSome (slice_get packets.now i) (λ p. IfSome (slice_get verdicts.new i) (λ v. IsJudged holding.old p v)) }
     ensures rest { (i : ℕ) → result ≤ i → slice_get verdicts.new i ≡ slice_get verdicts.old i }
+    ensures same { holding.new ≡ holding.old }
 {
     let count = packets.len().min(verdicts.len());
     for i in 0..count {
-        judge(durable, &packets[i], &mut verdicts[i]);
+        judge(holding, &packets[i], &mut verdicts[i]);
     }
     count
 }

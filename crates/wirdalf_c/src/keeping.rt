@@ -6,6 +6,7 @@ ghost use Rattle.wirdalf_c.specs.Answers.{IsKept};
 
 use crate::configuration::Configuration;
 use crate::fault::{OK, ReadFault};
+use crate::holding::Holding;
 use crate::loose::Loose;
 use pf_core::Durable;
 use std::alloc::{AllocError, Global};
@@ -29,7 +30,7 @@ pub fn keep(
 }
 
 /// Puts what is in a box where C wants it.
-pub fn keep_box(held: Box<Durable>, config: &mut Configuration) -> u32
+pub fn keep_box(held: Box<Holding>, config: &mut Configuration) -> u32
     ensures held { config.new.held ≡ Some held.value }
     ensures code { result ≡ OK }
 {
@@ -38,11 +39,11 @@ pub fn keep_box(held: Box<Durable>, config: &mut Configuration) -> u32
 }
 
 // In a box of its own.
-fn boxed(alloc: Global, made: Result<Durable, ReadFault>) -> Result<Box<Durable>, ReadFault>
+fn boxed(alloc: Global, made: Result<Durable, ReadFault>) -> Result<Box<Holding>, ReadFault>
     ensures ok { IfOk result (λ b. made ≡ Ok b.value) }
     ensures err { IfErr result (λ e. (made ≡ Err e) ⊎ (e ≡ Memory)) }
 {
-    match Box::new(alloc, made?) {
+    match Box::new(alloc, Holding::of(made?)) {
         Ok(held) => Ok(held),
         Err(_) => Err(ReadFault::Memory),
     }

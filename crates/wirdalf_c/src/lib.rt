@@ -5,7 +5,8 @@
 //!
 //! - `loose`: a box as its pointer; `configuration`: what C holds, [`Configuration`](configuration::Configuration). These two alone follow
 //!   pointers, in five functions of a line or two that are proved by hand.
-//! - `record`: the structs that C gives and gets; `packet`: which packet one of them says; `verdict`: a verdict as another.
+//! - `record`: the structs that C gives and gets; `interface`, `packet`: which packet one of them says; `verdict`: a verdict as another.
+//! - `holding`: what a configuration holds.
 //! - `fault`, `image`: what the bytes of a disk hold, or why not; `lines`, `line_fault`: what lines make, or which isn't done;
 //!   `keeping`: what was made is put where C wants it.
 //! - `judging`: what a configuration says.
@@ -22,7 +23,9 @@
 
 mod configuration;
 mod fault;
+mod holding;
 mod image;
+mod interface;
 mod judging;
 mod keeping;
 mod line_fault;
@@ -88,7 +91,7 @@ pub extern "C" fn wirdalf_clone(
     ensures same { config.new ≡ config.old }
 {
     let mut place = 0;
-    keep(alloc, shared(config.lend()), copy, &mut place)
+    keep(alloc, shared(config.lend().durable()), copy, &mut place)
 }
 
 /// Lets a configuration go.
@@ -145,7 +148,14 @@ pub extern "C" fn wirdalf_test(
         prefix_length.new result) }
     ensures same { config.new ≡ config.old }
 {
-    test(config.lend(), path, table, family, *address, prefix_length)
+    test(
+        config.lend().durable(),
+        path,
+        table,
+        family,
+        *address,
+        prefix_length,
+    )
 }
 
 /// The MD5 checksum of the main rules.
@@ -155,7 +165,7 @@ pub extern "C" fn wirdalf_sum(config: &mut Configuration, sum: &mut [u8; 16])
     ensures sum { IfSome config.old.held (λ d. sum.new ≡ main_sum d) }
     ensures same { config.new ≡ config.old }
 {
-    *sum = config.lend().sum();
+    *sum = config.lend().durable().sum();
 }
 
 /// The tick.
@@ -165,7 +175,7 @@ pub extern "C" fn wirdalf_tick(config: &mut Configuration) -> u64
     ensures value { IfSome config.old.held (λ d. result ≡ d.tick) }
     ensures same { config.new ≡ config.old }
 {
-    config.lend().tick()
+    config.lend().durable().tick()
 }
 
 /// How much is held.
@@ -175,5 +185,5 @@ pub extern "C" fn wirdalf_counts(config: &mut Configuration, counts: &mut Counts
     ensures counts { IfSome config.old.held (λ d. AreCounts d counts.new) }
     ensures same { config.new ≡ config.old }
 {
-    count(config.lend(), counts);
+    count(config.lend().durable(), counts);
 }

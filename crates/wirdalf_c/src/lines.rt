@@ -4,6 +4,7 @@ ghost use Rattle.pf_core.specs.declared.reply.Refusal.TheVariants as refusals;
 ghost use Rattle.wirdalf_c.specs.declared.lines.LineRefusal.TheVariants.{Refused, Memory};
 ghost use Rattle.wirdalf_c.specs.Lines.{AreMade, Comes, Runs, done_by, first, lines_of, makes};
 
+use crate::holding::Holding;
 use pf_core::{Command, Core, Durable, ReadyStep, Refusal, TableEdit, Transaction};
 use pf_line::parse_line;
 use std::alloc::{AllocError, Global};
@@ -31,7 +32,7 @@ pub struct LineFault {
 
 /// What is kept after these lines, each done in turn as `pfd` does it, from nothing on. The commands of which configurations are made are
 /// `begin`, `add`, `define`, `extend`, `commit` and `tset`; another is `Unfit`.
-pub fn read_lines(alloc: Global, text: &[u8]) -> Result<Box<Durable>, LineFault>
+pub fn read_lines(alloc: Global, text: &[u8]) -> Result<Box<Holding>, LineFault>
     ensures made { IfOk result (λ held. AreMade text.now (Ok held.value)) }
     ensures refused { IfErr result (λ fault. AreMade text.now (Err fault)) }
 {
@@ -46,11 +47,11 @@ pub fn read_lines(alloc: Global, text: &[u8]) -> Result<Box<Durable>, LineFault>
 }
 
 // The same once more, in a box of its own: the rulesets and tables are shared.
-fn boxed(alloc: Global, durable: &Durable) -> Result<Box<Durable>, AllocError>
+fn boxed(alloc: Global, durable: &Durable) -> Result<Box<Holding>, AllocError>
     ensures { IfOk result (λ held. held.value ≡ durable.now) }
 {
     let again = durable.in_epoch(durable.epoch())?;
-    match Box::new(alloc, again) {
+    match Box::new(alloc, Holding::of(again)) {
         Ok(held) => Ok(held),
         Err(_) => Err(AllocError),
     }

@@ -7,27 +7,27 @@ ghost use Rattle.wirdalf_c.specs.Verdicts.{IsTold};
 use crate::record::{BLOCK, BY_DEFAULT, BY_NOTHING, BY_RULE, BY_STATE, PASS, VerdictRecord};
 use pf_addr::path::Path;
 use pf_anchor::RuleVerdict;
-use pf_core::Verdict;
 use pf_rule::Action;
 use pf_state::StateName;
 
-/// Writes a verdict, or that there is none, since no packet was said.
-pub fn tell(verdict: Option<Verdict>, to: &mut VerdictRecord)
-    ensures { IsTold to.new verdict }
+/// Writes that there is no verdict, since no packet was said.
+pub fn tell_nothing(to: &mut VerdictRecord)
+    ensures { IsTold to.new None }
+{
+    tell_short(BY_NOTHING, BLOCK, to);
+}
+
+/// Writes what the rules say.
+pub fn tell_rules(verdict: RuleVerdict, to: &mut VerdictRecord)
+    ensures { IsTold to.new (Some (Rules verdict)) }
 {
     match verdict {
-        None => tell_short(BY_NOTHING, BLOCK, to),
-        Some(Verdict::State(name)) => tell_state(name, to),
-        Some(Verdict::Rules(RuleVerdict::Default)) => tell_short(BY_DEFAULT, PASS, to),
-        Some(
-            Verdict::Rules(
-                RuleVerdict::Rule {
-                    path,
-                    number,
-                    action,
-                },
-            ),
-        ) => tell_rule(&path, number, action, to),
+        RuleVerdict::Default => tell_short(BY_DEFAULT, PASS, to),
+        RuleVerdict::Rule {
+            path,
+            number,
+            action,
+        } => tell_rule(&path, number, action, to),
     }
 }
 
@@ -46,7 +46,8 @@ fn tell_short(by: u8, action: u8, to: &mut VerdictRecord)
     to.path[0] = 0;
 }
 
-fn tell_state(name: StateName, to: &mut VerdictRecord)
+/// Writes that a state passes the packet.
+pub fn tell_state(name: StateName, to: &mut VerdictRecord)
     ensures { IsTold to.new (Some (Stateful name)) }
 {
     tell_short(BY_STATE, PASS, to);
@@ -78,6 +79,11 @@ fn tell_path(path: &Path, to: &mut [u8; 256]) -> u8
     ensures whole { result ≡ length path.now }
 {
     let bytes = path.as_bytes();
+    // (most paths are the main ruleset's, and a copy of no bytes is a call too)
+    if bytes.is_empty() {
+        to[0] = 0;
+        return 0;
+    }
     to[..bytes.len()].copy_from_slice(bytes);
     to[bytes.len()] = 0;
     bytes.len() as u8

@@ -1,5 +1,5 @@
 //! Replies with their receipts, and what a Book says of receipts.
-ghost use Rattle.std.specs.Prelude.{◌≡◌, ◌<◌, ◌≤◌, ◌↔◌, ◌^◌, [], length, map, take, drop, vec_capacity, IsTrue, nat_lt};
+ghost use Rattle.std.specs.Prelude.{All, ◌≡◌, ◌<◌, ◌≤◌, ◌↔◌, ◌^◌, [], length, map, take, drop, vec_capacity, IsTrue, nat_lt};
 ghost use Rattle.pf_disk.specs.Disk.{EachMoment};
 ghost use Rattle.std.specs.{Arc.arc_value, List.AllByRecursion, Option.{ForSome, option_copied, option_map}, Vec.Iter.into_iter_items};
 ghost use mathlib.Core.List.{IsPrefix};
@@ -96,8 +96,11 @@ impl<D: Disk + Drop, J: Chapter, S: Publisher<J> + Drop> Book<D, J, S> {
         self.answer_each(commands)
     }
 
-    // The same, with no receipt handed in. The room for the answers is made before any change is.
-    fn answer_each(&mut self, commands: &[Command]) -> Result<Vec<(Reply, Receipt<J>)>, Refusal>
+    /// The same, with no receipt handed in. The room for the answers is made before any change is.
+    pub(crate) fn answer_each(
+        &mut self,
+        commands: &[Command],
+    ) -> Result<Vec<(Reply, Receipt<J>)>, Refusal>
         ensures leads { (h : CurrentOpening) → IsAt h (world_book self.old) → LeadsGroup h (world_book self.new) commands.now (replies_of (told result))
             (upshot self.new.shown (nat_lt (D.fault_count self.old.disk) (D.fault_count self.new.disk))) }
         ensures any_moment { (h : CurrentOpening) → IsAt h (world_book self.old)
@@ -117,13 +120,23 @@ impl<D: Disk + Drop, J: Chapter, S: Publisher<J> + Drop> Book<D, J, S> {
         }
     }
 
-    // What the receipt that was handed in, if any, says of the history.
-    fn look_at(&mut self, last: Option<&Receipt<J>>)
+    /// What the receipt that was handed in, if any, says of the history.
+    pub(crate) fn look_at(&mut self, last: Option<&Receipt<J>>)
         ensures same { self.new ≡ self.old }
         ensures last { TakesUp (option_copied last.entry) (world_book self.old) }
     {
         if let Some(last) = last {
             self.begins_with(last);
+        }
+    }
+
+    /// The same of several receipts.
+    pub(crate) fn look_at_each(&mut self, lasts: &[Option<Receipt<J>>])
+        ensures same { self.new ≡ self.old }
+        ensures each { All (λ l. TakesUp l (world_book self.old)) lasts.now }
+    {
+        for last in lasts {
+            self.look_at(last.as_ref());
         }
     }
 

@@ -61,7 +61,8 @@ pub record Keeps (slip : PlainReceipt) (old new : Sitting) : Type 0 where
   pub still : IsPrefix old.seer.learnt new.seer.learnt
 
 -- The Book ran a group that had the command behind these earlier ones, and this is what it was answered at its place. The receipt of the
--- session's last call is that of the place before, or the one that was handed in. So lines at one group's places get its replies in order.
+-- session's last call is the one that was handed in, where the other commands are of other callers; or that of the place before, or the one
+-- that was handed in if there is none. So lines of one session at one group's places get its replies in order.
 pub record IsAnsweredInGroup (base : PlainDurable) (setting : Setting) (c : Command) (r : Reply) (slip : PlainReceipt) (last : Option PlainReceipt) : Type 0 where
   pub earlier : List Command
   pub later : List Command
@@ -71,7 +72,7 @@ pub record IsAnsweredInGroup (base : PlainDurable) (setting : Setting) (c : Comm
   pub handed : Option PlainReceipt
   pub group : IsGroupAnswered base setting (earlier ++ c ∷ later) (Ok (told ++ (r, slip) ∷ others)) handed
   pub place : length told ≡ length earlier
-  pub last_is : last ≡ last_receipt handed (Ok told)
+  pub last_is : (last ≡ handed) ⊎ (last ≡ last_receipt handed (Ok told))
 
 -- The Book answered the command, alone or at its place in a group.
 abbrev pub IsAnsweredInTurn : PlainDurable → Setting → Command → Reply → PlainReceipt → Option PlainReceipt → Type 0

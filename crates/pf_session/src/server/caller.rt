@@ -1,9 +1,9 @@
 //! What sessions and streams call: a Book that others use too.
-ghost use Rattle.std.specs.Option.{option_copied};
-ghost use Rattle.pf_book.specs.{Groups.{IsGroupAnswered, told}, Receipts.IsAnswered};
+ghost use Rattle.std.specs.{Option.option_copied, Prelude.{◌≡◌, MatchOption, None, Ok, Err}};
+ghost use Rattle.pf_book.specs.{Groups.{IsGroupAnswered, told}, Receipts.IsAnswered, Together.IsAnsweredTogether};
 
 use pf_book::shared::Shared;
-use pf_book::{Chapter, Disk, Publisher, Receipt};
+use pf_book::{Chapter, Disk, Numbering, Publisher, Receipt};
 use pf_core::{Command, Refusal, Reply};
 use std::sync::Wait;
 
@@ -13,6 +13,16 @@ pub(crate) trait CallBook<J: Chapter> {
     /// Runs a command, as [`Shared::run`] does.
     fn call(&self, command: Command, last: Option<&Receipt<J>>) -> (Reply, Receipt<J>)
         ensures { IsAnswered J.base J.setting command result.0 result.1 (option_copied last.entry) };
+
+    /// Runs a command, alone or in one group with those of other callers, as [`Shared::run_together`] does. The receipt that is handed in is
+    /// taken out. `None`: the device failed in a group, and the receipt is back.
+    fn call_together(
+        &self,
+        command: Command,
+        last: &mut Option<Receipt<J>>,
+    ) -> Option<(Reply, Receipt<J>)>
+        ensures { MatchOption result (IsAnsweredTogether J.base J.setting (record { command = command; last = last.old }) (Err last.new))
+            (λ a. (last.new ≡ None) × IsAnsweredTogether J.base J.setting (record { command = command; last = last.old }) (Ok a)) };
 
     /// Runs commands as a group, as [`Shared::group`] does.
     fn call_group(
@@ -25,22 +35,48 @@ pub(crate) trait CallBook<J: Chapter> {
 
 /// A caller of a Book under a lock, which waits for it by a handle.
 #[derive(Drop)]
-pub(crate) struct Caller<'a, W: Wait, D: Disk + Drop, J: Chapter, S: Publisher<J> + Drop> {
+pub(crate) struct Caller<
+    'a,
+    W: Wait,
+    D: Disk + Drop,
+    J: Chapter + Numbering,
+    S: Publisher<J> + Drop,
+> {
     rt: &'a W,
     shared: &'a Shared<D, J, S>,
 }
 
-impl<'a, W: Wait, D: Disk + Drop, J: Chapter, S: Publisher<J> + Drop> Caller<'a, W, D, J, S> {
+impl<'a, W: Wait, D: Disk + Drop, J: Chapter + Numbering, S: Publisher<J> + Drop> Caller<
+    'a,
+    W,
+    D,
+    J,
+    S,
+> {
     /// One that calls this Book.
     pub(crate) fn new(rt: &'a W, shared: &'a Shared<D, J, S>) -> Caller<'a, W, D, J, S> {
         Caller { rt, shared }
     }
 }
 
-impl<'a, W: Wait, D: Disk + Drop, J: Chapter, S: Publisher<J> + Drop> CallBook<J>
+impl<'a, W: Wait, D: Disk + Drop, J: Chapter + Numbering, S: Publisher<J> + Drop> CallBook<J>
     for Caller<'a, W, D, J, S> {
     fn call(&self, command: Command, last: Option<&Receipt<J>>) -> (Reply, Receipt<J>) {
         self.shared.run(self.rt, command, last)
+    }
+
+    fn call_together(
+        &self,
+        command: Command,
+        last: &mut Option<Receipt<J>>,
+    ) -> Option<(Reply, Receipt<J>)> {
+        match self.shared.run_together(self.rt, command, last.take()) {
+            Ok(answer) => Some(answer),
+            Err(back) => {
+                *last = back;
+                None
+            }
+        }
     }
 
     fn call_group(

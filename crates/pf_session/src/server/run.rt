@@ -4,7 +4,7 @@ ghost use Rattle.pf_addr.specs.Writing.{Writes};
 ghost use Rattle.pf_core.specs.declared.{command.Command.Command, reply.Refusal.TheVariants.Fault};
 ghost use Rattle.pf_line.specs.{Lines.{Parses, Refused as IsRefusal, line_at}, Reply.Replies.reply_text};
 ghost use Rattle.pf_book.specs.Groups.{IsGroupAnswered};
-ghost use Rattle.pf_session.specs.{LineEngine.{Chains.Chain, Lines.seen, Pieces.{Answers, TakesSome}}, Server.{Sittings.{Keeps, packet_in}, SessionRuns.{AreMeant, HavePassed, IsMeant, IsSame, TakesInSession, sitting}}};
+ghost use Rattle.pf_session.specs.{LineEngine.{Chains.Chain, Lines.seen, Pieces.{Answers, TakesSome}}, Server.{Sittings.{Keeps, RunsBy, packet_in}, SessionRuns.{AreMeant, HavePassed, IsMeant, IsSame, TakesInSession, sitting}}};
 
 use crate::line_engine::AnswerLine;
 use crate::server::caller::CallBook;
@@ -116,6 +116,19 @@ impl<'a, C: CallBook<J>, J: Chapter, G: Gate> Session<'a, C, J, G> {
         }
     }
 
+    // Runs a command by the Book, alone or with those of other callers, and writes the reply. If the device failed in their group the
+    // session keeps its receipt.
+    fn run_together<O: Write>(&mut self, command: Command, writer: &mut O) -> io::Result<()>
+        ensures same { IsSame self.old self.new }
+        ensures run { (text : List ℕ) × RunsBy None J.base J.setting command (sitting self.old) (sitting self.new) text ×
+            Writes result (O.contents writer.old) (O.contents writer.new) text }
+    {
+        match self.book.call_together(command, self.last) {
+            Some(answer) => self.tell_one(answer, writer),
+            None => refuse(writer, Refusal::Fault),
+        }
+    }
+
     // Runs commands one after the other, and writes the reply to each.
     fn run_each<O: Write>(&mut self, commands: Vec<Command>, writer: &mut O) -> io::Result<()>
         requires { HavePassed (G.passed self.old.gate.now self.old.number) self.old.line (length commands.items) }
@@ -124,7 +137,7 @@ impl<'a, C: CallBook<J>, J: Chapter, G: Gate> Session<'a, C, J, G> {
     {
         for command in commands {
             self.line = self.line.saturating_add(1);
-            self.run_and_tell(command, writer)?;
+            self.run_together(command, writer)?;
         }
         Ok(())
     }

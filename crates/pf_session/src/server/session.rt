@@ -11,7 +11,7 @@ use crate::server::gate::Gate;
 use crate::telling::{RunCommands, answer, tell};
 use pf_addr::write_text;
 use pf_book::shared::Shared;
-use pf_book::{Chapter, Disk, Gone, Publisher, Receipt, Seer, learn_from};
+use pf_book::{Chapter, Disk, Gone, Numbering, Publisher, Receipt, Seer, learn_from};
 use pf_core::{Command, Question, Refusal, Reply};
 use pf_line::{may_judge, parse_line, write_judged};
 use pf_rule::Packet;
@@ -118,11 +118,7 @@ impl<'a, C: CallBook<J>, J: Chapter, G: Gate> Session<'a, C, J, G> {
     }
 
     // Runs a command by the Book, and writes the reply.
-    pub(super) fn run_and_tell<O: Write>(
-        &mut self,
-        command: Command,
-        writer: &mut O,
-    ) -> io::Result<()>
+    fn run_and_tell<O: Write>(&mut self, command: Command, writer: &mut O) -> io::Result<()>
         ensures same { IsSame self.old self.new }
         ensures run { (text : List ℕ) × IsCommandRun J.base J.setting command (sitting self.old) (sitting self.new) text ×
             Writes result (O.contents writer.old) (O.contents writer.new) text }
@@ -228,7 +224,7 @@ fn run_session<C: CallBook<J>, J: Chapter, G: Gate, R: Read, O: Write>(
 pub fn serve<
     W: Wait,
     D: Disk + Drop,
-    J: Chapter,
+    J: Chapter + Numbering,
     S: Publisher<J> + Drop,
     G: Gate,
     R: Read,
@@ -260,7 +256,7 @@ pub fn serve<
 pub fn serve_from<
     W: Wait,
     D: Disk + Drop,
-    J: Chapter,
+    J: Chapter + Numbering,
     S: Publisher<J> + Drop,
     G: Gate,
     R: Read,

@@ -12,7 +12,7 @@ use crate::line_engine::EngineFault;
 use crate::server::caller::{CallBook, Caller};
 use crate::telling::refuse;
 use pf_book::shared::Shared;
-use pf_book::{Chapter, Disk, Publisher, Receipt};
+use pf_book::{Chapter, Disk, Numbering, Publisher, Receipt};
 use pf_core::{Command, GROUP_LIMIT, Refusal, Reply, StateCommand};
 use pf_line::write_reply;
 use pf_state::peer::{Fed, Message, PeerFault, PeerReader};
@@ -208,7 +208,14 @@ fn tell_end<O: Write>(peer: &mut PeerReader, writer: &mut O) -> Result<(), Engin
 /// some front of the replies to the last group may be out, and no later message was run. `Err(Memory)`: out of memory, either for the
 /// buffer, and nothing was read, or for a piece of the stream, of 131,072 bytes at most; the messages that were whole before the piece
 /// are answered, and those that it completed weren't run.
-pub fn serve_peer<W: Wait, D: Disk + Drop, J: Chapter, S: Publisher<J> + Drop, R: Read, O: Write>(
+pub fn serve_peer<
+    W: Wait,
+    D: Disk + Drop,
+    J: Chapter + Numbering,
+    S: Publisher<J> + Drop,
+    R: Read,
+    O: Write,
+>(
     rt: &W,
     alloc: Global,
     reader: &mut R,
@@ -230,7 +237,7 @@ pub fn serve_peer<W: Wait, D: Disk + Drop, J: Chapter, S: Publisher<J> + Drop, R
 pub fn serve_peer_from<
     W: Wait,
     D: Disk + Drop,
-    J: Chapter,
+    J: Chapter + Numbering,
     S: Publisher<J> + Drop,
     R: Read,
     O: Write,

@@ -1,13 +1,11 @@
 // Lines, peers' streams and images at random.
 
 use super::{Bench, Opened};
-use crate::books::line_reply;
+use crate::books::{Hold, ask, asked_by, told_to};
 use crate::chance::{Chance, Tally};
 use crate::rows::{bytes_of, cut_word, number};
-use crate::streams::{behind, cut_text, front_of, pieces_of, stream_at_random, stream_over};
-use pf_book::{Book, Chapter, MemDisk, Opening};
+use crate::streams::{asked_by_stream, behind, cut_text, front_of, pieces_of, stream_at_random};
 use std::alloc::{AllocError, Global};
-use std::marker::Brand;
 use std::sync::Wait;
 
 /// The first ticket of a device's first opening.
@@ -49,10 +47,10 @@ impl<H: Wait + Drop + Copy> Bench<H> {
     }
 
     /// Plays lines at random: how often each kind of reply came, and after how many refused lines something else was kept than before.
-    pub(super) fn tell_lines<J: Chapter>(
+    pub(super) fn tell_lines<B: Hold>(
         &mut self,
         told: &mut String,
-        book: &mut Book<MemDisk, J, H>,
+        book: &mut B,
         how: &str,
     ) -> Result<(), AllocError> {
         let (seed, times) = cut_word(how);
@@ -62,7 +60,7 @@ impl<H: Wait + Drop + Copy> Bench<H> {
         let mut others = 0u64;
         for _ in 0..number(times) {
             let line = self.words.line(&mut chance, "LINE")?;
-            let reply = line_reply(self.alloc, book, &line)?;
+            let reply = told_to(self.alloc, book, asked_by(self.alloc, &line)?)?;
             let now = self.kept_by(book)?;
             if is_refusal(reply.as_str()) && now != kept {
                 others = others.saturating_add(1);
@@ -108,8 +106,9 @@ impl<H: Wait + Drop + Copy> Bench<H> {
 
     /// What a stream in these pieces comes to over the device with its bytes.
     fn stream_text(&self, pieces: &[&[u8]]) -> Result<String, AllocError> {
-        match Opening::open(self.alloc, self.device()?) {
-            Ok(opening) => stream_over::<_, Brand, _>(self.waits, self.alloc, opening, pieces),
+        let (head, asked) = asked_by_stream(self.alloc, pieces)?;
+        match ask(self.waits, self.alloc, self.device()?, asked)? {
+            Ok(told) => format!(in self.alloc; "{head}{}", told.text),
             Err((fault, _disk)) => format!(in self.alloc; "{fault:?}"),
         }
     }

@@ -1,7 +1,6 @@
 // Devices that tear a call, and openings that are stopped and begun again.
 
-use super::{Bench, CALLS, Opened};
-use crate::rows::lines_of;
+use super::{Bench, CALLS, Opened, fill};
 use pf_book::{FuseDisk, MemDisk, OpenFault};
 use pf_disk::Fill;
 use std::alloc::AllocError;
@@ -9,17 +8,6 @@ use std::sync::Wait;
 
 /// How many fills are known without any bytes.
 const PLAIN_FILLS: u32 = 5;
-
-/// One of these fills.
-fn plain_fill(number: u32) -> Fill<'static> {
-    match number {
-        0 => Fill::Old,
-        1 => Fill::New,
-        2 => Fill::Zeros,
-        3 => Fill::Open,
-        _ => Fill::Inverted,
-    }
-}
 
 /// What openings came to beside an earlier one.
 #[derive(Drop)]
@@ -70,7 +58,7 @@ impl<H: Wait + Drop + Copy> Bench<H> {
     /// Plays an opening and the same line twice on devices that tear each call in turn: the replies and how many calls passed, and by
     /// each fill after how many saves was kept what is opened then.
     pub(super) fn tell_torn(&self, told: &mut String, line: &str) -> Result<(), AllocError> {
-        let lines = lines_of(self.alloc, &format!(in self.alloc; "{line} | {line}")?)?;
+        let lines = format!(in self.alloc; "{line} | {line}")?;
         for calls in 0..CALLS {
             write!(told, "\n  behind {calls} calls:")?;
             self.tell_torn_call(told, calls, &lines)?;
@@ -79,15 +67,10 @@ impl<H: Wait + Drop + Copy> Bench<H> {
     }
 
     // The replies are told behind the first of the fills that they stand for.
-    fn tell_torn_call(
-        &self,
-        told: &mut String,
-        calls: u64,
-        lines: &[String],
-    ) -> Result<(), AllocError> {
+    fn tell_torn_call(&self, told: &mut String, calls: u64, lines: &str) -> Result<(), AllocError> {
         let mut last = String::new(self.alloc);
         for number in 0..PLAIN_FILLS {
-            let disk = FuseDisk::torn(self.alloc, self.device()?, calls, plain_fill(number));
+            let disk = FuseDisk::torn(self.alloc, self.device()?, calls, fill(number, &[]));
             let (replies, disk) = self.played(disk, lines)?;
             let text = format!(in self.alloc; "{replies}, {} passed; then", disk.passed())?;
             if text != last {

@@ -13,7 +13,7 @@ use crate::program::ended::told;
 use pf_addr::write_more;
 use pf_book::book::Book;
 use pf_book::shared::Shared;
-use pf_book::{Chapter, Disk, Opening, Publisher, Seer};
+use pf_book::{Chapter, Disk, NewCalls, Numbering, Opening, Publisher, Seer};
 use pf_session::{EngineFault, OpenGate};
 use pf_view::{ViewFault, views};
 use pfd_files::{Fault, open_file};
@@ -51,7 +51,10 @@ pub(crate) fn serve_file<
     let disk = open_file(alloc, files, service.path, Some(service.size))?;
     match Opening::open(alloc, disk) {
         Ok(opening) => {
-            serve_opening::<Brand, _, _, _, _>(machine, alloc, opening, service, writer, faults)
+            let calls = NewCalls::open();
+            serve_opening::<Brand, _, _, _, _>(
+                machine, alloc, opening, calls, service, writer, faults,
+            )
         }
         Err((fault, _disk)) => Err(Fault::from(fault)),
     }
@@ -59,7 +62,7 @@ pub(crate) fn serve_file<
 
 // The same over what was opened.
 fn serve_opening<
-    J: Chapter + Send + Sync,
+    J: Chapter + Numbering + Send + Sync,
     D: Disk + Drop + Send,
     N: Wait + Threads + Net<Listener = TcpListener, Stream = TcpStream> + Sync,
     W: Write,
@@ -68,12 +71,14 @@ fn serve_opening<
     machine: &N,
     alloc: Global,
     opening: Opening<D>,
+    calls: NewCalls,
     service: &Service<'_>,
     writer: &mut W,
     faults: &mut F,
 ) -> Result<(), Fault>
     requires service { CanServe service.now }
     requires name { IsNamed J.base J.history J.setting opening service.now.history }
+    requires calls { calls ≡ J.register }
     ensures { (bound : List ℕ) × Writes result (W.contents writer.old) (W.contents writer.new) (listening_text bound) }
 {
     let mut gauge = Gauge::new(service.size as u64 / 2);
@@ -86,7 +91,7 @@ fn serve_opening<
         Ok(made) => made,
         Err(fault) => return Err(fault),
     };
-    let shared = Shared::new(book);
+    let shared = Shared::new(book, calls);
     let listener = listen(machine, alloc, service.address, writer)?;
     let served = serve_and_say(
         machine,
@@ -152,7 +157,7 @@ fn unshown(fault: ViewFault) -> Fault {
 fn serve_and_say<
     M: Wait + Threads + Sync,
     D: Disk + Drop + Send,
-    J: Chapter + Send + Sync,
+    J: Chapter + Numbering + Send + Sync,
     S: Publisher<J> + Drop + Send,
     F: Write + Send,
 >(

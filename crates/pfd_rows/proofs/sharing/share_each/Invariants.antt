@@ -7,3 +7,6 @@ ghosts-share-J-Naming g a = record { base = a.opening.given; history = a.opening
 
 abbrev pub ghosts-share-J-Chapter : goal.ghosts-share-J-Chapter
 ghosts-share-J-Chapter g a = record { setting = setting_of a.opening a.history }
+
+abbrev pub ghosts-share-J-Numbering : goal.ghosts-share-J-Numbering
+ghosts-share-J-Numbering g a = record { register = a.calls }

@@ -1,6 +1,6 @@
 use Rattle.std.proofs.Common.{ℕ, take, arith, length-take, rules}
 use Rattle.std.specs.Io.KnownBytes.{Consumes, IsAtEnd}
-use Rattle.pf_session.proofs.{Streaming.{nothing-yet, flushed-so_far, interrupted-so_far, flush-ends, read-ends, on-so_far, over-ends, err-ends, end-ends}, server.stream.follow.Goals.{in-Ok+else-n-eq0+in-Ok-On, in-Err+else-ne}}
+use Rattle.pf_session.proofs.{Streaming.{nothing-yet, flushed-so_far, interrupted-so_far, flush-ends, on-so_far, over-ends, err-ends, end-ends}, server.stream.follow.Goals.{in-Ok+else-n-eq0+in-Ok-On, in-Err+else-ne}}
 use Rattle.pf_session.proofs.server.stream.follow.Goals as goal
 
 pub loop-init : goal.loop-init

@@ -7,3 +7,6 @@ ghosts-serve_opening-J-Naming g a = record { base = a.opening.given; history = a
 
 abbrev pub ghosts-serve_opening-J-Chapter : goal.ghosts-serve_opening-J-Chapter
 ghosts-serve_opening-J-Chapter g a = record { setting = setting_of a.opening a.service.now.history }
+
+abbrev pub ghosts-serve_opening-J-Numbering : goal.ghosts-serve_opening-J-Numbering
+ghosts-serve_opening-J-Numbering g a = record { register = a.calls }

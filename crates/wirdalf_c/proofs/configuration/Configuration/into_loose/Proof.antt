@@ -22,7 +22,7 @@ use Rattle.std.proofs.raw_atomic.Walks.{proved_at, leaves}
 use Rattle.std.specs.contracts.alloc.Global as global
 use Rattle.std.specs.contracts.impls.GlobalAllocator.TheImpl.{ghosts}
 use Rattle.std.proofs.alloc.Global.TheLaws.{the_row_laws as global_laws}
-use Rattle.pf_core.specs.contracts.durable.durable.Durable as durable
+use Rattle.wirdalf_c.specs.contracts.holding.Holding as holding
 use Rattle.wirdalf_c.specs.contracts.configuration.Configuration as configuration
 use Rattle.wirdalf_c.proofs.Values.{both, loose_good, loose_in}
 use Rattle.wirdalf_c.proofs.Configurations.{word, some_of, held_out}
@@ -33,7 +33,7 @@ use Rattle.wirdalf_c.proofs.configuration.Configuration.into_loose.Code as code
 
 pub into_loose_spec : {M : Type 1} → statement M
 into_loose_spec 𝓤 𝓛 𝓜 𝓡 wired =
-    let H = 𝓛.H in let 𝓣 = tables 𝓤 H 𝓜 𝓡 𝓡.env in let c = clauses 𝓛 𝓜.mem 𝓡.returns in let R = durable.the_row in let Z = global.the_row in
+    let H = 𝓛.H in let 𝓣 = tables 𝓤 H 𝓜 𝓡 𝓡.env in let c = clauses 𝓛 𝓜.mem 𝓡.returns in let R = holding.the_row in let Z = global.the_row in
     let fn = code.function in let Ha : RattleType = configuration.the_row in
     let al : Al = record { row = Z; laws = global_laws; g = ghosts; d = impl [] tnil dnil; drops = impl [] tnil dnil } in
     let hs : Stays ended.signature.params ended.kept = (stay_dropped (plain (λ _. Ha)) yes, (stay_dropped (plain (λ _. Z)) yes, tt)) in

@@ -30,7 +30,7 @@ use Rattle.std.specs.contracts.impls.GlobalAllocator.TheImpl.{ghosts}
 use Rattle.wirdalf_c.specs.Held.{heap}
 use Rattle.wirdalf_c.specs.Lending.{with_held}
 use Rattle.pf_core.specs.Durable.Changes.{PlainDurable}
-use Rattle.pf_core.specs.contracts.durable.durable.Durable as durable
+use Rattle.wirdalf_c.specs.contracts.holding.Holding as holding
 use Rattle.wirdalf_c.specs.declared.configuration.Configuration.{Configuration}
 use Rattle.wirdalf_c.specs.contracts.configuration.Configuration as configuration
 use Rattle.wirdalf_c.proofs.Configurations.{word, some_of, held_out, held_in}
@@ -45,19 +45,19 @@ stayed = (stay_dropped (mut_ref_to (0 ∷ []) tt (plain (λ _. configuration.the
 module _ {M : Type 1} {𝓤 : Ura M} (𝓛 : Logic 𝓤) (h : Configuration) (b o rb ro : ℕ) where
   -- all of the configuration but what it holds
   abbrev Rest : Fml
-  Rest = fsep (ghosts.dealloc_token heap (bare (denote.Memory.lone (durable.the_row).mir)) (block_ptr b o)) (cell_at full_share (configuration.the_row).mir (word b o ∷ []) rb ro)
+  Rest = fsep (ghosts.dealloc_token heap (bare (denote.Memory.lone (holding.the_row).mir)) (block_ptr b o)) (cell_at full_share (configuration.the_row).mir (word b o ∷ []) rb ro)
 
-  back : h.at ≡ block_ptr b o → (w : PlainDurable) → ent 𝓤 (sep 𝓤 (sem 𝓛 ((mem durable.the_row).own_at w b o)) (sem 𝓛 Rest)) (sem 𝓛 ((mem configuration.the_row).own_at (with_held h w) rb ro))
+  back : h.at ≡ block_ptr b o → (w : PlainDurable) → ent 𝓤 (sep 𝓤 (sem 𝓛 ((mem holding.the_row).own_at w b o)) (sem 𝓛 Rest)) (sem 𝓛 ((mem configuration.the_row).own_at (with_held h w) rb ro))
   unfolding part_of
   back at_b w =
-      qed 𝓛 (‵ (part_at durable.the_row full_share w b o) ∷ ‵ Rest ∷ []) ∵ move ! (1 ∷ []) $ fsplit ! $ move ! (2 ∷ 0 ∷ []) $ fjoin ! $
-      use1 𝓛 (‵ (box_owns (ghosts.dealloc_token heap) durable.the_row (block_ptr b o) w)) (id⊢ 𝓤 _) $
+      qed 𝓛 (‵ (part_at holding.the_row full_share w b o) ∷ ‵ Rest ∷ []) ∵ move ! (1 ∷ []) $ fsplit ! $ move ! (2 ∷ 0 ∷ []) $ fjoin ! $
+      use1 𝓛 (‵ (box_owns (ghosts.dealloc_token heap) holding.the_row (block_ptr b o) w)) (id⊢ 𝓤 _) $
       held_in ! (with_held h w) w b o at_b refl $ move ! (1 ∷ 0 ∷ []) $ fjoin ! $
       fpack ! (List Val) (λ us. fsep (cell_at full_share (configuration.the_row).mir us rb ro) ((configuration.the_row).own_val (with_held h w) us)) (word b o ∷ []) $ done !
 
 pub lend_spec : {M : Type 1} → statement M
 lend_spec 𝓤 𝓛 𝓜 𝓡 wired =
-    let H = 𝓛.H in let 𝓣 = tables 𝓤 H 𝓜 𝓡 𝓡.env in let c = clauses 𝓛 𝓜.mem 𝓡.returns in let R = durable.the_row in let Ha : RattleType = configuration.the_row in
+    let H = 𝓛.H in let 𝓣 = tables 𝓤 H 𝓜 𝓡 𝓡.env in let c = clauses 𝓛 𝓜.mem 𝓡.returns in let R = holding.the_row in let Ha : RattleType = configuration.the_row in
     let fn = code.function in
     proved 𝓛 ended stayed c 𝓜 𝓡 (Goes-spent_ref 𝓛 1 (0 ∷ []) tt (plain (λ _. Ha)), tt) #self fn (code.unfolded 𝓤 H 𝓜 𝓡 wired) (λ κs. (mut_vals, tt)) (λ κs. (mut_Tells (named 0) κs.0 Ha, tt)) (λ κs qs bounds a g are.
     let κ = κs.0 in let q = qs.0 in let self = a.0 in let h = self.now in let γ = self.ghost_name in let rb = self.ref_ptr.0 in let ro = self.ref_ptr.1 in let vs = mut_vals self in

@@ -20,7 +20,7 @@ use Rattle.std.proofs.raw_atomic.Walks.{proved_at, leaves}
 use Rattle.std.specs.contracts.alloc.Global as global
 use Rattle.std.specs.contracts.impls.GlobalAllocator.TheImpl.{ghosts}
 use Rattle.std.proofs.alloc.Global.TheLaws.{the_row_laws as global_laws}
-use Rattle.pf_core.specs.contracts.durable.durable.Durable as durable
+use Rattle.wirdalf_c.specs.contracts.holding.Holding as holding
 use Rattle.wirdalf_c.proofs.Values.{both, Loose, loose_good, loose_out}
 use Rattle.wirdalf_c.specs.declared.configuration.Configuration.{Configuration}
 use Rattle.wirdalf_c.proofs.Configurations.{word, held_in}
@@ -31,7 +31,7 @@ use Rattle.wirdalf_c.proofs.configuration.Configuration.of.Code as code
 
 pub of_spec : {M : Type 1} → statement M
 of_spec 𝓤 𝓛 𝓜 𝓡 wired =
-    let H = 𝓛.H in let 𝓣 = tables 𝓤 H 𝓜 𝓡 𝓡.env in let c = clauses 𝓛 𝓜.mem 𝓡.returns in let R = durable.the_row in let Z = global.the_row in
+    let H = 𝓛.H in let 𝓣 = tables 𝓤 H 𝓜 𝓡 𝓡.env in let c = clauses 𝓛 𝓜.mem 𝓡.returns in let R = holding.the_row in let Z = global.the_row in
     let fn = code.function in let Lo : RattleType = Loose R Z global_laws ghosts in
     let hs : Stays ended.signature.params ended.kept = (stay_dropped (plain (λ _. Lo)) yes, tt) in
     proved_at 𝓛 ended hs c 𝓜 𝓡 (Goes-dropped 𝓛 0 (plain (λ _. Lo)) yes (λ κs x f. refl), tt) #self fn (code.unfolded 𝓤 H 𝓜 𝓡 wired) (λ z are.

@@ -1,8 +1,8 @@
-use Rattle.std.proofs.Common.{◌≡◌, ◌∙◌, ℕ, List, ◌∷◌, [], ◌++◌, inl, sym, subst}
+use Rattle.std.proofs.Common.{ℕ, List, inl}
 use Rattle.std.specs.Prelude.{Vec}
 use Rattle.std.specs.declared.alloc.Global.{Global}
 use Rattle.pf_core.specs.declared.command.Command.{Command}
-use Rattle.pf_session.specs.Server.SessionRuns.{AreMeant, IsMeant, TakesInSession}
+use Rattle.pf_session.specs.Server.SessionRuns.{AreMeant, TakesInSession}
 use Rattle.pf_session.proofs.{AnsweredLines.still-waiting, Running.{meant-more, meant-seen}}
 use Rattle.pf_session.proofs.server.session.Session.hold.Goals as goal
 

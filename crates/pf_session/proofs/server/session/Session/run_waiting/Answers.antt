@@ -1,4 +1,3 @@
-use Rattle.std.proofs.Common.{Ok, Err}
 use Rattle.pf_session.proofs.server.session.Session.run_waiting.Goals as goal
 
 pub returns-in-Ok : goal.returns-in-Ok

@@ -1,6 +1,5 @@
-use Rattle.std.proofs.{Common.{◌≡◌, ◌∙◌, ℕ, List, [], ◌∷◌, ◌++◌, length, Ok, sym, ap, subst, append_assoc, arith}, lemmas.Result.err_from_is_err_and}
+use Rattle.std.proofs.{Common.{◌∙◌, List, [], ◌∷◌, ◌++◌, Ok, sym, ap, subst, append_assoc, arith}, lemmas.Result.err_from_is_err_and}
 use Rattle.std.specs.Vec.Iter.{into_iter_items}
-use Rattle.pf_core.specs.declared.command.Command.{Command}
 use Rattle.pf_book.specs.Groups.{Answered as Receipted, IsGroupAnswered}
 use Rattle.pf_session.proofs.Running.{IsTelling, telling-begun, one-told, told-cut, all-told}
 use Rattle.pf_session.proofs.server.session.Session.tell_each.Goals as goal

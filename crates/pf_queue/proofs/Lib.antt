@@ -1,0 +1,2 @@
+pub mod Registering
+pub mod Matching

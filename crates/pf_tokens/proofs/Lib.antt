@@ -1,0 +1,13 @@
+pub mod Pairs
+pub mod Runs
+pub mod Steps
+pub mod Binds
+pub mod Tokens
+pub mod Macros
+pub mod Stopping
+pub mod Lines
+pub mod Shown
+pub mod Continued
+pub mod InOrder
+pub mod MacroFree
+pub mod Plain

@@ -1,0 +1,250 @@
+-- Macros and includes (pf.conf(5), MACROS, and "include" in GRAMMAR): the tokens that are left of a file and of those that it includes.
+use Rattle.std.specs.Prelude.{◌≡◌, ◌==◌, ℕ, zero, suc, ◌+◌, ◌-◌, nat_lt, nat_le, ◌&&◌, ◌||◌, not, Bool, true, false, List, [], ◌∷◌, ◌++◌, map, length, take, codes, Option, Some, None, Result, Ok, Err, if◌then◌else◌}
+use Rattle.std.specs.{List.{list_all, slice_get, flat_map}, Str.bytes_eq, Option.{option_map_or, option_or}}
+use Rattle.pf_form.specs.Form.Forms.{◌>>=◌}
+use Rattle.pf_tokens.specs.declared.{place.Place.Place, place.Placed.Placed, token.Token.Token, flat.Macro.Macro, flat.Flat.Flat, flat.TheConstants.{TOKEN_LIMIT, VALUE_LIMIT}, files.File.File, fault.Stop.Stop, fault.Stop.TheVariants.{Faulty, Needs, Memory}}
+use Rattle.pf_tokens.specs.declared.token.Kind.TheVariants as kinds
+use Rattle.pf_tokens.specs.declared.fault.Mistake.TheVariants as mistakes
+use Rattle.pf_tokens.specs.declared.lexing.Source.TheVariants as sources
+use Rattle.pf_tokens.specs.{Places.{start_of, at, text_of}, Stops.faulty, Words.{same_kind, is_word, is_symbol, is_newline, is_macro, is_keyword_word, is_number, is_string, moved}, Files.text_of_file, Placed.placed, Lexing.{is_letter, lex}}
+
+-- ---- what a macro's use stands for
+
+-- The number of the latest definition of a name, given the number of the first definition here.
+abbrev pub latest_from : ℕ → List ℕ → List Macro → Option ℕ
+latest_from n name [] = None
+latest_from n name (m ∷ ms) = option_or (latest_from (n + 1) name ms) (if bytes_eq name m.name then Some n else None)
+
+abbrev pub latest : List ℕ → List Macro → Option ℕ
+latest name ms = latest_from 0 name ms
+
+abbrev pub value_of : List Macro → ℕ → List Token
+value_of ms n = option_map_or (λ (m : Macro). m.value) (slice_get ms n) []
+
+-- where the tokens of a macro's value stand: where it is used
+abbrev pub used_at : Place → ℕ → Place
+used_at p n = record p { value_of = Some n }
+
+abbrev pub value_at : Token → List Macro → Option ℕ → Result (List Token) Stop
+value_at t ms None = Err (faulty t.place (mistakes.Undefined (text_of t.text)))
+value_at t ms (Some n) = Ok (map (moved (used_at t.place n)) (value_of ms n))
+
+-- what a token stands for: itself, unless it is the use of a macro
+unfoldable pub parts_of : List Macro → Token → Result (List Token) Stop
+parts_of ms t = if is_macro t then value_at t ms (latest (text_of t.text) ms) else Ok (t ∷ [])
+
+-- these tokens, and behind them what a token stands for
+unfoldable pub with_parts : List Macro → Token → List Token → Result (List Token) Stop
+with_parts ms t ts = parts_of ms t >>= λ ps. Ok (ts ++ ps)
+
+unfoldable pub replaced : List Macro → List Token → Result (List Token) Stop
+replaced ms [] = Ok []
+replaced ms (t ∷ ts) = parts_of ms t >>= λ ps. replaced ms ts >>= λ qs. Ok (ps ++ qs)
+
+-- ---- NAME = PARTS
+
+abbrev pub is_definition : List Token → Bool
+is_definition [] = false
+is_definition (t ∷ []) = false
+is_definition (t ∷ u ∷ ts) = same_kind t.kind kinds.Word && is_symbol (codes "=") u
+
+abbrev pub has_letters_alone : List Placed → Bool
+has_letters_alone text = list_all (λ (c : Placed). is_letter c.byte) text
+
+abbrev pub name_checked : Token → Result (Unit {0}) Stop
+name_checked t =
+    if is_keyword_word t then Err (faulty t.place (mistakes.ReservedName (text_of t.text)))
+    else if is_number t || not (has_letters_alone t.text) then Err (faulty t.place mistakes.MacroName)
+    else Ok tt
+
+abbrev pub part_checked : Token → Result (Unit {0}) Stop
+part_checked t =
+    if same_kind t.kind kinds.Symbol then Err (faulty t.place (mistakes.SymbolInValue (text_of t.text)))
+    else if is_keyword_word t then Err (faulty t.place (mistakes.ReservedInValue (text_of t.text)))
+    else Ok tt
+
+abbrev pub parts_checked : List Token → Result (Unit {0}) Stop
+parts_checked [] = Ok tt
+parts_checked (t ∷ ts) = part_checked t >>= λ _. parts_checked ts
+
+-- a part behind others: a space at its place, and its text
+abbrev pub spaced : Token → List Placed
+spaced t = at 32 t.place ∷ t.text
+
+abbrev pub has_bytes : List Placed → Bool
+has_bytes [] = false
+has_bytes (c ∷ cs) = true
+
+-- The texts of the parts with a space between each two. Nothing stands before the first byte of a text.
+abbrev pub value_text : List Token → List Placed
+value_text [] = []
+value_text (t ∷ ts) = if has_bytes t.text then t.text ++ flat_map spaced ts else value_text ts
+
+-- a value with one more part
+abbrev pub with_part : List Placed → Token → List Placed
+with_part value t = if length value == 0 then t.text else value ++ spaced t
+
+unfoldable pub joined : List Token → Result (List Placed) Stop
+joined ts = parts_checked ts >>= λ _. Ok (value_text ts)
+
+abbrev pub short : Place → List Placed → Result (List Placed) Stop
+short first value = if nat_le (length value) VALUE_LIMIT then Ok value else Err (faulty first mistakes.LongValue)
+
+-- the tokens of a value, given its parts, where what stands behind "=" begins, and where the line ends
+abbrev pub tokens_of_value : Place → Place → List Token → Result (List Token) Stop
+tokens_of_value first end_place parts =
+    if length parts == 0 then Err (faulty end_place mistakes.NoValue) else (joined parts >>= short first >>= lex sources.Value 0)
+
+-- where the first of these stands, or else the line's end
+abbrev pub first_place : List Token → Place → Place
+first_place [] end_place = end_place
+first_place (t ∷ ts) end_place = t.place
+
+-- what a macro is defined as, by its name and what stands behind "="
+unfoldable pub defined : List Macro → Token → List Token → Place → Result Macro Stop
+defined ms name behind end_place =
+    name_checked name >>= λ _. replaced ms behind >>= tokens_of_value (first_place behind end_place) end_place
+    >>= λ value. Ok (record { name = text_of name.text; value = value })
+
+-- the same, by the line's tokens
+abbrev pub defined_by : List Macro → List Token → Place → Result Macro Stop
+defined_by ms [] end_place = Err (faulty end_place mistakes.NoValue)
+defined_by ms (name ∷ []) end_place = Err (faulty end_place mistakes.NoValue)
+defined_by ms (name ∷ equals ∷ behind) end_place = defined ms name behind end_place
+
+-- ---- include FILE
+
+abbrev pub is_include : List Token → Bool
+is_include [] = false
+is_include (t ∷ ts) = is_word (codes "include") t
+
+abbrev pub only_string : Place → List Token → Result Token Stop
+only_string p [] = Err (faulty p mistakes.NoFileName)
+only_string p (t ∷ []) = if is_string t then Ok t else Err (faulty p mistakes.NoFileName)
+only_string p (t ∷ u ∷ ts) = Err (faulty p mistakes.NoFileName)
+
+-- the token that names the file of a line that begins with the word "include"
+abbrev pub file_name : List Macro → List Token → Place → Result Token Stop
+file_name ms [] end_place = Err (faulty end_place mistakes.NoFileName)
+file_name ms (word ∷ behind) end_place = replaced ms behind >>= only_string word.place
+
+-- ---- tokens that are left, and the places of the braces that are open, the innermost last
+
+-- the open braces, and the tokens
+abbrev pub Left : Type 0
+Left = List Place × List Token
+
+abbrev pub braces : Token → List Place → List Place
+braces t opened =
+    if is_symbol (codes "{") t then opened ++ (t.place ∷ [])
+    else if is_symbol (codes "}") t then take (length opened - 1) opened
+    else opened
+
+unfoldable pub put : Token → Left → Result Left Stop
+put t x =
+    if nat_lt (length x.1) TOKEN_LIMIT then Ok (braces t x.0, x.1 ++ (t ∷ [])) else Err (faulty t.place mistakes.ManyWords)
+
+unfoldable pub put_each : List Token → Left → Result Left Stop
+put_each [] x = Ok x
+put_each (t ∷ ts) x = put t x >>= put_each ts
+
+-- the tokens of a line, each replaced by what it stands for
+unfoldable pub put_line : List Macro → List Token → Left → Result Left Stop
+put_line ms [] x = Ok x
+put_line ms (t ∷ ts) x = parts_of ms t >>= λ ps. put_each ps x >>= put_line ms ts
+
+abbrev pub last_of : Place → List Place → Place
+last_of p [] = p
+last_of p (q ∷ qs) = last_of q qs
+
+-- ---- files
+
+-- why reading stops, and the macros that were defined before
+abbrev pub Stopped : Type 0
+Stopped = Stop × List Macro
+
+abbrev pub leaving : {A : Type 0} → List Macro → Result A Stop → Result A Stopped
+leaving ms (Ok x) = Ok x
+leaving ms (Err e) = Err (e, ms)
+
+-- What a function leaves is what is wanted, unless memory runs out; and so are the macros where it stops.
+abbrev pub Reaches : {A : Type 0} → Result A Stop → Flat → Result Flat Stopped → Type 0
+Reaches (Ok x) s wanted = wanted ≡ Ok s
+Reaches (Err (Faulty f)) s wanted = wanted ≡ Err (Faulty f, s.macros)
+Reaches (Err (Needs name)) s wanted = wanted ≡ Err (Needs name, s.macros)
+Reaches (Err Memory) s wanted = Unit {0}
+
+-- the open braces of a file, and what reading has come to
+abbrev pub State : Type 0
+State = List Place × Flat
+
+-- the same of a line
+abbrev pub ReachesLine : {A : Type 0} → Result A Stop → State → Result State Stopped → Type 0
+ReachesLine (Ok done) x wanted = wanted ≡ Ok x
+ReachesLine (Err (Faulty f)) x wanted = wanted ≡ Err (Faulty f, x.1.macros)
+ReachesLine (Err (Needs name)) x wanted = wanted ≡ Err (Needs name, x.1.macros)
+ReachesLine (Err Memory) x wanted = Unit {0}
+
+-- What a line does that includes a file, which this token names.
+abbrev pub Including : Type 0
+Including = Token → Flat → Result Flat Stopped
+
+abbrev pub is_closed : List Place → Bool
+is_closed opened = length opened == 0
+
+abbrev pub all_closed : List Place → Result (Unit {0}) Stop
+all_closed [] = Ok tt
+all_closed (p ∷ ps) = Err (faulty (last_of p ps) mistakes.OpenBrace)
+
+abbrev pub closed : List Place → Flat → Result Flat Stopped
+closed opened s = leaving s.macros (all_closed opened) >>= λ _. Ok s
+
+abbrev pub define : Flat → Macro → Flat
+define s m = record s { macros = s.macros ++ (m ∷ []) }
+
+abbrev pub with_left : Flat → Left → State
+with_left s x = (x.0, record s { tokens = x.1 })
+
+-- a line that defines a macro
+abbrev pub defining : Flat → List Token → Place → Result Flat Stopped
+defining s line end_place = leaving s.macros (defined_by s.macros line end_place) >>= λ m. Ok (define s m)
+
+-- a line, by its tokens and its newline: only outside braces are macros defined and files included
+unfoldable pub read_line : Including → List Token → Token → State → Result State Stopped
+read_line include line newline x =
+    if is_closed x.0 && is_definition line then (defining x.1 line newline.place >>= λ t. Ok (x.0, t))
+    else if is_closed x.0 && is_include line
+    then (leaving x.1.macros (file_name x.1.macros line newline.place) >>= λ name. include name x.1 >>= λ t. Ok (x.0, t))
+    else (leaving x.1.macros (put_line x.1.macros line (x.0, x.1.tokens) >>= put newline) >>= λ left. Ok (with_left x.1 left))
+
+-- Lines: the tokens before each newline, with that newline.
+abbrev pub Line : Type 0
+Line = List Token × Token
+
+abbrev pub longer : Token → List Line → List Line
+longer t [] = []
+longer t (l ∷ ls) = (t ∷ l.0, l.1) ∷ ls
+
+unfoldable pub lines : List Token → List Line
+lines [] = []
+lines (t ∷ ts) = if is_newline t then ([], t) ∷ lines ts else longer t (lines ts)
+
+unfoldable pub read_lines : Including → List Line → State → Result Flat Stopped
+read_lines include [] x = closed x.0 x.1
+read_lines include (l ∷ ls) x = read_line include l.0 l.1 x >>= read_lines include ls
+
+-- the file of this number, which has this text
+abbrev pub read_text : Including → ℕ → List ℕ → Flat → Result Flat Stopped
+read_text include number text s =
+    leaving s.macros (lex sources.File 0 (placed (start_of number) text))
+    >>= λ ts. read_lines include (lines ts) ([], record s { files_read = s.files_read + 1 })
+
+-- files that are included at most so deep
+unfoldable pub including : List File → ℕ → Including
+including files zero name s = Err (faulty name.place mistakes.DeepInclude, s.macros)
+including files (suc deep) name s =
+    leaving s.macros (text_of_file files s.files_read name.place (text_of name.text)) >>= λ found. read_text (including files deep) found.0 found.1 s
+
+-- a file, and what it includes, at most so deep
+abbrev pub read_file : List File → ℕ → ℕ → List ℕ → Flat → Result Flat Stopped
+read_file files deep number text s = read_text (including files deep) number text s

@@ -1,0 +1,449 @@
+//! Tokens without macros, definitions of macros and includes.
+ghost use Rattle.std.specs.Prelude.{◌≡◌, ◌≤◌, ◌<◌, ◌+◌, ◌∷◌, ◌++◌, [], drop, length, Some, Err, Ok, IfSome, IsTrue, MatchOption, OnOk};
+ghost use Rattle.pf_tokens.specs.{declared.place.Place.Place, Places.{start_of, text_of}, Stops.{Gives, Leaves}, Words.{is_newline}, Placed.placed, Lexing.lex};
+ghost use Rattle.pf_tokens.specs.Flat.{latest, with_parts, replaced, is_definition, has_letters_alone, name_checked, part_checked, with_part, joined, tokens_of_value, first_place, defined, is_include, only_string, file_name, defining, lines, braces, put, put_each, put_line, all_closed, Reaches, ReachesLine, including, read_line, read_file};
+
+use crate::fault::{Mistake, Stop, refusal};
+use crate::files::{FILE_LIMIT, Files, READING_LIMIT, text_of_file};
+use crate::items::{Bytes, Items, PlacedText};
+use crate::lexing::{Source, is_letter, lex};
+use crate::place::{Place, Placed};
+use crate::placing::placed;
+use crate::texts::same_bytes;
+use crate::token::{Kind, Token};
+use std::alloc::Global;
+
+/// How deep files are included.
+pub const INCLUDE_LIMIT: u32 = 16;
+/// The most bytes of a macro's value.
+pub const VALUE_LIMIT: usize = 4_096;
+/// The most tokens that are left.
+pub const TOKEN_LIMIT: usize = 262_144;
+
+/// A macro's definition.
+#[derive(Debug, Drop)]
+pub struct Macro {
+    pub name: Bytes,
+    /// Its value's tokens.
+    pub value: Items<Token>,
+}
+
+/// The macros that were defined, in order. A name means its latest definition.
+pub type Macros = Items<Macro>;
+
+/// What reading files has come to.
+#[derive(Debug, Drop)]
+pub struct Flat {
+    /// How many files were read.
+    pub files_read: usize,
+    pub macros: Macros,
+    /// The tokens that are left.
+    pub tokens: Items<Token>,
+}
+
+/// The number of a macro's latest definition.
+#[tactic(auto, using(crate::proofs::Steps::drop_item, std::proofs::lemmas::List::drop_all))]
+fn latest(macros: &[Macro], name: &[Placed]) -> Option<usize>
+    ensures latest { result ≡ latest (text_of name.now) macros.now }
+    ensures bound { IfSome result (λ n. n < length macros.now) }
+{
+    let mut found = None;
+    for (number, definition) in macros.iter().enumerate() {
+        if same_bytes(name, definition.name.as_slice()) {
+            found = Some(number);
+        }
+    }
+    found
+}
+
+/// Appends what a token stands for: the value of a macro, at the place of its use; of any other token, itself.
+#[tactic(auto, using(crate::proofs::Steps::map_item), unfolding(crate::specs::Flat::with_parts, crate::specs::Flat::parts_of))]
+fn replace(
+    alloc: Global,
+    macros: &Macros,
+    token: &Token,
+    out: &mut Items<Token>,
+) -> Result<(), Stop>
+    ensures { Leaves result out.new (with_parts macros.now token.now out.old) }
+{
+    if !token.is_macro() {
+        out.push(token.copied(alloc)?)?;
+        return Ok(());
+    }
+    let macros = macros.as_slice();
+    let Some(number) = latest(macros, token.text.as_slice()) else {
+        return Err(refusal(token.place, Mistake::Undefined(token.bytes(alloc)?)));
+    };
+    let mut place = token.place;
+    place.value_of = Some(number);
+    for part in macros[number].value.as_slice() {
+        out.push(part.moved(alloc, place)?)?;
+    }
+    Ok(())
+}
+
+/// The tokens with their macros replaced.
+#[tactic(auto, using(crate::proofs::Steps::drop_item, std::proofs::lemmas::List::drop_all), unfolding(crate::specs::Flat::replaced))]
+fn replaced(alloc: Global, macros: &Macros, tokens: &[Token]) -> Result<Items<Token>, Stop>
+    ensures { Gives result (replaced macros.now tokens.now) }
+{
+    let mut out = Items::new(alloc);
+    for token in tokens {
+        replace(alloc, macros, token, &mut out)?;
+    }
+    Ok(out)
+}
+
+/// Whether a line defines a macro.
+fn is_definition(line: &[Token]) -> bool
+    ensures definition { result ≡ is_definition line.now }
+    ensures long { IsTrue result → 2 ≤ length line.now }
+{
+    match line {
+        [name, equals, ..] => name.kind == Kind::Word && equals.is_symbol(b"="),
+        _ => false,
+    }
+}
+
+/// Whether a line stands for a file's tokens.
+fn is_include(line: &[Token]) -> bool
+    ensures include { result ≡ is_include line.now }
+    ensures long { IsTrue result → 1 ≤ length line.now }
+{
+    match line {
+        [word, ..] => word.is_word(b"include"),
+        [] => false,
+    }
+}
+
+/// Checks that a token can name a macro.
+fn check_name(alloc: Global, name: &Token) -> Result<(), Stop>
+    ensures { Gives result (name_checked name.now) }
+{
+    if name.is_keyword() {
+        return Err(refusal(name.place, Mistake::ReservedName(name.bytes(alloc)?)));
+    }
+    if name.is_number() || !has_letters_alone(name.text.as_slice()) {
+        return Err(refusal(name.place, Mistake::MacroName));
+    }
+    Ok(())
+}
+
+/// Whether each byte can stand in a macro's name.
+fn has_letters_alone(text: &[Placed]) -> bool
+    ensures { result ≡ has_letters_alone text.now }
+{
+    text.iter().all(|placed| is_letter(placed.byte))
+}
+
+/// Checks that a token can stand in a macro's value.
+fn check_part(alloc: Global, part: &Token) -> Result<(), Stop>
+    ensures { Gives result (part_checked part.now) }
+{
+    if part.kind == Kind::Symbol {
+        return Err(refusal(part.place, Mistake::SymbolInValue(part.bytes(alloc)?)));
+    }
+    if part.is_keyword() {
+        return Err(refusal(part.place, Mistake::ReservedInValue(part.bytes(alloc)?)));
+    }
+    Ok(())
+}
+
+/// Appends a part's text to a value, behind a space if something stands before it.
+#[tactic(auto, using(crate::proofs::Steps::take_item))]
+fn join(value: &mut PlacedText, part: &Token) -> Result<(), Stop>
+    ensures { Leaves result value.new (Ok (with_part value.old part.now)) }
+{
+    if value.len() > 0 {
+        let (byte, place) = (b' ', part.place);
+        value.push(Placed { byte, place })?;
+    }
+    for placed in part.text.as_slice() {
+        value.push(*placed)?;
+    }
+    Ok(())
+}
+
+/// The texts of a value's parts, with one space between each two.
+#[tactic(auto, using(crate::proofs::Steps::drop_item, std::proofs::lemmas::List::drop_all, crate::proofs::Macros::value_step), unfolding(crate::specs::Flat::joined))]
+fn joined(alloc: Global, parts: &[Token]) -> Result<PlacedText, Stop>
+    ensures { Gives result (joined parts.now) }
+{
+    let mut value = Items::new(alloc);
+    for part in parts {
+        check_part(alloc, part)?;
+        join(&mut value, part)?;
+    }
+    Ok(value)
+}
+
+/// The tokens of a value, given its parts, where what stands behind `=` begins, and where the line ends.
+fn tokens_of_value(
+    alloc: Global,
+    parts: &[Token],
+    first: Place,
+    line_end: Place,
+) -> Result<Items<Token>, Stop>
+    ensures { Gives result (tokens_of_value first line_end parts.now) }
+{
+    if parts.is_empty() {
+        return Err(refusal(line_end, Mistake::NoValue));
+    }
+    let value = joined(alloc, parts)?;
+    if value.len() > VALUE_LIMIT {
+        return Err(refusal(first, Mistake::LongValue));
+    }
+    lex(alloc, Source::Value, &value)
+}
+
+/// Where the first of these tokens stands, or else the line's end.
+fn first_place(tokens: &[Token], line_end: Place) -> Place
+    ensures { result ≡ first_place tokens.now line_end }
+{
+    match tokens {
+        [first, ..] => first.place,
+        [] => line_end,
+    }
+}
+
+/// What a macro is defined as, by its name and what stands behind `=`.
+#[tactic(auto, unfolding(crate::specs::Flat::defined))]
+fn definition(
+    alloc: Global,
+    macros: &Macros,
+    name: &Token,
+    behind: &[Token],
+    line_end: Place,
+) -> Result<Macro, Stop>
+    ensures { Gives result (defined macros.now name.now behind.now line_end) }
+{
+    check_name(alloc, name)?;
+    let parts = replaced(alloc, macros, behind)?;
+    let first = first_place(behind, line_end);
+    let value = tokens_of_value(alloc, parts.as_slice(), first, line_end)?;
+    let name = name.bytes(alloc)?;
+    Ok(Macro { name, value })
+}
+
+/// The one token, which is a string, that names a file.
+fn only_string(alloc: Global, place: Place, parts: &[Token]) -> Result<Token, Stop>
+    ensures { Gives result (only_string place parts.now) }
+{
+    match parts {
+        [name] if name.is_string() => Ok(name.copied(alloc)?),
+        _ => Err(refusal(place, Mistake::NoFileName)),
+    }
+}
+
+/// The token that names the file of a line that begins with `include`.
+fn file_name(alloc: Global, macros: &Macros, line: &[Token]) -> Result<Token, Stop>
+    requires { 1 ≤ length line.now }
+    ensures { (line_end : Place) → Gives result (file_name macros.now line.now line_end) }
+{
+    let parts = replaced(alloc, macros, &line[1..])?;
+    only_string(alloc, line[0].place, parts.as_slice())
+}
+
+/// Keeps the places of the braces that are open behind this token.
+fn follow(token: &Token, opened: &mut Items<Place>) -> Result<(), Stop>
+    ensures { Leaves result opened.new (Ok (braces token.now opened.old)) }
+{
+    if token.is_symbol(b"{") {
+        opened.push(token.place)?;
+    } else if token.is_symbol(b"}") {
+        opened.pop();
+    }
+    Ok(())
+}
+
+/// Appends a token to those that are left.
+#[tactic(auto, unfolding(crate::specs::Flat::put))]
+fn put(
+    alloc: Global,
+    token: &Token,
+    opened: &mut Items<Place>,
+    tokens: &mut Items<Token>,
+) -> Result<(), Stop>
+    ensures { Leaves result (opened.new, tokens.new) (put token.now (opened.old, tokens.old)) }
+{
+    if tokens.len() >= TOKEN_LIMIT {
+        return Err(refusal(token.place, Mistake::ManyWords));
+    }
+    follow(token, opened)?;
+    tokens.push(token.copied(alloc)?)?;
+    Ok(())
+}
+
+/// Appends all of these to those that are left.
+#[tactic(auto, using(crate::proofs::Steps::drop_item, std::proofs::lemmas::List::drop_all), unfolding(crate::specs::Flat::put_each))]
+fn put_each(
+    alloc: Global,
+    parts: &[Token],
+    opened: &mut Items<Place>,
+    tokens: &mut Items<Token>,
+) -> Result<(), Stop>
+    ensures { Leaves result (opened.new, tokens.new) (put_each parts.now (opened.old, tokens.old)) }
+{
+    for part in parts {
+        put(alloc, part, opened, tokens)?;
+    }
+    Ok(())
+}
+
+/// Appends what the tokens of a line stand for.
+#[tactic(auto, using(crate::proofs::Steps::drop_item, std::proofs::lemmas::List::drop_all, crate::proofs::Macros::with_parts_first), unfolding(crate::specs::Flat::put_line))]
+fn put_line(
+    alloc: Global,
+    macros: &Macros,
+    line: &[Token],
+    opened: &mut Items<Place>,
+    tokens: &mut Items<Token>,
+) -> Result<(), Stop>
+    ensures { Leaves result (opened.new, tokens.new) (put_line macros.now line.now (opened.old, tokens.old)) }
+{
+    for token in line {
+        let mut parts = Items::new(alloc);
+        replace(alloc, macros, token, &mut parts)?;
+        put_each(alloc, parts.as_slice(), opened, tokens)?;
+    }
+    Ok(())
+}
+
+/// The tokens of the file of this number, which has this text.
+fn tokens_of(alloc: Global, number: usize, text: &[u8]) -> Result<Items<Token>, Stop>
+    requires { length text.now ≤ FILE_LIMIT }
+    ensures { Gives result (lex Source.File 0 (placed (start_of number) text.now)) }
+{
+    let text = placed(alloc, Place::start(number), text)?;
+    lex(alloc, Source::File, &text)
+}
+
+/// The tokens before the first newline, that newline, and the tokens behind it.
+#[tactic(auto, using(crate::proofs::Lines::no_newline_more, crate::proofs::Lines::no_line))]
+fn first_line(tokens: &[Token]) -> Option<(&[Token], &Token, &[Token])>
+    ensures line { MatchOption result (lines tokens.now ≡ []) (λ l. lines tokens.now ≡ (l.0.now, l.1.now) ∷ lines l.2.now) }
+    ensures shorter { IfSome result (λ l. length l.2.now < length tokens.now) }
+{
+    for (end, token) in tokens.iter().enumerate() {
+        if token.is_newline() {
+            return Some((&tokens[..end], token, &tokens[end + 1..]));
+        }
+    }
+    None
+}
+
+/// Checks that no brace is open.
+fn check_closed(opened: &[Place]) -> Result<(), Stop>
+    ensures { Gives result (all_closed opened.now) }
+{
+    match opened {
+        [.., place] => Err(refusal(*place, Mistake::OpenBrace)),
+        [] => Ok(()),
+    }
+}
+
+impl Flat {
+    /// Before the first file, or before another one that shares nothing but the number of those that were read.
+    pub fn new(alloc: Global, files_read: usize) -> Flat
+        ensures { result ≡ record { files_read = files_read; macros = []; tokens = [] } }
+    {
+        Flat {
+            files_read,
+            macros: Items::new(alloc),
+            tokens: Items::new(alloc),
+        }
+    }
+
+    /// Reads the file of this number, which has this text, and what it includes, at most so deep. Each file that is read counts. A fault
+    /// leaves the macros that were defined before it.
+    #[cycle(reading)]
+    #[tactic(auto, unfolding(crate::specs::Flat::read_lines))]
+    pub fn read(
+        &mut self,
+        alloc: Global,
+        files: &Files,
+        deep: u32,
+        number: usize,
+        text: &[u8],
+    ) -> Result<(), Stop>
+        requires short { length text.now ≤ FILE_LIMIT }
+        requires room { self.old.files_read < READING_LIMIT }
+        ensures reached { Reaches result self.new (read_file files.now deep number text.now self.old) }
+        ensures counted { OnOk result (self.old.files_read < self.new.files_read) }
+        ensures within { self.new.files_read ≤ READING_LIMIT }
+    {
+        let tokens = tokens_of(alloc, number, text)?;
+        self.files_read += 1;
+        let mut rest = tokens.as_slice();
+        let mut opened = Items::new(alloc);
+        while let Some((line, newline, behind)) = first_line(rest) {
+            self.read_line(alloc, files, deep, line, newline, &mut opened)?;
+            rest = behind;
+        }
+        check_closed(opened.as_slice())
+    }
+
+    /// Reads a line, given its newline.
+    #[cycle(reading)]
+    #[tactic(auto, unfolding(crate::specs::Flat::read_line))]
+    fn read_line(
+        &mut self,
+        alloc: Global,
+        files: &Files,
+        deep: u32,
+        line: &[Token],
+        newline: &Token,
+        opened: &mut Items<Place>,
+    ) -> Result<(), Stop>
+        requires { self.old.files_read ≤ READING_LIMIT }
+        ensures reached { ReachesLine result (opened.new, self.new) (read_line (including files.now deep) line.now newline.now (opened.old, self.old)) }
+        ensures counted { OnOk result (self.old.files_read ≤ self.new.files_read) }
+        ensures within { self.new.files_read ≤ READING_LIMIT }
+    {
+        if opened.len() == 0 {
+            if is_definition(line) {
+                return self.define(alloc, line, newline.place);
+            }
+            if is_include(line) {
+                let name = file_name(alloc, &self.macros, line)?;
+                return self.include(alloc, files, deep, &name);
+            }
+        }
+        put_line(alloc, &self.macros, line, opened, &mut self.tokens)?;
+        put(alloc, newline, opened, &mut self.tokens)
+    }
+
+    /// Defines the macro of a line.
+    fn define(&mut self, alloc: Global, line: &[Token], line_end: Place) -> Result<(), Stop>
+        requires { 2 ≤ length line.now }
+        ensures reached { Reaches result self.new (defining self.old line.now line_end) }
+        ensures unread { self.new.files_read ≡ self.old.files_read }
+    {
+        let definition = definition(alloc, &self.macros, &line[0], &line[2..], line_end)?;
+        self.macros.push(definition)?;
+        Ok(())
+    }
+
+    /// Reads the file that a token names.
+    #[cycle(reading)]
+    #[tactic(auto, using(crate::proofs::Lines::including_deeper), unfolding(crate::specs::Flat::including))]
+    fn include(&mut self, alloc: Global, files: &Files, deep: u32, name: &Token) -> Result<(), Stop>
+        requires { self.old.files_read ≤ READING_LIMIT }
+        ensures reached { Reaches result self.new (including files.now deep name.now self.old) }
+        ensures counted { OnOk result (self.old.files_read < self.new.files_read) }
+        ensures within { self.new.files_read ≤ READING_LIMIT }
+    {
+        if deep == 0 {
+            return Err(refusal(name.place, Mistake::DeepInclude));
+        }
+        let bytes = name.bytes(alloc)?;
+        let (number, text) = text_of_file(
+            alloc,
+            files,
+            self.files_read,
+            name.place,
+            bytes.as_slice(),
+        )?;
+        self.read(alloc, files, deep - 1, number, text)
+    }
+}

@@ -1,0 +1,385 @@
+//! Tokens of placed bytes.
+ghost use Rattle.std.specs.Prelude.{◌≡◌, ◌≤◌, ◌<◌, ◌∷◌, ◌++◌, length, take, drop, IfOk, OnOk};
+ghost use Rattle.std.specs.Option.{option_to_list};
+ghost use Rattle.pf_tokens.specs.{Stops.Gives, Places.text_of, Lexing.{is_letter, is_word_byte, goes_on, run_of, is_text, is_quote, is_pair, pairs, is_symbol_byte, is_printable, quoted, word_checked, is_of_interface, unjoined, symbol_more, a_quoted, a_symbol, comment, named_macro, macro_use, word, front, lex}};
+
+use crate::fault::{Mistake, Stop, refusal};
+use crate::items::{Items, PlacedText};
+use crate::place::Placed;
+use crate::texts::{bytes_of, same_bytes};
+use crate::token::{Kind, Token};
+use std::alloc::{AllocError, Global};
+
+/// What bytes are read as tokens.
+#[derive(Clone, Copy, Debug, PartialEq, Eq)]
+pub enum Source {
+    /// A file's.
+    File,
+    /// A macro's value, where neither comments nor macros can stand.
+    Value,
+}
+
+/// Which bytes a run goes on over.
+#[derive(Clone, Copy)]
+enum Run {
+    /// All but a newline.
+    Line,
+    /// Letters, digits and `_`.
+    Letters,
+    /// The bytes of a word.
+    Word,
+}
+
+/// What the front of the bytes is: a token, or nothing for a blank or a comment; and how many bytes more than one it takes.
+#[derive(Drop)]
+struct Front {
+    token: Option<Token>,
+    more: usize,
+}
+
+/// Whether a byte can stand in a macro's name: a letter, a digit or `_`.
+pub(crate) fn is_letter(byte: u8) -> bool
+    ensures { result ≡ is_letter byte }
+{
+    byte.is_ascii_alphanumeric() || byte == b'_'
+}
+
+/// Whether a word goes on over the byte: it is printable, and none of `( ) { } < > ! = / # ,`.
+fn is_word_byte(byte: u8) -> bool
+    ensures { result ≡ is_word_byte byte }
+{
+    b'!' < byte
+        && byte <= b'~'
+        && !matches!(
+            byte,
+            b'(' | b')' | b'{' | b'}' | b'<' | b'>' | b'=' | b'/' | b'#' | b','
+        )
+}
+
+impl Run {
+    fn goes_on(self, byte: u8) -> bool
+        ensures { result ≡ goes_on self byte }
+    {
+        match self {
+            Run::Line => byte != b'\n',
+            Run::Letters => is_letter(byte),
+            Run::Word => is_word_byte(byte),
+        }
+    }
+}
+
+/// How many bytes from the front on the run goes on over.
+fn length_of(run: Run, bytes: &[Placed]) -> usize
+    ensures { result ≡ length (run_of run bytes.now) }
+{
+    bytes
+        .iter()
+        .take_while(|placed| run.goes_on(placed.byte))
+        .count()
+}
+
+/// The bytes from the front on that the run goes on over.
+#[tactic(auto, using(crate::proofs::Runs::take_run, crate::proofs::Runs::run_bound))]
+fn run_of(run: Run, bytes: &[Placed]) -> &[Placed]
+    ensures run { result.now ≡ run_of run bytes.now }
+    ensures bound { length result.now ≤ length bytes.now }
+{
+    &bytes[..length_of(run, bytes)]
+}
+
+/// Whether a byte can stand in quotes.
+fn is_text(byte: u8) -> bool
+    ensures { result ≡ is_text byte }
+{
+    byte == b'\t' || (b' ' <= byte && byte <= b'~')
+}
+
+/// How many bytes stand between a quote and the next one like it on its line.
+#[tactic(auto, using(crate::proofs::Steps::drop_item, std::proofs::lemmas::List::drop_all), unfolding(crate::specs::Lexing::quoted))]
+fn quoted(quote: Placed, bytes: &[Placed]) -> Result<usize, Stop>
+    ensures count { Gives result (quoted quote bytes.now) }
+    ensures bound { IfOk result (λ n. n < length bytes.now) }
+{
+    for (count, placed) in bytes.iter().enumerate() {
+        if placed.byte == quote.byte {
+            return Ok(count);
+        }
+        if placed.byte == b'\n' {
+            break;
+        }
+        if placed.byte == b'\\' {
+            return Err(refusal(placed.place, Mistake::Backslash));
+        }
+        if !is_text(placed.byte) {
+            return Err(refusal(placed.place, Mistake::Byte(placed.byte)));
+        }
+    }
+    Err(refusal(quote.place, Mistake::OpenQuote))
+}
+
+fn is_quote(byte: u8) -> bool
+    ensures { result ≡ is_quote byte }
+{
+    byte == b'"' || byte == b'\''
+}
+
+/// What is wrong with a word: the first byte that can't stand within one.
+#[tactic(auto, using(crate::proofs::Steps::drop_item, std::proofs::lemmas::List::drop_all), unfolding(crate::specs::Lexing::word_checked))]
+fn check_word(word: &[Placed]) -> Result<(), Stop>
+    ensures { Gives result (word_checked word.now) }
+{
+    for placed in word {
+        if is_quote(placed.byte) {
+            return Err(refusal(placed.place, Mistake::QuoteInWord));
+        }
+        if placed.byte == b'$' {
+            return Err(refusal(placed.place, Mistake::DollarInWord));
+        }
+        if placed.byte == b'\\' {
+            return Err(refusal(placed.place, Mistake::Backslash));
+        }
+    }
+    Ok(())
+}
+
+/// Checks that no byte of a word stands directly behind a macro.
+fn check_behind(alloc: Global, bytes: &[Placed]) -> Result<(), Stop>
+    ensures { Gives result (unjoined (run_of Run.Word bytes.now)) }
+{
+    let joined = run_of(Run::Word, bytes);
+    let [first, ..] = joined else {
+        return Ok(());
+    };
+    if is_of_interface(joined) {
+        return Err(refusal(first.place, Mistake::InterfaceAddress));
+    }
+    Err(refusal(first.place, Mistake::Joined(bytes_of(alloc, joined)?)))
+}
+
+/// Whether these bytes behind an interface's name are its addresses.
+fn is_of_interface(bytes: &[Placed]) -> bool
+    ensures { result ≡ is_of_interface (text_of bytes.now) }
+{
+    same_bytes(bytes, b":network")
+        || same_bytes(bytes, b":broadcast")
+        || same_bytes(bytes, b":peer")
+        || same_bytes(bytes, b":0")
+}
+
+/// Whether two bytes are one symbol.
+fn is_pair(first: u8, second: u8) -> bool
+    ensures { result ≡ is_pair first second }
+{
+    (first == b'<' && second == b'>')
+        || (first == b'>' && second == b'<')
+        || (first == b'-' && second == b'>')
+}
+
+/// Whether this byte is one symbol with the next one.
+fn pairs(first: Placed, behind: &[Placed]) -> bool
+    ensures { result ≡ pairs first behind.now }
+{
+    match behind {
+        [second, ..] => is_pair(first.byte, second.byte),
+        [] => false,
+    }
+}
+
+fn is_symbol_byte(byte: u8) -> bool
+    ensures { result ≡ is_symbol_byte byte }
+{
+    matches!(
+        byte,
+        b'{' | b'}' | b'(' | b')' | b',' | b'!' | b'=' | b'/' | b'<' | b'>' | b'-'
+    )
+}
+
+fn is_printable(byte: u8) -> bool
+    ensures { result ≡ is_printable byte }
+{
+    b' ' < byte && byte <= b'~'
+}
+
+/// How many bytes behind this one belong to its symbol.
+fn symbol(first: Placed, behind: &[Placed]) -> Result<usize, Stop>
+    ensures count { Gives result (symbol_more first behind.now) }
+    ensures bound { IfOk result (λ n. n ≤ length behind.now) }
+{
+    let (byte, place) = (first.byte, first.place);
+    if pairs(first, behind) {
+        return Ok(1);
+    }
+    if is_symbol_byte(byte) {
+        return Ok(0);
+    }
+    if byte == b'\\' {
+        return Err(refusal(place, Mistake::Backslash));
+    }
+    if is_printable(byte) {
+        return Err(refusal(place, Mistake::Character(char::from(byte))));
+    }
+    Err(refusal(place, Mistake::Byte(byte)))
+}
+
+/// A token of these bytes.
+fn token(alloc: Global, kind: Kind, first: Placed, text: &[Placed]) -> Result<Option<Token>, Stop>
+    ensures { Gives result (Ok (Some (record { kind = kind; place = first.place; text = text.now }))) }
+{
+    let place = first.place;
+    let text = Items::of(Vec::from_slice(alloc, text)?);
+    Ok(Some(Token { kind, place, text }))
+}
+
+/// The use of a macro, or what is wrong with it, by the bytes behind its `$`.
+fn named_macro(alloc: Global, first: Placed, behind: &[Placed]) -> Result<Front, Stop>
+    ensures named { Gives result (named_macro first (run_of Run.Letters behind.now) behind.now) }
+    ensures bound { IfOk result (λ f. f.more ≤ length behind.now) }
+{
+    let name = run_of(Run::Letters, behind);
+    let more = name.len();
+    if more == 0 {
+        return Err(refusal(first.place, Mistake::NoMacroName));
+    }
+    check_behind(alloc, &behind[more..])?;
+    let token = token(alloc, Kind::Macro, first, name)?;
+    Ok(Front { token, more })
+}
+
+/// The use of a macro at the front.
+fn front_macro(
+    alloc: Global,
+    source: Source,
+    first: Placed,
+    behind: &[Placed],
+) -> Result<Front, Stop>
+    ensures macro_use { Gives result (macro_use source first behind.now) }
+    ensures bound { IfOk result (λ f. f.more ≤ length behind.now) }
+{
+    match source {
+        Source::File => named_macro(alloc, first, behind),
+        Source::Value => Err(refusal(first.place, Mistake::MacroInValue)),
+    }
+}
+
+/// The text of a word, or of a symbol: this byte, and some behind it.
+#[tactic(auto, using(crate::proofs::Steps::take_item))]
+fn text_from(alloc: Global, first: Placed, behind: &[Placed]) -> Result<PlacedText, AllocError>
+    ensures { IfOk result (λ t. t ≡ first ∷ behind.now) }
+{
+    let mut text = Items::new(alloc);
+    text.push(first)?;
+    for placed in behind {
+        text.push(*placed)?;
+    }
+    Ok(text)
+}
+
+/// A word at the front, by its first byte and those behind it.
+fn front_word(alloc: Global, first: Placed, behind: &[Placed]) -> Result<Front, Stop>
+    ensures word { Gives result (word first behind.now) }
+    ensures bound { IfOk result (λ f. f.more ≤ length behind.now) }
+{
+    let run = run_of(Run::Word, behind);
+    let more = run.len();
+    let text = text_from(alloc, first, run)?;
+    check_word(text.as_slice())?;
+    let kind = Kind::Word;
+    let place = first.place;
+    Ok(Front {
+        token: Some(Token { kind, place, text }),
+        more,
+    })
+}
+
+/// A symbol at the front.
+fn front_symbol(alloc: Global, first: Placed, behind: &[Placed]) -> Result<Front, Stop>
+    ensures symbol { Gives result (a_symbol first behind.now) }
+    ensures bound { IfOk result (λ f. f.more ≤ length behind.now) }
+{
+    let more = symbol(first, behind)?;
+    let text = text_from(alloc, first, &behind[..more])?;
+    let kind = Kind::Symbol;
+    let place = first.place;
+    Ok(Front {
+        token: Some(Token { kind, place, text }),
+        more,
+    })
+}
+
+/// A quoted text at the front.
+fn front_quoted(alloc: Global, first: Placed, behind: &[Placed]) -> Result<Front, Stop>
+    ensures quoted { Gives result (a_quoted first behind.now) }
+    ensures bound { IfOk result (λ f. f.more ≤ length behind.now) }
+{
+    let count = quoted(first, behind)?;
+    let token = token(alloc, Kind::Quoted, first, &behind[..count])?;
+    let more = count + 1;
+    Ok(Front { token, more })
+}
+
+/// A comment at the front.
+fn front_comment(source: Source, first: Placed, behind: &[Placed]) -> Result<Front, Stop>
+    ensures comment { Gives result (comment source first behind.now) }
+    ensures bound { IfOk result (λ f. f.more ≤ length behind.now) }
+{
+    match source {
+        Source::File => Ok(Front {
+            token: None,
+            more: run_of(Run::Line, behind).len(),
+        }),
+        Source::Value => Err(refusal(first.place, Mistake::CommentInValue)),
+    }
+}
+
+/// The front of the bytes, by the first one and those behind it.
+#[tactic(auto, unfolding(crate::specs::Lexing::front))]
+fn take_front(
+    alloc: Global,
+    source: Source,
+    first: Placed,
+    behind: &[Placed],
+) -> Result<Front, Stop>
+    ensures front { Gives result (front source first behind.now) }
+    ensures bound { IfOk result (λ f. f.more ≤ length behind.now) }
+{
+    match first.byte {
+        b' ' | b'\t' => Ok(Front {
+            token: None,
+            more: 0,
+        }),
+        b'\n' => {
+            let token = token(alloc, Kind::Newline, first, &[])?;
+            Ok(Front { token, more: 0 })
+        }
+        b'#' => front_comment(source, first, behind),
+        b'"' | b'\'' => front_quoted(alloc, first, behind),
+        b'$' => front_macro(alloc, source, first, behind),
+        byte if is_letter(byte) || byte == b':' => front_word(alloc, first, behind),
+        _ => front_symbol(alloc, first, behind),
+    }
+}
+
+/// Appends a token, if there is one.
+fn put_some(tokens: &mut Items<Token>, token: Option<Token>) -> Result<(), AllocError>
+    ensures { OnOk result (tokens.new ≡ tokens.old ++ option_to_list token) }
+{
+    match token {
+        Some(token) => tokens.push(token),
+        None => Ok(()),
+    }
+}
+
+/// The tokens of the bytes.
+pub fn lex(alloc: Global, source: Source, text: &PlacedText) -> Result<Items<Token>, Stop>
+    ensures { Gives result (lex source 0 text.now) }
+{
+    let mut tokens = Items::new(alloc);
+    let bytes = text.as_slice();
+    let mut at = 0;
+    while at < bytes.len() {
+        let front = take_front(alloc, source, bytes[at], &bytes[at + 1..])?;
+        at += front.more + 1;
+        put_some(&mut tokens, front.token)?;
+    }
+    Ok(tokens)
+}
