@@ -246,12 +246,12 @@ impl Core {
     /// kill of what isn't there or a tick that would go back.
     ///
     /// The refusal is the first of these that holds. A begin: `BadCount`, `TooManyRulesets`, `TicketsExhausted`. An add of a rule: `Busy`,
-    /// `RulesetFull`. A define: `Conflict`, `Busy`, `TableFull`, `TooManyTables`. An extend: `Conflict` among its entries, `Busy`, `Absent`,
-    /// `Conflict` with what is offered, `TableFull`. A commit: `BadCount`, `Twice`, `Busy`, `TooManyRulesets`, `TooManyTables`. A rollback:
-    /// `BadCount`, `Twice`. Entries that are added to a table or replace its own: `Conflict`, `TableFull`, `TooManyTables`. Entries that are
-    /// deleted: `Conflict`, `Absent`. A table or a state that is killed: `Absent`. A tick: `BadTick`. A packet that is tracked: `BadTick`,
-    /// and if a state is to be made of it `StatesFull`. A peer's message: `StatesFull`. A question, or what the history is asked: none. Out
-    /// of memory, `Memory` may come before any of them.
+    /// `RulesetFull`. A define: `Conflict`, `Busy`, `TableFull`, `TooManyTables`. An extend: `Conflict` among its entries, `Busy`,
+    /// `Absent`, `Conflict` with what is offered, `TableFull`. A commit: `BadCount`, `Twice`, `Busy`, `TooManyRulesets`, `TooManyTables`. A
+    /// rollback: `BadCount`, `Twice`. Entries that are added to a table or replace its own: `Conflict`, `TableFull`, `TooManyTables`.
+    /// Entries that are deleted: `Conflict`, `Absent`. A table or a state that is killed: `Absent`. A tick: `BadTick`. A packet that is
+    /// tracked: `BadTick`, and if a state is to be made of it `StatesFull`. A peer's message: `StatesFull`. A question, or what the history
+    /// is asked: none. Out of memory, `Memory` may come before any of them.
     ///
     /// The core knows neither the history's limit nor its device nor what is shown. Whoever keeps the history answers `HistoryFull`, `Full`
     /// or `Fault` to a change that is wanted and isn't accepted, `Stored` to one that is accepted and can't be shown, and after a `Fault`
@@ -272,12 +272,12 @@ impl Core {
     /// the core as it is. If the step wants a change, is left to whoever keeps the history, or is refused, the core is as before.
     ///
     /// The refusal is the first of these that holds. A begin: `BadCount`, `TooManyRulesets`, `TicketsExhausted`. An add of a rule: `Busy`,
-    /// `RulesetFull`. A define: `Conflict`, `Busy`, `TableFull`, `TooManyTables`. An extend: `Conflict` among its entries, `Busy`, `Absent`,
-    /// `Conflict` with what is offered, `TableFull`. A commit: `BadCount`, `Twice`, `Busy`, `TooManyRulesets`, `TooManyTables`. A rollback:
-    /// `BadCount`, `Twice`. Entries that are added to a table or replace its own: `Conflict`, `TableFull`, `TooManyTables`. Entries that are
-    /// deleted: `Conflict`, `Absent`. A table or a state that is killed: `Absent`. A tick: `BadTick`. A packet that is tracked: `BadTick`,
-    /// and if a state is to be made of it `StatesFull`. A peer's message: `StatesFull`. A question, or what the history is asked: none. Out
-    /// of memory, also for what the change leaves, `Memory` may come before any of them.
+    /// `RulesetFull`. A define: `Conflict`, `Busy`, `TableFull`, `TooManyTables`. An extend: `Conflict` among its entries, `Busy`,
+    /// `Absent`, `Conflict` with what is offered, `TableFull`. A commit: `BadCount`, `Twice`, `Busy`, `TooManyRulesets`, `TooManyTables`. A
+    /// rollback: `BadCount`, `Twice`. Entries that are added to a table or replace its own: `Conflict`, `TableFull`, `TooManyTables`.
+    /// Entries that are deleted: `Conflict`, `Absent`. A table or a state that is killed: `Absent`. A tick: `BadTick`. A packet that is
+    /// tracked: `BadTick`, and if a state is to be made of it `StatesFull`. A peer's message: `StatesFull`. A question, or what the history
+    /// is asked: none. Out of memory, also for what the change leaves, `Memory` may come before any of them.
     pub fn step_ready(&mut self, command: &Command) -> Result<ReadyStep, Refusal>
         ensures reply { OrMemory (takes_memory self.old.durable command.now) (plain result)
             (step_by self.old.tickets self.old.durable command.now) }

@@ -1,5 +1,5 @@
--- The valid ticket of a ruleset is the one that the latest mention that touched it gave, and what was added, defined and extended since then
--- is offered with it.
+-- The valid ticket of a ruleset is the one that the latest mention that touched it gave, and what was added, defined and extended since
+-- then is offered with it.
 use Rattle.std.proofs.{Common.{◌≡◌, ℕ, Bool, true, false, cond, ◌&&◌, ◌==◌, List, [], ◌∷◌, ◌++◌, refl, sym, ap, ◌∙◌, subst, Option, Some, None, option_map, ◌⊎◌, inl, inr, append_assoc, fold}, lemmas.Bool.{eqb-true, and_parts, cond_both}, lemmas.List.append-nil, lemmas.List.Sums.fold-append}
 use Rattle.std.specs.{Prelude.{flat_map, T}, FinMap.{find, put, is_sorted}, FinMap.Entries.{find-put, find_tied, is_sorted-put}, Cmp.Lexicographic.nat_list_cmp_total, Option.{option_or, option_map_or}}
 use Rattle.pf_addr.specs.Path.Names.{name_order, same_name as same_table}

@@ -36,7 +36,8 @@ pub fn offers_the_defined()
     ensures { OffersTheDefined }
 {}
 
-/// After an accepted define exactly its entries are offered for its table; after an accepted extend its entries and those that were offered.
+/// After an accepted define exactly its entries are offered for its table; after an accepted extend its entries and those that were
+/// offered.
 #[tactic(auto, using(crate::proofs::OfferedEntries::offers_each_entry))]
 pub fn offers_each_entry()
     ensures { OffersEachEntry }

@@ -13,8 +13,8 @@ pub enum TicketRefusal {
     BadCount,
     /// This entry of a commit or a rollback, from 0, is the first that names a ruleset named before it.
     Twice { at: usize },
-    /// This entry of a table, from 0, is the first whose network came before it with the other sign. If there is none, it is the first of an
-    /// extend whose network is offered with the other sign.
+    /// This entry of a table, from 0, is the first whose network came before it with the other sign. If there is none, it is the first of
+    /// an extend whose network is offered with the other sign.
     Conflict { at: usize },
     /// This entry of a commit, from 0, is the first whose ticket isn't valid; 0 for an add, a define and an extend.
     Busy { at: usize },

@@ -428,8 +428,8 @@ impl Tickets {
     /// Adds entries to those of one table that is offered with a valid ticket. An entry that is offered already stays as it is.
     ///
     /// The refusal is the first in this order: `Conflict`, if entries contradict one another; `Busy` at 0; `Absent`, if the table wasn't
-    /// defined with this ticket; `Conflict`, if an entry contradicts one that is offered; `TableFull`. `Memory` may come before any of them.
-    /// After a refusal all is as before.
+    /// defined with this ticket; `Conflict`, if an entry contradicts one that is offered; `TableFull`. `Memory` may come before any of
+    /// them. After a refusal all is as before.
     pub fn extend_table(
         &mut self,
         path: &Path,

@@ -88,8 +88,8 @@ OffersTheDefined = (epoch : ℕ) (ms : List Mention) (path : List ℕ) (t : Tick
 abbrev pub is_offered : PlainTickets → RulesetName → List ℕ → PlainEntry → Bool
 is_offered t name table x = option_map_or (λ rows. has_entry rows x) (find name_order table (tables_in (content t name))) false
 
--- An accepted define offers its entries for its table, and no others; an accepted extend offers its entries and those that were offered, and
--- no others.
+-- An accepted define offers its entries for its table, and no others; an accepted extend offers its entries and those that were offered,
+-- and no others.
 pub record OffersEachEntry : Type 0 where
   pub define : (t : PlainTickets) (p : List ℕ) (u : Ticket) (table : List ℕ) (xs : List PlainEntry) (x : PlainEntry) →
       define_reply t (table_ruleset_at p) u table xs ≡ Ok tt →
