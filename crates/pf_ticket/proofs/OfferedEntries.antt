@@ -1,12 +1,12 @@
 -- What an accepted define or extend offers for its table, entry by entry.
-use Rattle.std.proofs.{Common.{◌≡◌, ℕ, ◌+◌, ◌<◌, Bool, true, false, not, cond, ◌||◌, List, [], ◌∷◌, length, nat_lt, Option, Some, None, option_map, Result, Ok, Err, refl, sym, ap, ◌∙◌, arith}, lemmas.Bool.or_parts, lemmas.Bool.Decides.nat_tests}
-use Rattle.std.specs.{Bool.beq, Cmp.eq_by_cmp_equiv, Cmp.Lexicographic.nat_list_cmp_total, FinMap.find, FinMap.Entries.find_tied, List.{list_any, position, position_or_len}, Option.{option_map_or, option_or}, Ordering.eq_by_cmp}
+use Rattle.std.proofs.{Common.{◌≡◌, ℕ, ◌+◌, Bool, true, false, not, cond, ◌||◌, List, [], ◌∷◌, length, nat_lt, Option, Some, None, option_map, Result, Ok, Err, refl, sym, ap, ◌∙◌, arith}, lemmas.Bool.or_parts, lemmas.Bool.Decides.nat_tests}
+use Rattle.std.specs.{Bool.beq, Cmp.eq_by_cmp_equiv, Cmp.Lexicographic.nat_list_cmp_total, FinMap.find, FinMap.Entries.find_tied, List.{list_any, position_or_len}, Option.{option_map_or, option_or}, Ordering.eq_by_cmp}
 use Rattle.pf_addr.specs.{Path.Names.{name_order, same_name as same_table}, NetOrder.net_order, Laws.NetOrder.net_total, Refusing.{unless, refused_at, both_passed}}
 use Rattle.pf_map.proofs.Tests.{equal_of}
 use Rattle.pf_table.specs.declared.limits.TheConstants.{TABLE_LIMIT}
 use Rattle.pf_table.specs.{Edits.{added as entries_added, replaced, is_sign, has_entry, conflict_in, same_entry}, Entries.PlainEntry, Laws.Edits.{any_is_sign, sign_added}, Tables.sign_of}
 use Rattle.pf_table.proofs.Batches.{agreeing}
-use Rattle.pf_ticket.specs.{declared.{limits.TheConstants.OFFERED_TABLE_LIMIT, name.RulesetName.RulesetName, refusal.TicketRefusal.TicketRefusal, refusal.TicketRefusal.TheVariants.{Absent, Busy, Conflict, TableFull, TooManyTables}, ticket.Ticket.Ticket}, Laws.Tickets.{OffersEachEntry}, Laws.Names.names_alike, Mentions.{Mention, defined, extended, named_in, moved}, Names.{table_ruleset_at, same_name}, Replies.{opposite, conflict_with, growth_check, define_reply, extend_reply}, Tickets.{Loaded, with_table, with_entries, PlainInactive, offer_with, offer_at, PlainTickets, loaded_in, loaded, is_valid}}
+use Rattle.pf_ticket.specs.{declared.{limits.TheConstants.OFFERED_TABLE_LIMIT, name.RulesetName.RulesetName, refusal.TicketRefusal.TicketRefusal, refusal.TicketRefusal.TheVariants.{Busy, Conflict, TableFull, TooManyTables}, ticket.Ticket.Ticket}, Laws.Tickets.{OffersEachEntry}, Laws.Names.names_alike, Mentions.{Mention, defined, extended, named_in, moved}, Names.{table_ruleset_at}, Replies.{opposite, conflict_with, growth_check, define_reply, extend_reply}, Tickets.{Loaded, with_table, with_entries, PlainInactive, offer_with, offer_at, PlainTickets, loaded_in, loaded, is_valid}}
 use Rattle.pf_ticket.proofs.{Moves.{made_by, reads}, Latest.{defined-at, extended-at}}
 
 -- ---- which checks were passed

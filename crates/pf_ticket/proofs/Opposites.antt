@@ -1,9 +1,9 @@
 -- Entries with their signs exchanged: they contradict one another where the entries do, and those that a table has are those that
 -- contradict its own.
-use Rattle.std.proofs.{Common.{◌≡◌, ℕ, ◌+◌, Bool, true, false, not, cond, ◌&&◌, ◌||◌, List, [], ◌∷◌, ◌++◌, length, map, nat_lt, Option, Some, None, refl, sym, ap, ◌∙◌}, lemmas.List.{length-map, map-append}}
+use Rattle.std.proofs.{Common.{◌≡◌, ℕ, ◌+◌, Bool, true, false, not, cond, ◌&&◌, ◌||◌, List, [], ◌∷◌, ◌++◌, length, map, nat_lt, Some, None, refl, sym, ap, ◌∙◌}, lemmas.List.{length-map, map-append}}
 use Rattle.std.specs.{Bool.beq, FinMap.Entries.where_key, List.{list_any, position, position_or_len}, Ordering.eq_by_cmp}
 use Rattle.pf_addr.specs.NetOrder.{net_order}
-use Rattle.pf_table.specs.{Entries.PlainEntry, Edits.{is_opposite, conflict_behind, conflict_in, has_entry, without_entry, deletion, deletions}, Laws.Tables.is_deleted}
+use Rattle.pf_table.specs.{Entries.PlainEntry, Edits.{is_opposite, conflict_behind, conflict_in, has_entry, deletion, deletions}, Laws.Tables.is_deleted}
 use Rattle.pf_table.proofs.TableLaws.{one_answer_each}
 use Rattle.pf_ticket.specs.Replies.{opposite, conflict_with}
 

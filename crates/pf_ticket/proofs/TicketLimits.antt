@@ -8,7 +8,7 @@ use Rattle.pf_table.specs.{Edits.{conflict_in, added as entries_added, replaced}
 use Rattle.pf_rule.specs.Rules.{PlainRule}
 use Rattle.pf_anchor.specs.declared.limits.TheConstants.{RULE_LIMIT, RULESET_LIMIT}
 use Rattle.pf_map.proofs.Tests.{same_entry}
-use Rattle.pf_ticket.specs.{declared.{entry.RulesetTicket.RulesetTicket, limits.TheConstants.LAST_COUNT, limits.TheConstants.OFFERED_TABLE_LIMIT, name.RulesetKind.RulesetKind, name.RulesetKind.TheVariants.Filter, name.RulesetKind.TheVariants.Table, name.RulesetName.RulesetName, refusal.TicketRefusal.TicketRefusal, refusal.TicketRefusal.TheVariants.BadCount, refusal.TicketRefusal.TheVariants.Conflict, refusal.TicketRefusal.TheVariants.Busy, refusal.TicketRefusal.TheVariants.Absent, refusal.TicketRefusal.TheVariants.RulesetFull, refusal.TicketRefusal.TheVariants.TableFull, refusal.TicketRefusal.TheVariants.TooManyRulesets, refusal.TicketRefusal.TheVariants.TooManyTables, refusal.TicketRefusal.TheVariants.TicketsExhausted, ticket.Ticket.Ticket, ticket.TicketRange.TicketRange}, Laws.Tickets.{AreGiven, BeginsGive, TellsWhatIsGiven, IsFew, IsWithin, KeepsTheLimits}, Mentions.{gave, dropped, load, with_offers, take_out, moved, after, gives, switches, drops}, Names.{filter_at, table_ruleset_at, same_name, is_named, is_ticket, tickets_from, tickets_of}, Laws.Names.{names_alike, name_is}, Replies.{bad_count, conflict_with, range, begin_reply, growth_check}, NamedTables.PlainDefinedTable, Tickets.{Loaded, nothing, with_rule, with_table, with_entries, offered_as, PlainInactive, PlainSlots, offer_with, offer_at, with_offer, PlainTickets, next_ticket, ticket_in, loaded_in, valid_ticket, loaded, is_valid}}
+use Rattle.pf_ticket.specs.{declared.{entry.RulesetTicket.RulesetTicket, limits.TheConstants.LAST_COUNT, limits.TheConstants.OFFERED_TABLE_LIMIT, name.RulesetKind.RulesetKind, name.RulesetKind.TheVariants.Filter, name.RulesetKind.TheVariants.Table, name.RulesetName.RulesetName, refusal.TicketRefusal.TicketRefusal, refusal.TicketRefusal.TheVariants.BadCount, refusal.TicketRefusal.TheVariants.Conflict, refusal.TicketRefusal.TheVariants.Busy, refusal.TicketRefusal.TheVariants.RulesetFull, refusal.TicketRefusal.TheVariants.TableFull, refusal.TicketRefusal.TheVariants.TooManyRulesets, refusal.TicketRefusal.TheVariants.TooManyTables, refusal.TicketRefusal.TheVariants.TicketsExhausted, ticket.Ticket.Ticket, ticket.TicketRange.TicketRange}, Laws.Tickets.{AreGiven, BeginsGive, TellsWhatIsGiven, IsFew, IsWithin, KeepsTheLimits}, Mentions.{gave, dropped, load, with_offers, take_out, moved, after, gives, switches, drops}, Names.{filter_at, table_ruleset_at, same_name, is_named, is_ticket, tickets_from, tickets_of}, Laws.Names.{names_alike, name_is}, Replies.{bad_count, conflict_with, range, begin_reply, growth_check}, NamedTables.PlainDefinedTable, Tickets.{Loaded, nothing, with_rule, with_table, with_entries, offered_as, PlainInactive, PlainSlots, offer_with, offer_at, with_offer, PlainTickets, next_ticket, ticket_in, loaded_in, valid_ticket, loaded, is_valid}}
 use Rattle.pf_ticket.proofs.{NamedTables.{put_sorted, count_with}, Moves.{load-keeps, made_by, reads, leaves_the_others, gives-named}, Offers.{reads_with, length_out, length_replaced}}
 
 -- ---- what stays when offers are taken out
