@@ -1,5 +1,6 @@
 """Hostile connections to a server: a thousand at once against 8 workers, some that are reset in each state, half-closed, that send 100 MB without
-a newline, a byte a second, tens of thousands of empty ones, streams of zeros, and clients that never read their replies.
+a newline, a byte a second, tens of thousands of empty ones, streams of zeros, and clients that never read their replies; and silent ones, of a
+server that sends these away.
 
 Beside each of these an honest session asks on, whose replies are known: its longest wait is told, and nothing may be answered wrongly. Where
 the hostile ones take all workers, it is seen that those that wait are served in the end. The peak of memory is told, and has to stay within
@@ -339,9 +340,64 @@ def all_workers_deaf(place, seconds):
     return f"answered {waited * 1000:.0f} ms behind the first that went, "
 
 
+def ended_in(stream, some, seconds):
+    """Sends these bytes and no more: what is told until the connection ends, and whether that comes in so many seconds, and not at once."""
+    began = time.monotonic()
+    send_all(stream, some)
+    said = received(stream)
+    return said, seconds <= time.monotonic() - began < 3 * seconds
+
+
+def deaf_one(server):
+    """A client that asks for much, has little room for it, and reads nothing."""
+    stream = socket.socket()
+    stream.setsockopt(socket.SOL_SOCKET, socket.SO_RCVBUF, 4096)
+    stream.connect(server.address)
+    send_all(stream, b"show rules many\n" * 1000)
+    return stream
+
+
+def goes_on(client, seconds):
+    """A session that says a line twice in each of so many seconds."""
+    for _ in range(2 * seconds):
+        if client.ask("frob") != "err word 0":
+            return False
+        time.sleep(0.5)
+    return True
+
+
+# Where a client falls silent, and what it is told before that.
+SILENCES = ((b"", b""), (b"frob\n", b"err word 0\n"), (b"frob\nte", b"err word 0\n"), (EXAMPLE[:1], b""), (EXAMPLE[:50], b""))
+
+
+def silent_ones(options, folder):
+    """A server that sends away who is silent for a second: each has its replies, and who goes on is kept. More come than there are workers, and
+    some that read nothing."""
+    result, file = Result(), formatted(options.program, os.path.join(folder, "silent"), SIZE)
+    with Server(options.program, file, SIZE, WORKERS, more=["--idle", 1]) as server, server.session() as client:
+        many_rules(client)
+        ends, kept = [], []
+        threads = [threading.Thread(target=lambda some=some: ends.append((some, *ended_in(server.connect(), some, 1)))) for some, _ in SILENCES]
+        threads.append(threading.Thread(target=lambda: kept.append(goes_on(client, 4))))
+        for thread in threads:
+            thread.start()
+        for thread in threads:
+            thread.join()
+        for some, said, is_in_time in ends:
+            result.compare(f"silent behind {some!r}", (dict(SILENCES)[some], True), (said, is_in_time))
+        result.compare("a session that goes on", [True], kept)
+    with Server(options.program, file, SIZE, WORKERS, more=["--idle", 1]) as server:
+        deaf = [deaf_one(server) for _ in range(WORKERS)]
+        result.compare("a client behind as many that read nothing as there are workers", b"err word 0\n", server.told(b"frob\n"))
+        for stream in deaf:
+            stream.close()
+    return result
+
+
 def play(options):
     few = options.few
     with new_folder() as folder:
+        silent = silent_ones(options, folder)
         place = Place(options, folder)
         with place.server:
             place.beside("connections at once", thousand_at_once, few(1_000, 1_000))
@@ -353,4 +409,4 @@ def play(options):
             place.beside("empty connections", empty_ones, few(3_000, 100_000))
             place.beside("replies that nobody reads", never_read, few(100, 1_024))
             place.beside("all workers deaf", all_workers_deaf, few(1, 3), has_witness=False)
-    return place.result
+    return place.result.add(silent)

@@ -132,14 +132,24 @@ def read_file(text, name, path):
 # ---- a session with pfd
 
 
+def connected(address):
+    """A connection to HOST:PORT, or to the Unix socket at a path."""
+    if "/" not in address:
+        host, _, port = address.rpartition(":")
+        return socket.create_connection((host.strip("[]"), int(port)), ANSWERS)
+    stream = socket.socket(socket.AF_UNIX)
+    stream.settimeout(ANSWERS)
+    stream.connect(address)
+    return stream
+
+
 class Session:
     """A connection to a pfd."""
 
     def __init__(self, address):
-        host, _, port = address.rpartition(":")
         self.address, self.tickets = address, []
         try:
-            self.socket = socket.create_connection((host.strip("[]"), int(port)), ANSWERS)
+            self.socket = connected(address)
         except OSError:
             raise Gone(f"no pfd answers at {address}") from None
         self.replies = self.socket.makefile("rb")

@@ -18,3 +18,4 @@ pub mod Limits
 mod TakingOver
 pub mod Flushing
 pub mod JoinedCalls
+pub mod Asking

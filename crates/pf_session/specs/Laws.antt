@@ -6,3 +6,4 @@ pub mod Receipts
 pub mod Lines
 pub mod Takeover
 pub mod Streams
+pub mod Asking

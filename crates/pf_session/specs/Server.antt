@@ -1,3 +1,6 @@
 pub mod Sittings
 pub mod SessionRuns
+pub mod Inquiries
+pub mod Askings
+pub mod AskingRuns
 pub mod Streams

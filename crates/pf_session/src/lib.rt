@@ -5,14 +5,15 @@
 //! - `telling`: answers a line for whatever runs commands (`RunCommands`).
 //! - `engine`: the lines of one reader, by a `Book` of `pf_book`, one history over a device.
 //! - `server`: the lines of many readers at once, and peers' streams, by one Book that they share. Each session judges packets by a seer of
-//!   its own, and waits for the Book only with its other commands.
+//!   its own, and waits for the Book only with its other commands. A session may be one that asks and changes nothing.
 //! - `laws`: what follows for a peer's export that a Book is given, and for what replies say to sessions and peers.
 //!
-//! The crate knows no text of a command or a reply, which are `pf_line`'s, but `err gone`. It doesn't judge, compare, change or keep
-//! rules, tables and states itself: each command goes to a Book. It knows no words of a program, no files and no sockets.
+//! The crate knows no text of a command or a reply, which are `pf_line`'s, but `err gone`, `err denied`, and the words with which questions
+//! begin. It doesn't judge, compare, change or keep rules, tables and states itself: each command goes to a Book. It knows no words of a
+//! program, no files and no sockets.
 //!
 //! Proved: a session's bytes are the replies to its lines in order, and the Book gets the calls that they mean, however the session ends
-//! (`serve_alone`, `serve_from`, `serve_peer_from`).
+//! (`serve_alone`, `serve_from`, `serve_peer_from`); and a session that may only ask leaves the Book as it was (`serve_asking`).
 //! Only tests of other crates show that memory runs out only if a growth was refused, that the writer is flushed before each read, and
 //! that no other calls are made.
 //!
@@ -27,4 +28,6 @@ mod telling;
 
 pub use engine::serve_alone;
 pub use line_engine::EngineFault;
-pub use server::{Gate, OpenGate, serve, serve_from, serve_peer, serve_peer_from};
+pub use server::{
+    Gate, OpenGate, deny, serve, serve_asking, serve_from, serve_peer, serve_peer_from,
+};

@@ -4,14 +4,22 @@
 //! - `caller`: what a session and a stream call.
 //! - `session`: a session's lines, by the Book and the session's seer.
 //! - `run`: lines of a session that are run together.
+//! - `inquiry`: what may be asked and changes nothing.
+//! - `denial`: which lines are denied to a session that may only ask.
+//! - `asking`: such a session.
 //! - `stream`: a peer's messages in groups, by the Book.
 
+mod asking;
 mod caller;
+mod denial;
 mod gate;
+mod inquiry;
 mod run;
 mod session;
 mod stream;
 
+pub use asking::serve_asking;
+pub use denial::deny;
 pub use gate::{Gate, OpenGate};
 pub use session::{serve, serve_from};
 pub use stream::{serve_peer, serve_peer_from};

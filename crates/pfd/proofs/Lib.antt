@@ -1,2 +1,3 @@
 pub mod Running
 pub mod Begun
+pub mod Listening

@@ -1,4 +1,5 @@
 pub mod Accepting
+pub mod Admitting
 pub mod Program
 pub mod Client
 pub mod Fullness

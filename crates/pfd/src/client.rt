@@ -3,6 +3,7 @@ ghost use Rattle.std.specs.Prelude.{◌<◌, length};
 ghost use Rattle.pf_addr.specs.Writing.{Writes};
 ghost use Rattle.pfd.specs.Client.{Carries};
 
+use crate::stream::Stream;
 use pf_addr::write_text;
 use pf_session::EngineFault;
 use std::alloc::Global;
@@ -79,7 +80,7 @@ pub(crate) fn carry<R: Read, W: Write>(
 // Sends what the reader gives, and then that no more comes.
 fn send<R: Read>(
     alloc: Global,
-    stream: &TcpStream,
+    stream: &Stream,
     reader: &mut R,
     has_ended: &AtomicBool,
 ) -> Result<(), EngineFault> {
@@ -93,7 +94,7 @@ fn send<R: Read>(
 // Writes what the server answers, which ends once the server knows that no more comes.
 fn receive<W: Write>(
     alloc: Global,
-    stream: &TcpStream,
+    stream: &Stream,
     writer: &mut W,
     has_ended: &AtomicBool,
 ) -> Result<(), EngineFault> {
@@ -110,8 +111,8 @@ fn receive<W: Write>(
     }
 }
 
-/// Sends what the reader gives to the server at the address, and writes what it answers, until the reader is at its end and the server has
-/// closed. Both go on at once, so that a reply is written before more is read.
+/// Sends what the reader gives to the server at the address, or at the Unix socket whose path it is, and writes what it answers, until the
+/// reader is at its end and the server has closed. Both go on at once, so that a reply is written before more is read.
 ///
 /// `Err(Read)`: nobody answers at the address, or a read of the reader failed. `Err(Write)`: the server closed before the reader's end,
 /// or a write failed; if the reader waits then, this returns with what it gives next. `Err(Memory)`: out of memory.
@@ -126,7 +127,7 @@ pub(crate) fn connect<
     reader: &mut R,
     writer: &mut W,
 ) -> Result<(), EngineFault> {
-    let Ok(stream) = TcpStream::connect(net, address) else {
+    let Ok(stream) = Stream::connect(net, address) else {
         return Err(EngineFault::Read);
     };
     let has_ended = AtomicBool::new(false);

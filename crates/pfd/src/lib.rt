@@ -2,8 +2,12 @@
 //!
 //! - `program`: does what the program's words ask, which `pfd_words` reads, and ends with a status.
 //! - `accepting`: which connections are served, and under which numbers, by what accepting them gives.
+//! - `admitting`: what a connection may be, by the address that it came to, and what it is.
+//! - `stream`: a connection, by TCP or by a Unix socket.
+//! - `socket_file`: the file of a Unix socket.
+//! - `door`: where connections come from, and for how long one may be silent.
 //! - `listener`: TCP connections, each served by a worker as a session or a peer's stream, over one Book that all share.
-//! - `client`: the other end of a connection. Only these last two know sockets.
+//! - `client`: the other end of a connection. Only these last five know sockets.
 //! - `fullness`: how full the disk on a file is, and when that is said on standard error.
 //! - `laws`: the limits of the program, and the laws of sessions.
 //!
@@ -21,24 +25,30 @@
 #![tactic(auto)]
 
 mod accepting;
+mod admitting;
 mod client;
+mod door;
 mod fullness;
 pub mod laws;
 mod listener;
 mod program;
+mod socket_file;
+mod stream;
 
 pub use accepting::Accept;
+pub use admitting::Admits;
 pub use listener::serve_listener;
 pub use pf_book::{
     Book, Chapter, Disk, FuseDisk, MemDisk, NewCalls, Numbering, Opening, Receipt, Seer, Shared,
     format,
 };
 pub use pf_session::{
-    EngineFault, Gate, OpenGate, line_engine, serve, serve_alone, serve_from, serve_peer,
-    serve_peer_from,
+    EngineFault, Gate, OpenGate, line_engine, serve, serve_alone, serve_asking, serve_from,
+    serve_peer, serve_peer_from,
 };
 pub use pfd_files::{Fault, format_on, show_on};
 pub use program::{
     HISTORY_LIMIT, MEMORY_SIZE, MOST_HISTORY, MOST_WORKERS, WORKERS, open_fresh, run_process,
     start, without_words,
 };
+pub use stream::{Arrival, Stream};

@@ -1,60 +1,41 @@
 //! Connections, and the workers that serve them. No clause can say what a socket gives and takes, so this is only tested.
 ghost use Rattle.std.specs.Prelude.{◌≡◌, ◌⊎◌, IfErr};
+ghost use Rattle.pf_addr.specs.Writing.{Writes};
+ghost use Rattle.pf_session.specs.Server.Askings.{denied_text};
 
 use crate::accepting::{Accept, Acceptor};
+use crate::admitting::{Way, way_of};
+use crate::stream::{Arrival, Begun, Stream};
 use pf_book::shared::Shared;
 use pf_book::{Chapter, Disk, Numbering, Publisher, Seer};
-use pf_session::{EngineFault, Gate, serve, serve_peer};
+use pf_session::{EngineFault, Gate, deny, serve, serve_asking, serve_peer};
 use std::alloc::Global;
-use std::io::{self, BufWriter, ErrorKind, Read};
-use std::net::{Shutdown, TcpListener, TcpStream};
+use std::io::{self, BufWriter, Read, Write};
+use std::net::{Shutdown, TcpListener};
 use std::sync::{Mutex, Wait};
 use std::thread;
 use std::thread::Threads;
 use std::time::Duration;
 
-// What a peer's stream begins with, and no line does.
-const PEER: u8 = 5;
-
 // At most so many reads are made of what a peer sends after a fault.
 const MOST_DROPPED: usize = 64;
 
 impl Accept for TcpListener {
-    type Connection = TcpStream;
+    type Connection = Arrival;
 
-    fn accept(&self) -> io::Result<TcpStream> {
+    fn accept(&self) -> io::Result<Arrival> {
         match TcpListener::accept(self) {
-            Ok((stream, _)) => Ok(stream),
+            Ok((stream, _)) => Ok(Arrival::from(stream)),
             Err(error) => Err(error),
         }
     }
 }
 
-// The first byte of a connection, which stays to be read. `None`: it ended before there was one, or failed.
-fn first_byte(stream: &TcpStream) -> Option<u8> {
-    let mut first = [0u8; 1];
-    for _ in 0..u64::MAX {
-        match stream.peek(&mut first) {
-            Ok(0) => return None,
-            Ok(_) => return Some(first[0]),
-            Err(error) => {
-                if error.kind() != ErrorKind::Interrupted {
-                    return None;
-                }
-            }
-        }
-    }
-    None
-}
-
 // Drops what a peer sends after a fault, for some reads, until it sends nothing for a second or closes: the system resets a connection
 // that is closed with unread bytes, and the peer might not read of its fault.
-fn drop_rest(stream: &TcpStream) {
+fn drop_rest(stream: &Stream) {
     let _ = stream.shutdown(Shutdown::Write);
-    if stream
-        .set_read_timeout(Some(Duration::from_secs(1)))
-        .is_err()
-    {
+    if stream.limit_reads(Some(Duration::from_secs(1))).is_err() {
         return;
     }
     let mut reader = stream;
@@ -77,29 +58,23 @@ fn serve_connection<
 >(
     rt: &W,
     alloc: Global,
-    stream: &TcpStream,
+    arrival: &Arrival,
     shared: &Shared<D, J, S>,
     seer: &mut Seer<J>,
     gate: &G,
     session: u32,
 ) -> Result<(), EngineFault> {
-    let Some(first) = first_byte(stream) else {
+    let stream = &arrival.stream;
+    let Some((first, mut reader)) = Begun::of(stream) else {
         return Ok(());
     };
     // a reply goes out at once, and doesn't wait for the next
-    let _ = stream.set_nodelay(true);
-    let mut reader = stream;
+    stream.hasten();
     let Ok(mut writer) = BufWriter::new(alloc, stream) else {
         return Err(EngineFault::Memory);
     };
-    if first == PEER {
-        let served = serve_peer(rt, alloc, &mut reader, &mut writer, shared);
-        if served.is_ok() {
-            drop_rest(stream);
-        }
-        served
-    } else {
-        serve(
+    match way_of(arrival.admits, first) {
+        Way::Session => serve(
             rt,
             alloc,
             &mut reader,
@@ -108,7 +83,49 @@ fn serve_connection<
             seer,
             gate,
             session,
-        )
+        ),
+        Way::Asking => serve_asking(
+            rt,
+            alloc,
+            &mut reader,
+            &mut writer,
+            shared,
+            seer,
+            gate,
+            session,
+        ),
+        Way::Stream => {
+            let served = serve_peer(rt, alloc, &mut reader, &mut writer, shared);
+            if served.is_ok() {
+                drop_rest(stream);
+            }
+            served
+        }
+        Way::Denied => {
+            let turned = turn_away(&mut writer);
+            drop_rest(stream);
+            turned
+        }
+    }
+}
+
+// Says that what came isn't let in.
+fn say_denied<O: Write>(writer: &mut O) -> io::Result<()>
+    ensures { Writes result (O.contents writer.old) (O.contents writer.new) denied_text }
+{
+    match deny(writer) {
+        Ok(()) => writer.flush(),
+        Err(error) => Err(error),
+    }
+}
+
+// The same, as a connection's end.
+fn turn_away<O: Write>(writer: &mut O) -> Result<(), EngineFault>
+    ensures { Writes result (O.contents writer.old) (O.contents writer.new) denied_text }
+{
+    match say_denied(writer) {
+        Ok(()) => Ok(()),
+        Err(_) => Err(EngineFault::Write),
     }
 }
 
@@ -118,7 +135,7 @@ trait ServeConnection<J: Chapter> {
     fn serve_connection(
         &self,
         alloc: Global,
-        stream: &TcpStream,
+        arrival: &Arrival,
         seer: &mut Seer<J>,
         session: u32,
     ) -> Result<(), EngineFault>;
@@ -150,14 +167,14 @@ impl<
     fn serve_connection(
         &self,
         alloc: Global,
-        stream: &TcpStream,
+        arrival: &Arrival,
         seer: &mut Seer<J>,
         session: u32,
     ) -> Result<(), EngineFault> {
         serve_connection(
             self.rt,
             alloc,
-            stream,
+            arrival,
             self.shared,
             seer,
             self.gate,
@@ -167,16 +184,16 @@ impl<
 }
 
 // The next connection for a worker that is free, if there is one.
-fn next_connection<W: Wait, A: Accept<Connection = TcpStream>>(
+fn next_connection<W: Wait, A: Accept<Connection = Arrival>>(
     rt: &W,
     listener: &A,
     acceptor: &Mutex<Acceptor>,
-) -> Option<(TcpStream, u32)> {
+) -> Option<(Arrival, u32)> {
     acceptor.lock(rt).next(listener)
 }
 
 // Serves one connection after the other, with one seer.
-fn work<W: Wait, A: Accept<Connection = TcpStream>, J: Chapter, S: ServeConnection<J>>(
+fn work<W: Wait, A: Accept<Connection = Arrival>, J: Chapter, S: ServeConnection<J>>(
     rt: &W,
     alloc: Global,
     listener: &A,
@@ -185,18 +202,18 @@ fn work<W: Wait, A: Accept<Connection = TcpStream>, J: Chapter, S: ServeConnecti
     mut seer: Seer<J>,
 ) {
     for _ in rt.forever() {
-        let Some((stream, session)) = next_connection(rt, listener, acceptor) else {
+        let Some((arrival, session)) = next_connection(rt, listener, acceptor) else {
             return;
         };
         // a fault of a connection ends it alone
-        let _ = server.serve_connection(alloc, &stream, &mut seer, session);
+        let _ = server.serve_connection(alloc, &arrival, &mut seer, session);
     }
 }
 
 // Has each of these seers work in a thread. `Err(Memory)`: out of memory for the threads.
 fn work_all<
     M: Wait + Threads + Sync,
-    A: Accept<Connection = TcpStream> + Sync,
+    A: Accept<Connection = Arrival> + Sync,
     J: Chapter + Send + Sync,
     S: ServeConnection<J> + Sync,
 >(
@@ -225,9 +242,10 @@ fn work_all<
 ///
 /// A worker serves one connection at a time; further ones wait until a worker is free. Sessions are numbered from 1 in the order in which
 /// their connections were accepted, and the number stays at 4,294,967,295 once it has come so far. A connection whose first byte is 5 is
-/// a peer's stream, as in [`serve_peer`], any other a session, as in [`serve`]. What ends one before its client does, as a reset or a
-/// lack of memory, ends it alone. What a peer sends after a fault of its stream is dropped before its connection is closed, in at most 64
-/// reads of 16,384 bytes, and until nothing comes for a second, so that it can read of its fault.
+/// a peer's stream, as in [`serve_peer`], any other a session, as in [`serve`] or, where it may only ask, in [`serve_asking`]. One that
+/// isn't admitted where it came is told `err denied`, and closed. What ends one before its client does, as a reset or a lack of memory,
+/// ends it alone. What a peer sends after a fault of its stream, or one that was denied, is dropped before its connection is closed, in at
+/// most 64 reads of 16,384 bytes, and until nothing comes for a second, so that it can read of its fault.
 ///
 /// Each worker has a thread, if the system gives it one; workers without one begin when others have ended.
 ///
@@ -235,7 +253,7 @@ fn work_all<
 /// threads.
 pub fn serve_listener<
     M: Wait + Threads + Sync,
-    A: Accept<Connection = TcpStream> + Sync,
+    A: Accept<Connection = Arrival> + Sync,
     D: Disk + Drop + Send,
     J: Chapter + Numbering + Send + Sync,
     S: Publisher<J> + Drop + Send,

@@ -63,6 +63,6 @@ fn play<N: Wait + Threads + Net<Listener = TcpListener, Stream = TcpStream> + Sy
         Kind::Lines => Ok(play_lines(machine, rt.alloc(), table)?),
         Kind::Words => start_each(machine, rt, table),
         Kind::Clients => serve_each(machine, rt, table),
-        Kind::Sessions | Kind::Peers => Ok(share_each(machine, rt.alloc(), table)?),
+        Kind::Sessions | Kind::Askers | Kind::Peers => Ok(share_each(machine, rt.alloc(), table)?),
     }
 }

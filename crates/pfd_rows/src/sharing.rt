@@ -11,7 +11,10 @@ use crate::tally::{Case, Outcome, Tally};
 use pf_book::book::Book;
 use pf_book::shared::Shared;
 use pf_view::views;
-use pfd::{Chapter, EngineFault, Gate, NewCalls, Numbering, Opening, Seer, serve, serve_peer};
+use pfd::{
+    Chapter, EngineFault, Gate, NewCalls, Numbering, OpenGate, Opening, Seer, serve, serve_asking,
+    serve_peer,
+};
 use std::alloc::{AllocError, Global};
 use std::marker::Brand;
 use std::sync::Wait;
@@ -56,10 +59,39 @@ fn end_of(
     format!(in alloc; "{word} {number}{order}\n")
 }
 
+// Plays what a session says before that of a row. What it is told is in no row.
+fn begin_with<J: Chapter + Numbering, R: Wait>(
+    rt: &R,
+    alloc: Global,
+    shared: &SharedBook<J, &R>,
+    seer: &mut Seer<J>,
+    before: &[&str],
+) -> Result<(), AllocError> {
+    for text in before {
+        let input = line_bytes(alloc, text)?;
+        let watch = &Watch::new(true);
+        let mut written = Vec::new(alloc);
+        let mut reader = Script::new(input.as_slice(), watch);
+        let mut writer = Tight::new(&mut written, "", watch);
+        let _ = serve(
+            rt,
+            alloc,
+            &mut reader,
+            &mut writer,
+            shared,
+            seer,
+            &OpenGate,
+            SESSION,
+        );
+    }
+    Ok(())
+}
+
 // Plays one session. Its end says how many lines passed its gate.
 fn run_session<J: Chapter + Numbering, R: Wait>(
     rt: &R,
     alloc: Global,
+    kind: Kind,
     shared: &SharedBook<J, &R>,
     seer: &mut Seer<J>,
     case: &Case,
@@ -75,16 +107,11 @@ fn run_session<J: Chapter + Numbering, R: Wait>(
         last: AtomicU32::new(0),
         is_wrong: AtomicBool::new(false),
     };
-    let ended = serve(
-        rt,
-        alloc,
-        &mut reader,
-        &mut writer,
-        shared,
-        seer,
-        &gate,
-        SESSION,
-    );
+    let (reader, writer) = (&mut reader, &mut writer);
+    let ended = match kind {
+        Kind::Askers => serve_asking(rt, alloc, reader, writer, shared, seer, &gate, SESSION),
+        _ => serve(rt, alloc, reader, writer, shared, seer, &gate, SESSION),
+    };
     let lines = gate.last.load(Ordering::SeqCst) as usize;
     let end = end_of(alloc, ended, lines, gate.is_wrong.load(Ordering::SeqCst))?;
     Ok(Outcome { end, written })
@@ -142,7 +169,7 @@ fn book_of<'a, J: Chapter, R: Wait>(
 fn share<J: Chapter + Numbering, R: Wait>(
     rt: &R,
     alloc: Global,
-    kind: Kind,
+    table: &Table,
     opening: Opening<Device>,
     calls: NewCalls,
     history: usize,
@@ -158,9 +185,10 @@ fn share<J: Chapter + Numbering, R: Wait>(
     let Some(mut seer) = seers.pop() else {
         return Err(AllocError);
     };
-    match kind {
+    begin_with(rt, alloc, &shared, &mut seer, table.before.as_slice())?;
+    match table.kind {
         Kind::Peers => follow(rt, alloc, shared, case),
-        _ => run_session(rt, alloc, &shared, &mut seer, case),
+        kind => run_session(rt, alloc, kind, &shared, &mut seer, case),
     }
 }
 
@@ -175,7 +203,7 @@ pub(crate) fn share_each<R: Wait>(
     for case in &table.cases(alloc)? {
         let opening = opening_of(alloc, table)?;
         let calls = NewCalls::open();
-        let outcome = share::<Brand, _>(rt, alloc, table.kind, opening, calls, history, case)?;
+        let outcome = share::<Brand, _>(rt, alloc, table, opening, calls, history, case)?;
         tally.note(alloc, case, &outcome)?;
     }
     Ok(tally)

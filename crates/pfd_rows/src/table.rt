@@ -20,6 +20,8 @@ pub(crate) enum Kind {
     Words,
     /// Sessions over a Book that callers may share.
     Sessions,
+    /// Sessions over such a Book that may ask and change nothing.
+    Askers,
     /// Peers' streams over such a Book.
     Peers,
     /// Clients of a server.
@@ -91,6 +93,7 @@ impl<'a> Table<'a> {
         match word {
             "words" => self.kind = Kind::Words,
             "session" => self.kind = Kind::Sessions,
+            "asking" => self.kind = Kind::Askers,
             "peer" => self.kind = Kind::Peers,
             "server" => {
                 self.kind = Kind::Clients;

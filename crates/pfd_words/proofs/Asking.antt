@@ -53,11 +53,20 @@ pub named : (met : Option (Text × List Row)) (rows : List Row) → Some rows �
 named None rows is = absurd (cc (is))
 named (Some (name, others)) rows is = let e : others ≡ rows = cc (is) in (name, ap (λ (r : List Row). Some (name, r)) e)
 
+-- a text is the option's, or a default without one
+pub text_read : (o : Option (Bor Text)) (d : Bor Text) (text : Text) (v : Option Text) → d.now ≡ text → option_map (λ s. s.now) o ≡ v
+    → (unwrap_or o d).now ≡ unwrap_or v text
+text_read None d text v default is = default ∙ ap (λ (x : Option Text). unwrap_or x text) is
+text_read (Some s) d text v default is = ap (λ (x : Option Text). unwrap_or x text) is
+
 -- a path is the option's text, or empty without one
 pub path_read : (o : Option (Bor Text)) (d : Bor Text) (v : Option Text) → d.now ≡ [] → option_map (λ s. s.now) o ≡ v
     → (unwrap_or o d).now ≡ unwrap_or v []
-path_read None d v empty is = empty ∙ ap (λ (x : Option Text). unwrap_or x []) is
-path_read (Some s) d v empty is = ap (λ (x : Option Text). unwrap_or x []) is
+path_read o d v empty is = text_read o d [] v empty is
+
+-- texts are the option's, or there are none without one
+pub texts_read : (o v w : Option (List Text)) → o ≡ v → v ≡ w → unwrap_or o [] ≡ unwrap_or w []
+texts_read o v w here is = ap (λ (x : Option (List Text)). unwrap_or x []) (here ∙ is)
 
 -- a number is what the option's text spells, or none without one
 pub number_if_read : {E : Type 0} (gives : Text → Result ℕ E → Type 0) → ((t : Text) (x : Result ℕ E) → gives t x → ParsesUnsigned 64 10 t x)

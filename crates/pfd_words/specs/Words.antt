@@ -1,6 +1,7 @@
 -- The program's command line, as clap reads it, and what it asks for.
-use Rattle.std.specs.{Prelude.{◌≡◌, ◌≤◌, ℕ, true, List, [], ◌∷◌, Option, Some, None, codes, option_and_then, option_map, pos, unwrap_or}, Str.Parse.{IsNumeral, digits_value, without_leading_plus}}
-use Rattle.clap.specs.{Simple.on_top, Words.{App, Row, Rule, Text, new_app, new_rule, one_of, first_of, with_rule, with_subcommand}}
+use Rattle.std.specs.{Prelude.{◌≡◌, ◌≤◌, ℕ, true, List, [], ◌∷◌, Option, Some, None, codes, map, option_and_then, option_map, pos, unwrap_or}, Str.Parse.{IsNumeral, digits_value, without_leading_plus}}
+use Rattle.clap.specs.{Simple.on_top, Words.{App, Row, Rule, Text, new_app, all_of, new_rule, one_of, first_of, with_rule, with_subcommand}}
+use Rattle.clap.specs.declared.builder.action.ArgAction.TheVariants.{Append}
 use Rattle.clap.specs.declared.builder.value_parser.ValueParser.TheVariants.{Signed}
 use Rattle.pfd_words.specs.declared.words.{Service.Service, Task.Task, Task.TheVariants.{Run, RunOn, Format, Show, Serve, Connect}, TheConstants.{MEMORY_SIZE, HISTORY_LIMIT, MOST_HISTORY, WORKERS, MOST_WORKERS}}
 
@@ -20,14 +21,29 @@ history_rule = number_rule (codes "history") 1 1048576
 abbrev pub disk_rule : Rule
 disk_rule = record (new_rule (codes "disk")) { long = Some (codes "disk"); value_names = 1 }
 
+-- it may be said again
 abbrev pub listen_rule : Rule
-listen_rule = record (new_rule (codes "listen")) { long = Some (codes "listen"); value_names = 1 }
+listen_rule = record (new_rule (codes "listen")) { long = Some (codes "listen"); value_names = 1; action = Some Append }
+
+-- it may be said again
+abbrev pub peers_rule : Rule
+peers_rule = record (new_rule (codes "peers")) { long = Some (codes "peers"); value_names = 1; action = Some Append }
+
+-- it may be said again
+abbrev pub ask_rule : Rule
+ask_rule = record (new_rule (codes "ask")) { long = Some (codes "ask"); value_names = 1; action = Some Append }
+
+abbrev pub mode_rule : Rule
+mode_rule = record (new_rule (codes "mode")) { long = Some (codes "mode"); value_names = 1 }
 
 abbrev pub workers_rule : Rule
 workers_rule = number_rule (codes "workers") 1 64
 
 abbrev pub sessions_rule : Rule
 sessions_rule = number_rule (codes "sessions") 0 4294967295
+
+abbrev pub idle_rule : Rule
+idle_rule = number_rule (codes "idle") 0 4294967295
 
 -- the subcommands, each with its options
 abbrev pub run_words : App
@@ -45,8 +61,14 @@ place_words = with_rule (with_rule (new_app (codes "serve")) (record listen_rule
 abbrev pub server_words : App
 server_words = with_rule (with_rule place_words (record size_rule { required = true })) workers_rule
 
+abbrev pub bounded_words : App
+bounded_words = with_rule (with_rule server_words history_rule) sessions_rule
+
+abbrev pub limited_words : App
+limited_words = with_rule (with_rule bounded_words idle_rule) mode_rule
+
 abbrev pub serve_words : App
-serve_words = with_rule (with_rule server_words history_rule) sessions_rule
+serve_words = with_rule (with_rule limited_words peers_rule) ask_rule
 
 abbrev pub connect_words : App
 connect_words = with_rule (new_app (codes "connect")) (record (new_rule (codes "address")) { value_names = 1; required = true })
@@ -104,14 +126,29 @@ SaysWorkers met n = SaysNumber 1 MOST_WORKERS WORKERS (digits_in (codes "workers
 abbrev pub SaysSessions : Option (Text × List Row) → ℕ → Type 0
 SaysSessions met n = SaysNumber 0 4294967295 0 (digits_in (codes "sessions") met) n
 
+abbrev pub SaysIdle : Option (Text × List Row) → ℕ → Type 0
+SaysIdle met n = SaysNumber 0 4294967295 0 (digits_in (codes "idle") met) n
+
+-- the texts of an option that may be said again, in their order
+abbrev pub SaysTexts : Text → Option (Text × List Row) → List Text → Type 0
+SaysTexts id met texts = texts ≡ unwrap_or (option_and_then (λ m. all_of id m.1) met) []
+
+-- the mode of a Unix socket's file: only its owner may connect, if nothing else is said
+abbrev pub SaysMode : Option (Text × List Row) → Text → Type 0
+SaysMode met mode = mode ≡ unwrap_or (text_in (codes "mode") met) (codes "0600")
+
 -- what `serve` asks for
 pub record AsksService (met : Option (Text × List Row)) (service : Service) : Type 0 where
-  pub address : SaysText (codes "listen") met service.address.now
+  pub addresses : SaysTexts (codes "listen") met (map (λ s. s.now) service.addresses.items)
+  pub peers : SaysTexts (codes "peers") met (map (λ s. s.now) service.peers.items)
+  pub askers : SaysTexts (codes "ask") met (map (λ s. s.now) service.askers.items)
+  pub mode : SaysMode met service.mode.now
   pub path : SaysPath met service.path.now
   pub size : SaysSize met 0 service.size
   pub workers : SaysWorkers met service.workers
   pub history : SaysHistory met service.history
   pub sessions : SaysSessions met service.sessions
+  pub idle : SaysIdle met service.idle
 
 -- The task is what the subcommand and its options ask for. Without `--disk` a session is in memory.
 abbrev pub IsAsked : Option (Text × List Row) → Task → Type 0

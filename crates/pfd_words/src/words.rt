@@ -1,11 +1,11 @@
 //! The subcommands with their options, as clap's commands, and the task that a command line asks for.
 ghost use Rattle.std.specs.Prelude.{◌≡◌, ◌≤◌, IfErr, IfOk, List, ℕ, Some, [], codes, false, map, option_map, string_bytes, unwrap_or};
-ghost use Rattle.clap.specs.Words.{app_of, found_of, kind_of, one_of, first_of, rows_of, rule_of, subcommand_of, subcommand_rows_of};
+ghost use Rattle.clap.specs.Words.{all_of, app_of, found_of, kind_of, one_of, first_of, rows_of, rule_of, subcommand_of, subcommand_rows_of};
 ghost use Rattle.clap.specs.declared.builder.command.Command.TheViews.{out-Command};
-ghost use Rattle.pfd_words.specs.Words.{IsPlainRun, plain_run, HasHistory, IsAsked, MaySayNumber, SaysNumber, disk_rule, history_rule, size_rule, listen_rule, workers_rule, sessions_rule, run_words, format_words, show_words, place_words, server_words, serve_words, connect_words, program_words};
+ghost use Rattle.pfd_words.specs.Words.{IsPlainRun, plain_run, HasHistory, IsAsked, MaySayNumber, SaysNumber, disk_rule, history_rule, size_rule, listen_rule, workers_rule, sessions_rule, idle_rule, mode_rule, peers_rule, ask_rule, run_words, format_words, show_words, place_words, server_words, bounded_words, limited_words, serve_words, connect_words, program_words};
 
 use clap::error::ErrorKind;
-use clap::{Arg, ArgMatches, Command, Error, value_parser};
+use clap::{Arg, ArgAction, ArgMatches, Command, Error, value_parser};
 use std::alloc::{AllocError, Global};
 
 /// How many bytes a session's memory disk has by default. Definitions cite it.
@@ -23,17 +23,25 @@ pub const WORKERS: usize = 4;
 /// The most workers that a server may have. Definitions cite it.
 pub const MOST_WORKERS: usize = 64;
 
-// The greatest number of connections that `--sessions` can say.
+// The greatest number of connections that `--sessions` can say, and of seconds that `--idle` can.
 const MOST_SESSIONS: usize = 4_294_967_295;
+
+const MOST_SECONDS: usize = 4_294_967_295;
 
 /// The program's version, which `pfd --version` writes after its name.
 const VERSION: &str = "0.1.0";
 
-/// What `serve` asks for: a server, with its address, its disk and its limits.
-#[derive(Clone, Copy, Debug, PartialEq, Eq)]
+/// What `serve` asks for: a server, with its addresses, its disk and its limits.
+#[derive(Debug, PartialEq, Eq, Drop)]
 pub struct Service<'a> {
-    /// The address to listen on, as it was typed: it may not be one.
-    pub address: &'a str,
+    /// The addresses to listen on, one or more, as they were typed: they may not be any.
+    pub addresses: Vec<&'a str>,
+    /// Further addresses, at which only peers' streams are taken. If there are any, the others take none.
+    pub peers: Vec<&'a str>,
+    /// Further addresses, at which sessions may ask and change nothing.
+    pub askers: Vec<&'a str>,
+    /// The mode of the files of Unix sockets among them, in octal, as it was typed: it may not be one.
+    pub mode: &'a str,
     /// The path of the file that is the disk.
     pub path: &'a str,
     /// How many bytes the file must have, any number up to 4,294,967,295.
@@ -44,10 +52,12 @@ pub struct Service<'a> {
     pub history: usize,
     /// After how many connections the server ends; 0 means never.
     pub sessions: u32,
+    /// After how many seconds in which nothing came a connection is closed; 0 means never.
+    pub idle: u32,
 }
 
 /// What a command line asks for. A `history` is 1 to 1,048,576 changes; a `size` is in bytes, any number up to 4,294,967,295.
-#[derive(Clone, Copy, Debug, PartialEq, Eq)]
+#[derive(Debug, PartialEq, Eq, Drop)]
 pub enum Task<'a> {
     /// A session on a disk in memory of `size` bytes, whose history may have `history` changes.
     Run {
@@ -115,9 +125,43 @@ fn listen<'a>(alloc: Global) -> Arg<'a>
     Arg::new(alloc, "listen")
         .long("listen")
         .value_name("ADDR")
+        .action(ArgAction::Append)
         .help(
-            "The address and port to listen on, as 127.0.0.1:7070 or [::1]:7070; port 0 takes a free one",
+            "The address and port to listen on, as 127.0.0.1:7070 or [::1]:7070, or the path of a Unix socket; may be said again",
         )
+}
+
+fn peers<'a>(alloc: Global) -> Arg<'a>
+    ensures rule { rule_of result ≡ peers_rule }
+    ensures local { result.global ≡ false }
+{
+    Arg::new(alloc, "peers")
+        .long("peers")
+        .value_name("ADDR")
+        .action(ArgAction::Append)
+        .help(
+            "A further address, for peers' streams alone, which no other then takes; may be said again",
+        )
+}
+
+fn ask<'a>(alloc: Global) -> Arg<'a>
+    ensures rule { rule_of result ≡ ask_rule }
+    ensures local { result.global ≡ false }
+{
+    Arg::new(alloc, "ask")
+        .long("ask")
+        .value_name("ADDR")
+        .action(ArgAction::Append)
+        .help("A further address, at which clients may ask and change nothing; may be said again")
+}
+
+fn mode<'a>(alloc: Global) -> Arg<'a>
+    ensures rule { rule_of result ≡ mode_rule }
+    ensures local { result.global ≡ false }
+{
+    Arg::new(alloc, "mode").long("mode").value_name("MODE").help(
+        "The mode of a Unix socket's file, in octal [default: 0600]",
+    )
 }
 
 fn workers<'a>(alloc: Global) -> Arg<'a>
@@ -140,6 +184,17 @@ fn sessions<'a>(alloc: Global) -> Arg<'a>
         .value_name("N")
         .value_parser(value_parser!(u32))
         .help("Ends once so many connections have ended; 0 never [default: 0]")
+}
+
+fn idle<'a>(alloc: Global) -> Arg<'a>
+    ensures rule { rule_of result ≡ idle_rule }
+    ensures local { result.global ≡ false }
+{
+    Arg::new(alloc, "idle")
+        .long("idle")
+        .value_name("SECONDS")
+        .value_parser(value_parser!(u32))
+        .help("Closes a connection on which nothing came for so long; 0 never [default: 0]")
 }
 
 fn run_words<'a>(alloc: Global) -> Result<Command<'a>, AllocError>
@@ -177,7 +232,7 @@ fn show_words<'a>(alloc: Global) -> Result<Command<'a>, AllocError>
         .arg(disk(alloc).required(true))
 }
 
-// The options of `serve`, added two at a time by the next three functions.
+// The options of `serve`, added two at a time by the next five functions.
 
 fn place_words<'a>(alloc: Global) -> Result<Command<'a>, AllocError>
     ensures app { IfOk result (λ c. app_of c ≡ place_words) }
@@ -199,12 +254,26 @@ fn server_words<'a>(alloc: Global) -> Result<Command<'a>, AllocError>
     place_words(alloc)?.arg(size)?.arg(workers(alloc))
 }
 
-fn serve_words<'a>(alloc: Global) -> Result<Command<'a>, AllocError>
-    ensures app { IfOk result (λ c. app_of c ≡ serve_words) }
+fn bounded_words<'a>(alloc: Global) -> Result<Command<'a>, AllocError>
+    ensures app { IfOk result (λ c. app_of c ≡ bounded_words) }
     ensures local { IfOk result (λ c. (out-Command c).has_globals ≡ false) }
 {
     let history = history(alloc).help("How many changes the process may make [default: 65536]");
     server_words(alloc)?.arg(history)?.arg(sessions(alloc))
+}
+
+fn limited_words<'a>(alloc: Global) -> Result<Command<'a>, AllocError>
+    ensures app { IfOk result (λ c. app_of c ≡ limited_words) }
+    ensures local { IfOk result (λ c. (out-Command c).has_globals ≡ false) }
+{
+    bounded_words(alloc)?.arg(idle(alloc))?.arg(mode(alloc))
+}
+
+fn serve_words<'a>(alloc: Global) -> Result<Command<'a>, AllocError>
+    ensures app { IfOk result (λ c. app_of c ≡ serve_words) }
+    ensures local { IfOk result (λ c. (out-Command c).has_globals ≡ false) }
+{
+    limited_words(alloc)?.arg(peers(alloc))?.arg(ask(alloc))
 }
 
 fn connect_words<'a>(alloc: Global) -> Result<Command<'a>, AllocError>
@@ -243,33 +312,33 @@ pub fn read_words<'a>(alloc: Global, words: &'a [String]) -> Result<Task<'a>, Er
     ensures alone { IsPlainRun (map string_bytes words.entry.now) → IfOk result (λ task. task ≡ plain_run) }
 {
     match program_words(alloc)?.try_get_matches_from(words) {
-        Ok(matches) => Ok(task_of(&matches)),
+        Ok(matches) => Ok(task_of(alloc, &matches)?),
         Err(error) => Err(error),
     }
 }
 
-// The task of the subcommand that clap found. There always is one, with its required options.
-fn task_of<'a>(matches: &ArgMatches<'a>) -> Task<'a>
-    ensures asked { IsAsked (subcommand_rows_of matches.now) result }
-    ensures history { HasHistory result }
+// The task of the subcommand that clap found. There always is one, with its required options. Only the addresses of `serve` take memory.
+fn task_of<'a>(alloc: Global, matches: &ArgMatches<'a>) -> Result<Task<'a>, AllocError>
+    ensures asked { IfOk result (λ task. IsAsked (subcommand_rows_of matches.now) task) }
+    ensures history { IfOk result HasHistory }
 {
     match matches.subcommand() {
-        Some(("format", found)) => Task::Format {
+        Some(("format", found)) => Ok(Task::Format {
             path: text_in(found, "disk"),
             size: number_in(found, "size", 0),
-        },
-        Some(("show", found)) => Task::Show {
+        }),
+        Some(("show", found)) => Ok(Task::Show {
             path: text_in(found, "disk"),
-        },
-        Some(("serve", found)) => server_in(found),
-        Some(("connect", found)) => Task::Connect {
+        }),
+        Some(("serve", found)) => server_in(alloc, found),
+        Some(("connect", found)) => Ok(Task::Connect {
             address: text_in(found, "address"),
-        },
-        Some((_, found)) => session_in(found),
-        None => Task::Run {
+        }),
+        Some((_, found)) => Ok(session_in(found)),
+        None => Ok(Task::Run {
             size: MEMORY_SIZE,
             history: HISTORY_LIMIT,
-        },
+        }),
     }
 }
 
@@ -293,19 +362,48 @@ fn session_in<'a>(found: &ArgMatches<'a>) -> Task<'a>
 }
 
 // The task of `serve`.
-fn server_in<'a>(found: &ArgMatches<'a>) -> Task<'a>
-    ensures asked { IsAsked (Some (codes "serve", rows_of (found_of found.now))) result }
-    ensures history { HasHistory result }
+fn server_in<'a>(alloc: Global, found: &ArgMatches<'a>) -> Result<Task<'a>, AllocError>
+    ensures asked { IfOk result (λ task. IsAsked (Some (codes "serve", rows_of (found_of found.now))) task) }
+    ensures history { IfOk result HasHistory }
 {
+    let addresses = texts_in(alloc, found, "listen")?;
+    let peers = texts_in(alloc, found, "peers")?;
+    let askers = texts_in(alloc, found, "ask")?;
     let sessions = number_in(found, "sessions", 0).min(MOST_SESSIONS);
-    Task::Serve(Service {
-        address: text_in(found, "listen"),
+    let idle = number_in(found, "idle", 0).min(MOST_SECONDS);
+    Ok(Task::Serve(Service {
+        addresses,
+        peers,
+        askers,
+        mode: mode_in(found),
         path: text_in(found, "disk"),
         size: number_in(found, "size", 0),
         workers: number_in(found, "workers", WORKERS).clamp(1, MOST_WORKERS),
         history: number_in(found, "history", HISTORY_LIMIT).clamp(1, MOST_HISTORY),
         sessions: sessions as u32,
-    })
+        idle: idle as u32,
+    }))
+}
+
+// The texts of an option that may be said again, in their order.
+fn texts_in<'a>(
+    alloc: Global,
+    found: &ArgMatches<'a>,
+    option: &str,
+) -> Result<Vec<&'a str>, AllocError>
+    ensures { IfOk result (λ texts. map (λ s. s.now) texts.items ≡ unwrap_or (all_of option.now (rows_of (found_of found.now))) []) }
+{
+    match found.get_strs(option) {
+        Some(texts) => texts.to_vec(alloc),
+        None => Ok(Vec::new(alloc)),
+    }
+}
+
+// The mode that is said, or the one by which only the owner may connect.
+fn mode_in<'a>(found: &ArgMatches<'a>) -> &'a str
+    ensures { result.now ≡ unwrap_or (first_of (codes "mode") (rows_of (found_of found.now))) (codes "0600") }
+{
+    found.get_str("mode").unwrap_or("0600")
 }
 
 // The text of an option that must be there.

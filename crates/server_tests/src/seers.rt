@@ -7,13 +7,12 @@ use pf_core::Command;
 use pf_line::{parse_line, write_judged};
 use pf_rule::Packet;
 use pfd::{
-    Accept, Book, Chapter, EngineFault, HISTORY_LIMIT, MEMORY_SIZE, MemDisk, NewCalls, Numbering,
-    OpenGate, Opening, Receipt, Seer, Shared, open_fresh, serve_listener,
+    Accept, Arrival, Book, Chapter, EngineFault, HISTORY_LIMIT, MEMORY_SIZE, MemDisk, NewCalls,
+    Numbering, OpenGate, Opening, Receipt, Seer, Shared, open_fresh, serve_listener,
 };
 use std::alloc::Global;
 use std::io::{self, ErrorKind};
 use std::marker::Brand;
-use std::net::TcpStream;
 use std::process::Abort;
 use std::sync::Wait;
 use std::sync::atomic::{AtomicU32, Ordering};
@@ -169,9 +168,9 @@ struct Unsteady {
 }
 
 impl Accept for Unsteady {
-    type Connection = TcpStream;
+    type Connection = Arrival;
 
-    fn accept(&self) -> io::Result<TcpStream> {
+    fn accept(&self) -> io::Result<Arrival> {
         match self.calls.fetch_add(1, Ordering::SeqCst) {
             0 | 1 => Err(io::Error::from(ErrorKind::ConnectionAborted)),
             _ => Err(io::Error::from(ErrorKind::Other)),

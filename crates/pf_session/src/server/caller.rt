@@ -2,6 +2,7 @@
 ghost use Rattle.std.specs.{Option.option_copied, Prelude.{◌≡◌, MatchOption, None, Ok, Err}};
 ghost use Rattle.pf_book.specs.{Groups.{IsGroupAnswered, told}, Receipts.IsAnswered, Together.IsAnsweredTogether};
 
+use crate::server::inquiry::Inquiry;
 use pf_book::shared::Shared;
 use pf_book::{Chapter, Disk, Numbering, Publisher, Receipt};
 use pf_core::{Command, Refusal, Reply};
@@ -31,6 +32,13 @@ pub(crate) trait CallBook<J: Chapter> {
         last: Option<&Receipt<J>>,
     ) -> Result<Vec<(Reply, Receipt<J>)>, Refusal>
         ensures { IsGroupAnswered J.base J.setting commands.now (told result) (option_copied last.entry) };
+}
+
+/// What answers the questions of a session that may change nothing, with receipts of the opening `J`. It can do nothing else.
+pub(crate) trait AskBook<J: Chapter> {
+    /// Asks this, as [`Shared::run`] does.
+    fn ask(&self, inquiry: Inquiry, last: Option<&Receipt<J>>) -> (Reply, Receipt<J>)
+        ensures { IsAnswered J.base J.setting inquiry.command result.0 result.1 (option_copied last.entry) };
 }
 
 /// A caller of a Book under a lock, which waits for it by a handle.
@@ -85,5 +93,12 @@ impl<'a, W: Wait, D: Disk + Drop, J: Chapter + Numbering, S: Publisher<J> + Drop
         last: Option<&Receipt<J>>,
     ) -> Result<Vec<(Reply, Receipt<J>)>, Refusal> {
         self.shared.group(self.rt, commands, last)
+    }
+}
+
+impl<'a, W: Wait, D: Disk + Drop, J: Chapter + Numbering, S: Publisher<J> + Drop> AskBook<J>
+    for Caller<'a, W, D, J, S> {
+    fn ask(&self, inquiry: Inquiry, last: Option<&Receipt<J>>) -> (Reply, Receipt<J>) {
+        self.shared.run(self.rt, inquiry.into_command(), last)
     }
 }

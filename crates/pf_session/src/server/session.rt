@@ -32,8 +32,8 @@ pub(crate) struct Session<'a, C: CallBook<J>, J: Chapter, G: Gate> {
     pub(super) last: &'a mut Option<Receipt<J>>,
 }
 
-// The packet that a command asks to judge, if it does.
-fn packet_in(command: &Command) -> Option<&Packet>
+/// The packet that a command asks to judge, if it does.
+pub(super) fn packet_in(command: &Command) -> Option<&Packet>
     ensures { option_map (λ packet. packet.now) result ≡ packet_in command.now }
 {
     match command {
@@ -60,9 +60,9 @@ fn command_of(
     }
 }
 
-// Writes what happens to a packet, or that no copy could say. It has no handle to wait by and no Book to ask: judging waits for the
-// writer alone.
-fn write_verdict<J: Chapter, O: Write>(
+/// Writes what happens to a packet, or that no copy could say. It has no handle to wait by and no Book to ask: judging waits for the
+/// writer alone.
+pub(super) fn write_verdict<J: Chapter, O: Write>(
     seer: &mut Seer<J>,
     packet: &Packet,
     writer: &mut O,

@@ -1,15 +1,19 @@
 //! The program's server. No clause can say what it listens on and serves, so this is only tested.
-ghost use Rattle.std.specs.Prelude.{◌≡◌, ℕ, List, IfOk};
+ghost use Rattle.std.specs.Prelude.{◌≡◌, ℕ, List, IfOk, flat_map, string_bytes};
 ghost use Rattle.pf_addr.specs.Writing.{Writes};
 ghost use Rattle.pf_book.specs.{Books.{IsNamed, world_book}, Receipts.IsReached};
 ghost use Rattle.pfd_words.specs.Words.{CanServe};
-ghost use Rattle.pfd.specs.Program.{listening_text};
+ghost use Rattle.pfd.specs.Program.{IsListening, listening_text};
 
+use crate::admitting::Admits;
+use crate::door::{Doors, Listener};
 use crate::fullness::gauge::{Gauge, tell_fullness};
 use crate::fullness::notice::Notice;
 use crate::fullness::watched::Watched;
 use crate::listener::serve_listener;
 use crate::program::ended::told;
+use crate::socket_file::listen_at;
+use crate::stream::is_path;
 use pf_addr::write_more;
 use pf_book::book::Book;
 use pf_book::shared::Shared;
@@ -19,7 +23,7 @@ use pf_view::{ViewFault, views};
 use pfd_files::{Fault, open_file};
 use pfd_words::Service;
 use std::alloc::Global;
-use std::fs::{File, Files};
+use std::fs::{self, File, Files};
 use std::io::{self, Write};
 use std::marker::Brand;
 use std::net::{Net, TcpListener, TcpStream};
@@ -46,14 +50,14 @@ pub(crate) fn serve_file<
     faults: &mut F,
 ) -> Result<(), Fault>
     requires { CanServe service.now }
-    ensures { (bound : List ℕ) × Writes result (W.contents writer.old) (W.contents writer.new) (listening_text bound) }
+    ensures { IsListening result (W.contents writer.old) (W.contents writer.new) }
 {
     let disk = open_file(alloc, files, service.path, Some(service.size))?;
     match Opening::open(alloc, disk) {
         Ok(opening) => {
             let calls = NewCalls::open();
-            serve_opening::<Brand, _, _, _, _>(
-                machine, alloc, opening, calls, service, writer, faults,
+            serve_opening::<Brand, _, _, _, _, _>(
+                machine, alloc, files, opening, calls, service, writer, faults,
             )
         }
         Err((fault, _disk)) => Err(Fault::from(fault)),
@@ -65,11 +69,13 @@ fn serve_opening<
     J: Chapter + Numbering + Send + Sync,
     D: Disk + Drop + Send,
     N: Wait + Threads + Net<Listener = TcpListener, Stream = TcpStream> + Sync,
+    S: Files<File = File>,
     W: Write,
     F: Write + Send,
 >(
     machine: &N,
     alloc: Global,
+    files: &S,
     opening: Opening<D>,
     calls: NewCalls,
     service: &Service<'_>,
@@ -79,7 +85,7 @@ fn serve_opening<
     requires service { CanServe service.now }
     requires name { IsNamed J.base J.history J.setting opening service.now.history }
     requires calls { calls ≡ J.register }
-    ensures { (bound : List ℕ) × Writes result (W.contents writer.old) (W.contents writer.new) (listening_text bound) }
+    ensures { IsListening result (W.contents writer.old) (W.contents writer.new) }
 {
     let mut gauge = Gauge::new(service.size as u64 / 2);
     tell_fullness(&mut gauge, opening.durable(), faults);
@@ -92,17 +98,18 @@ fn serve_opening<
         Err(fault) => return Err(fault),
     };
     let shared = Shared::new(book, calls);
-    let listener = listen(machine, alloc, service.address, writer)?;
+    let listening = open_doors(machine, alloc, files, service, writer)?;
     let served = serve_and_say(
         machine,
         alloc,
-        &listener,
+        &listening.doors,
         &shared,
         seers,
         service.sessions,
         &notice,
         faults,
     );
+    remove_sockets(files, &listening.names);
     told(served)
 }
 
@@ -163,7 +170,7 @@ fn serve_and_say<
 >(
     rt: &M,
     alloc: Global,
-    listener: &TcpListener,
+    doors: &Doors,
     shared: &Shared<D, J, S>,
     seers: Vec<Seer<J>>,
     sessions: u32,
@@ -174,7 +181,7 @@ fn serve_and_say<
         rt,
         || notice.say_all(rt, faults),
         || {
-            let served = serve_listener(rt, alloc, listener, shared, seers, &OpenGate, sessions);
+            let served = serve_listener(rt, alloc, doors, shared, seers, &OpenGate, sessions);
             notice.end(rt);
             served
         },
@@ -182,28 +189,162 @@ fn serve_and_say<
     served
 }
 
-// Listens on an address, and writes which one it got.
-fn listen<N: Net<Listener = TcpListener, Stream = TcpStream>, W: Write>(
+// What is listened on: the listeners, and what each address is called.
+#[derive(Drop)]
+struct Listening {
+    doors: Doors,
+    names: Vec<String>,
+}
+
+// Listens on all addresses, and writes which ones it got. If it can't, no file of a socket stays that it made.
+fn open_doors<N: Net<Listener = TcpListener, Stream = TcpStream>, S: Files<File = File>, W: Write>(
     net: &N,
     alloc: Global,
-    address: &str,
+    files: &S,
+    service: &Service<'_>,
     writer: &mut W,
-) -> Result<TcpListener, Fault>
-    ensures { (bound : List ℕ) × Writes result (W.contents writer.old) (W.contents writer.new) (listening_text bound) }
+) -> Result<Listening, Fault>
+    ensures { (bounds : List (List ℕ)) × Writes result (W.contents writer.old) (W.contents writer.new) (flat_map listening_text bounds) }
 {
+    let all = listen_to_all(net, alloc, files, service)?;
+    match tell_all(writer, all.names.as_slice()) {
+        Ok(()) => Ok(all),
+        Err(_) => {
+            remove_sockets(files, &all.names);
+            Err(Fault::Output)
+        }
+    }
+}
+
+// Listens on all addresses. Clients can connect then.
+fn listen_to_all<N: Net<Listener = TcpListener, Stream = TcpStream>, S: Files<File = File>>(
+    net: &N,
+    alloc: Global,
+    files: &S,
+    service: &Service<'_>,
+) -> Result<Listening, Fault> {
+    let mut all = Listening {
+        doors: Doors::new(alloc, service.idle),
+        names: Vec::new(alloc),
+    };
+    match listen_to_kinds(net, alloc, files, service, &mut all) {
+        Ok(()) => Ok(all),
+        Err(fault) => {
+            remove_sockets(files, &all.names);
+            Err(fault)
+        }
+    }
+}
+
+// Listens on the addresses of each kind.
+fn listen_to_kinds<N: Net<Listener = TcpListener, Stream = TcpStream>, S: Files<File = File>>(
+    net: &N,
+    alloc: Global,
+    files: &S,
+    service: &Service<'_>,
+    all: &mut Listening,
+) -> Result<(), Fault> {
+    let Some(mode) = mode_of(service.mode) else {
+        return Err(Fault::Input);
+    };
+    let admits = if service.peers.is_empty() {
+        Admits::Both
+    } else {
+        Admits::Sessions
+    };
+    listen_to_each(net, alloc, files, &service.addresses, admits, mode, all)?;
+    listen_to_each(
+        net,
+        alloc,
+        files,
+        &service.askers,
+        Admits::Questions,
+        mode,
+        all,
+    )?;
+    listen_to_each(net, alloc, files, &service.peers, Admits::Peers, mode, all)
+}
+
+// Listens on these addresses, whose connections may be this.
+fn listen_to_each<N: Net<Listener = TcpListener, Stream = TcpStream>, S: Files<File = File>>(
+    net: &N,
+    alloc: Global,
+    files: &S,
+    addresses: &[&str],
+    admits: Admits,
+    mode: u32,
+    all: &mut Listening,
+) -> Result<(), Fault> {
+    for address in addresses {
+        let (listener, name) = listen(net, alloc, files, address, mode)?;
+        if all.names.push(name).is_err() {
+            remove_socket(files, address);
+            return Err(Fault::Memory);
+        }
+        all.doors.open(listener, admits)?;
+    }
+    Ok(())
+}
+
+// The mode that is said in octal, if it says who may read, write and search, and no more.
+fn mode_of(text: &str) -> Option<u32> {
+    match u32::from_str_radix(text, 8) {
+        Ok(mode) if mode <= 0o777 => Some(mode),
+        _ => None,
+    }
+}
+
+// Listens on an address, or on a Unix socket at a path: the listener, and what its address is called.
+fn listen<N: Net<Listener = TcpListener, Stream = TcpStream>, S: Files<File = File>>(
+    net: &N,
+    alloc: Global,
+    files: &S,
+    address: &str,
+    mode: u32,
+) -> Result<(Listener, String), Fault> {
+    if is_path(address) {
+        let Ok(name) = String::from_str(alloc, address) else {
+            return Err(Fault::Memory);
+        };
+        return match listen_at(net, files, address, mode) {
+            Ok(listener) => Ok((Listener::Unix(listener), name)),
+            Err(_) => Err(Fault::Input),
+        };
+    }
     let Ok(listener) = TcpListener::bind(net, address) else {
         return Err(Fault::Input);
     };
     let Ok(bound) = listener.local_addr() else {
         return Err(Fault::Input);
     };
-    let Ok(text) = format!(in alloc; "{bound}") else {
-        return Err(Fault::Memory);
-    };
-    match tell(writer, text.as_bytes()) {
-        Ok(()) => Ok(listener),
-        Err(_) => Err(Fault::Output),
+    match format!(in alloc; "{bound}") {
+        Ok(name) => Ok((Listener::Tcp(listener), name)),
+        Err(_) => Err(Fault::Memory),
     }
+}
+
+// Removes the file of a socket at this address, if it is a path. One that can't be removed is found by the next server.
+fn remove_socket<S: Files<File = File>>(files: &S, address: &str) {
+    if is_path(address) {
+        let _ = fs::remove_file(files, address);
+    }
+}
+
+// Removes the files of the server's sockets, by what their addresses are called.
+fn remove_sockets<S: Files<File = File>>(files: &S, names: &[String]) {
+    for name in names {
+        remove_socket(files, name);
+    }
+}
+
+// Writes the addresses that are listened on, a line for each.
+fn tell_all<W: Write>(writer: &mut W, names: &[String]) -> io::Result<()>
+    ensures { Writes result (W.contents writer.old) (W.contents writer.new) (flat_map (λ name. listening_text (string_bytes name)) names.now) }
+{
+    for name in names {
+        tell(writer, name.as_bytes())?;
+    }
+    Ok(())
 }
 
 fn tell<W: Write>(writer: &mut W, bound: &[u8]) -> io::Result<()>

@@ -1,0 +1,245 @@
+"""Where a server is reached: several addresses at once, Unix sockets and their files, and addresses that let in only some.
+
+At an address that may only ask every kind of line is sent, and each wrong one, beside a session that may change all: the one's changes
+are denied and leave nothing, and its questions are answered by what the other did. A peer's stream is sent to each kind of address, and
+a line to those of peers. Of a socket's file it is looked at who may open it, what becomes of it at each end of the server, and that nothing
+is ever removed at its place but the file of a socket at which nobody answers.
+"""
+import os
+import signal
+import socket
+import stat
+import subprocess
+import threading
+
+from .program import Client, PATIENCE, Result, formatted, new_folder, ran, received, send_all, write
+from .streams import EXAMPLE
+
+SIZE = 1 << 20
+DENIED = "err denied"
+# Lines that may change something, each with the reply that it gets where that is let in, on a disk that holds nothing.
+CHANGES = (
+    ("begin filter -", "ok 1.1"), ("add - 1.1 pass all", "ok"), ("commit filter - 1.1", "applied 1"), ("begin table web", "ok 1.2"),
+    ("define web 1.2 t 10/8", "ok"), ("extend web 1.2 t 11/8", "ok"), ("rollback table web 1.2", "ok"), ("tset - t 10/8", "applied 2"),
+    ("tadd - t 11/8", "applied 3 added 1"), ("tdel - t 11/8", "applied 4 deleted 1"),
+    ("track 7 1 in em0 tcp 10.0.0.1 5 10.0.0.2 80", "applied 5 pass rule 0"), (f"peer {EXAMPLE.hex()}", "applied 6 new 1"),
+    ("expire 5", "applied 7 expired 0"), ("kill 7 1", "applied 8"), ("tset - u 10/8", "applied 9"), ("tkill - u", "applied 10"),
+    ("publish", "shown 10"),
+)
+WRONG = ("frob", "tadd", "commit filter - x", "track 1", "peer zz", "judged", "LOG", "tset - t 10/8 \x01", "x" * 5000)
+QUESTIONS = (
+    ("test - t 10.0.0.1", "match 10.0.0.0/8"), ("test - u 10.0.0.1", "nomatch"), ("judge in em0 tcp 10.9.9.1 5 10.0.0.2 80", "pass rule 0"),
+    ("log", "log 10 acked 10 shown 10"), ("sum", "886e234b9265e355a4e6de823beba1c2"), ("judge", "err word 1"), ("show", "err word 1"),
+    ("test - t", "err word 3"), ("sum x", "err word 1"), ("log \x01", "err line"), ("judge " + "x" * 5000, "err line"),
+)
+
+
+class Doors:
+    """A server with these words beside those of its file. It is killed behind a `with`."""
+
+    def __init__(self, program, file, *words, lines=1):
+        words = ["serve", "--disk", file, "--size", SIZE, *words]
+        self.process = subprocess.Popen([program, *map(str, words)], stdout=subprocess.PIPE, stderr=subprocess.PIPE)
+        self.told = [self.process.stdout.readline().decode().rstrip("\n") for _ in range(lines)]
+
+    def __enter__(self):
+        return self
+
+    def __exit__(self, *_):
+        self.kill(signal.SIGKILL)
+
+    def kill(self, number):
+        self.process.send_signal(number)
+        self.process.wait()
+        self.process.stdout.close()
+        self.process.stderr.close()
+
+    def address(self, number):
+        """What to connect to."""
+        text = self.told[number].removeprefix("listening ")
+        if "/" in text:
+            return text
+        host, _, port = text.rpartition(":")
+        return host, int(port)
+
+
+def connected(address):
+    """A connection by TCP, or to the socket at a path."""
+    stream = socket.socket(socket.AF_UNIX if isinstance(address, str) else socket.AF_INET)
+    stream.settimeout(PATIENCE)
+    stream.connect(address)
+    return stream
+
+
+def told(address, some):
+    """All that a connection is told that sends these bytes and then no more."""
+    with connected(address) as stream:
+        send_all(stream, some)
+        stream.shutdown(socket.SHUT_WR)
+        return received(stream)
+
+
+def asked_only(options, folder):
+    """A session that may ask beside one that may change all."""
+    result, file = Result(), formatted(options.program, os.path.join(folder, "asked"), SIZE)
+    path = os.path.join(folder, "asking.sock")
+    with Doors(options.program, file, "--listen", "127.0.0.1:0", "--ask", path, "--ask", "127.0.0.1:0", lines=3) as server:
+        ways = [server.address(number) for number in range(3)]
+        with Client(connected(ways[0])) as full, Client(connected(ways[1])) as one, Client(connected(ways[2])) as other:
+            for line, reply in CHANGES:
+                for asker in (one, other):
+                    result.compare(f"{line} of one that may ask", DENIED, asker.ask(line))
+                said = full.ask(line)
+                result.check(f"{line} of one that may change all is told {said!r} and not {reply}", said.startswith(reply))
+            for asker in (one, other):
+                for line in WRONG:
+                    result.compare(f"{line[:40]!r} of one that may ask", DENIED, asker.ask(line))
+                for line, reply in QUESTIONS:
+                    result.compare(f"{line[:40]!r} of one that may ask", reply, asker.ask(line))
+                result.compare("the rules", ["@0 pass all keep state", "end 1"], asker.ask_all("show rules -"))
+                result.compare("the tables", ["t 10.0.0.0/8", "end 1"], asker.ask_all("show tables -"))
+                result.compare("an export", 1, sum(line.startswith("peer ") for line in asker.ask_all("export")))
+        for way in ways[1:]:
+            result.compare("a stream at an address that may ask", b"err denied\n", told(way, EXAMPLE))
+        result.compare("lines at once", b"log 10 acked 10 shown 10\nerr denied\nerr denied\nlog 10 acked 10 shown 10\n",
+                       told(ways[1], b"log\ntset - t 1/8\n# tset\n\ntkill - t\nlog"))
+    return result
+
+
+def peers_only(options, folder):
+    """Where peers have an address, the others take no stream, and theirs takes nothing else."""
+    result, file = Result(), formatted(options.program, os.path.join(folder, "peers"), SIZE)
+    path = os.path.join(folder, "peers.sock")
+    kept = b"applied 1 new 1 replaced 0 stale 0 clash 0 deleted 0\n"
+    with Doors(options.program, file, "--listen", "127.0.0.1:0", "--peers", path, "--ask", "127.0.0.1:0", lines=3) as server:
+        for number, what in ((0, "that may change all"), (1, "that may ask")):
+            result.compare(f"a stream at an address {what}", b"err denied\n", told(server.address(number), EXAMPLE * 3))
+        for some in (b"log\n", b"\4", b"tset - t 10/8\n" * 10_000):
+            result.compare(f"{some[:20]!r} at an address for peers", b"err denied\n", told(server.address(2), some))
+        result.compare("nothing at an address for peers", b"", told(server.address(2), b""))
+        result.compare("a stream at an address for peers", kept, told(server.address(2), EXAMPLE))
+        result.compare("a session after all that", b"log 1 acked 1 shown 1\n", told(server.address(0), b"log\n"))
+    return result
+
+
+def many_at_once(options, folder):
+    """Sessions at several addresses, each of which is served, and shares one history."""
+    result, file = Result(), formatted(options.program, os.path.join(folder, "many"), SIZE)
+    paths = [os.path.join(folder, f"{number}.sock") for number in range(3)]
+    words = [word for path in paths for word in ("--listen", path)]
+    with Doors(options.program, file, *words, "--listen", "127.0.0.1:0", "--listen", "[::1]:0", "--workers", 8, lines=5) as server:
+        result.compare("the lines of paths", [f"listening {path}" for path in paths], server.told[:3])
+        ways, numbers = [server.address(number) for number in range(4)], []
+
+        def change(way):
+            with Client(connected(way)) as client:
+                for _ in range(50):
+                    numbers.append(int(client.ask("tset - t 10/8").split()[1]))
+
+        threads = [threading.Thread(target=change, args=(way,)) for way in ways]
+        for thread in threads:
+            thread.start()
+        for thread in threads:
+            thread.join()
+        result.compare("the numbers of all changes", list(range(1, 201)), sorted(numbers))
+    return result
+
+
+def user_refused(path):
+    """Whether another user may not connect to the socket, or None if this process can't be one."""
+    if os.getuid() != 0:
+        return None
+    child = os.fork()
+    if child == 0:
+        try:
+            os.setgid(65534)
+            os.setuid(65534)
+            connected(path).close()
+            os._exit(1)
+        except PermissionError:
+            os._exit(0)
+        finally:
+            os._exit(2)
+    return os.waitstatus_to_exitcode(os.waitpid(child, 0)[1]) == 0
+
+
+def socket_files(options, folder):
+    """Who may open a socket's file, and what becomes of it."""
+    result, file = Result(), formatted(options.program, os.path.join(folder, "files"), SIZE)
+    os.chmod(folder, 0o755)
+    path = os.path.join(folder, "pfd.sock")
+    for words, mode in (((), 0o600), (("--mode", "0660"), 0o660), (("--mode", "666"), 0o666)):
+        with Doors(options.program, file, "--listen", path, *words):
+            result.compare(f"the mode with {words}", mode, stat.S_IMODE(os.stat(path).st_mode))
+            refused = user_refused(path)
+            if refused is not None:
+                result.compare(f"that another user is refused with {words}", mode != 0o666, refused)
+            result.compare("a session", b"log 0 acked 0 shown 0\n", told(path, b"log\n"))
+        result.check("a killed server's file stays", stat.S_ISSOCK(os.stat(path).st_mode))
+    # the file that is left there is no hindrance
+    with Doors(options.program, file, "--listen", path, "--sessions", 2) as server:
+        other = formatted(options.program, os.path.join(folder, "other"), SIZE)
+        again = ran(options.program, "serve", "--disk", other, "--size", SIZE, "--listen", path)
+        result.compare("a second server at the same path", (1, b"", b"pfd: input\n"), again)
+        result.compare("a session of the first one after that", b"log 0 acked 0 shown 0\n", told(path, b"log\n"))
+        told(path, b"")
+        server.process.wait()
+        result.check("the file is gone once the server has ended", not os.path.exists(path))
+    return result
+
+
+def hindrances(folder):
+    """What may lie at a socket's place, by what makes it."""
+    target = os.path.join(folder, "target")
+    write(target, b"kept")
+    return (
+        ("a file", lambda path: write(path, b"kept")),
+        ("an empty file", lambda path: write(path, b"")),
+        ("a folder", os.mkdir),
+        ("a FIFO", os.mkfifo),
+        ("a link to a file", lambda path: os.symlink(target, path)),
+        ("a link to nothing", lambda path: os.symlink(os.path.join(folder, "nothing"), path)),
+    )
+
+
+def never_removed(options, folder):
+    """What isn't a socket's file stays, whatever is asked, and so does nothing that was made before."""
+    result, file = Result(), formatted(options.program, os.path.join(folder, "kept"), SIZE)
+    first, path = os.path.join(folder, "first.sock"), os.path.join(folder, "place")
+    serve = ["serve", "--disk", file, "--size", SIZE, "--listen", first, "--listen"]
+    for what, make in hindrances(folder):
+        make(path)
+        before = os.lstat(path)
+        result.compare(f"a server at the place of {what}", (1, b"", b"pfd: input\n"), ran(options.program, *serve, path))
+        after = os.lstat(path)
+        result.compare(f"{what} after that", (before.st_ino, before.st_mode, before.st_size), (after.st_ino, after.st_mode, after.st_size))
+        result.check(f"no socket stays beside {what}", not os.path.exists(first))
+        (os.rmdir if stat.S_ISDIR(before.st_mode) else os.remove)(path)
+    for what, wrong in (("a path that is too long", folder + "/" + "x" * 120), ("a folder that isn't there", folder + "/none/pfd.sock")):
+        result.compare(what, (1, b"", b"pfd: input\n"), ran(options.program, *serve, wrong))
+        result.check(f"no socket stays beside {what}", not os.path.exists(first))
+    for mode in ("8", "1777", "-1", "", "rw", "0o600"):
+        result.compare(f"the mode {mode!r}", (1, b"", b"pfd: input\n"), ran(options.program, *serve[:-1], f"--mode={mode}"))
+    result.compare("a client at a path where nothing is", (1, b"", b"pfd: input\n"), ran(options.program, "connect", path, given=b"log\n"))
+    return result
+
+
+def connects(options, folder):
+    """`pfd connect PATH`."""
+    result, file = Result(), formatted(options.program, os.path.join(folder, "connects"), SIZE)
+    path = os.path.join(folder, "connect.sock")
+    with Doors(options.program, file, "--listen", path):
+        lines, replies = b"tset - t 10/8\ntest - t 10.0.0.1\nlog", b"applied 1\nmatch 10.0.0.0/8\nlog 1 acked 1 shown 1\n"
+        result.compare("connect to a path", (0, replies, b""), ran(options.program, "connect", path, given=lines))
+        # a path needs a slash
+        at = ran(options.program, "connect", "./connect.sock", given=b"log\n", cwd=folder)
+        result.compare("connect to a path beside", (0, b"log 1 acked 1 shown 1\n", b""), at)
+    return result
+
+
+def play(options):
+    result = Result()
+    for work in (asked_only, peers_only, many_at_once, socket_files, never_removed, connects):
+        with new_folder() as folder:
+            result.add(work(options, folder))
+    return result

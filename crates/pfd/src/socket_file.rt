@@ -1,0 +1,60 @@
+//! The file of a Unix socket. No clause can say what becomes of files, so this is only tested.
+use libc::net::listen;
+use std::fs::{self, File, Files, Permissions};
+use std::io::{self, ErrorKind};
+use std::net::{Net, TcpListener, TcpStream};
+use std::os::fd::{AsFd, AsRawFd};
+use std::os::unix::fs::{FileTypeExt, PermissionsExt};
+use std::os::unix::net::{SocketAddr, UnixListener, UnixStream};
+
+// As many connections may wait to be accepted as the system allows.
+const BACKLOG: i32 = -1;
+
+/// Listens at a path, on a socket whose file has this mode. A socket's file that is there is removed if nobody answers at it, as one that a
+/// crash left; a file of any other kind is an error, and stays.
+pub(crate) fn listen_at<N: Net<Listener = TcpListener, Stream = TcpStream>, S: Files<File = File>>(
+    net: &N,
+    files: &S,
+    path: &str,
+    mode: u32,
+) -> io::Result<UnixListener> {
+    let address = SocketAddr::from_pathname(path)?;
+    remove_stale(net, files, path)?;
+    let socket = net.unix_socket()?;
+    files.bind_unix(socket.as_fd(), &address)?;
+    match let_in(files, path, mode, socket.as_raw_fd()) {
+        Ok(()) => Ok(UnixListener::from(socket)),
+        Err(error) => {
+            let _ = fs::remove_file(files, path);
+            Err(error)
+        }
+    }
+}
+
+// Gives a socket's file its mode, and has clients connect to the socket then: before that nobody can, whatever mode the file was made with.
+fn let_in<S: Files<File = File>>(files: &S, path: &str, mode: u32, socket: i32) -> io::Result<()> {
+    fs::set_permissions(files, path, Permissions::from_mode(mode))?;
+    if listen(socket, BACKLOG) != 0 {
+        return Err(io::Error::from(ErrorKind::Other));
+    }
+    Ok(())
+}
+
+// Removes the file of a socket at which nobody answers.
+fn remove_stale<N: Net<Listener = TcpListener, Stream = TcpStream>, S: Files<File = File>>(
+    net: &N,
+    files: &S,
+    path: &str,
+) -> io::Result<()> {
+    match fs::symlink_metadata(files, path) {
+        Ok(found) if found.file_type().is_socket() => {}
+        Ok(_) => return Err(io::Error::from(ErrorKind::AlreadyExists)),
+        Err(error) if error.kind() == ErrorKind::NotFound => return Ok(()),
+        Err(error) => return Err(error),
+    }
+    match UnixStream::connect(net, path) {
+        Err(error) if error.kind() == ErrorKind::ConnectionRefused => fs::remove_file(files, path),
+        Err(error) => Err(error),
+        Ok(_) => Err(io::Error::from(ErrorKind::AddrInUse)),
+    }
+}
