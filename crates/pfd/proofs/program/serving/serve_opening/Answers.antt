@@ -1,7 +1,14 @@
+use Rattle.std.proofs.Common.{[]}
 use Rattle.std.specs.Prelude.{flat_map}
-use Rattle.pf_session.proofs.Flushing.{whole_writes}
+use Rattle.pf_session.proofs.Flushing.{appends_none, whole_front, whole_writes}
 use Rattle.pfd.specs.Program.{listening_text}
 use Rattle.pfd.proofs.program.serving.serve_opening.Goals as goal
+
+pub returns-in_default : goal.returns-in_default
+returns-in_default g c = let held = g.W.Write.contents c.args.writer.now in ([], whole_front held held [] (appends_none held))
+
+pub returns-in-Err : goal.returns-in-Err
+returns-in-Err g c = let held = g.W.Write.contents c.args.writer.now in ([], whole_front held held [] (appends_none held))
 
 pub returns : goal.returns
 returns g c =

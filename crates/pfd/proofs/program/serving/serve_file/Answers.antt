@@ -1,0 +1,9 @@
+use Rattle.std.proofs.Common.{[]}
+use Rattle.pf_session.proofs.Flushing.{appends_none, whole_front, whole_writes}
+use Rattle.pfd.proofs.program.serving.serve_file.Goals as goal
+
+pub returns-in_err-disk : goal.returns-in_err-disk
+returns-in_err-disk g c = let held = g.W.Write.contents c.args.writer.now in ([], whole_writes c.from_residual.result held held [] (appends_none held))
+
+pub returns-in-Err : goal.returns-in-Err
+returns-in-Err g c = let held = g.W.Write.contents c.args.writer.now in ([], whole_front held held [] (appends_none held))
