@@ -1,7 +1,7 @@
 """Plays the rows of crates/pfd_rows/stdin on the plain model, which were worked out by hand: no program is run.
 
 It takes the tables of lines, of whole inputs, of sessions and of peers' streams that need no device that fails, no reader or writer that does,
-and no program. The head of that file says how rows are written.
+no session that may only ask (`doors` plays those), and no program. The head of that file says how rows are written.
 """
 import itertools
 import re
@@ -135,7 +135,7 @@ def play_peers(table, count):
 
 
 def play_table(table, count):
-    if table.has("words", "server", "fails", "locked"):
+    if table.has("words", "server", "fails", "locked", "asking"):
         return
     if table.has("peer"):
         play_peers(table, count)
