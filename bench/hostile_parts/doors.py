@@ -185,6 +185,30 @@ def socket_files(options, folder):
         told(path, b"")
         server.process.wait()
         result.check("the file is gone once the server has ended", not os.path.exists(path))
+    # what lies there in its stead at the end of the server stays
+    with Doors(options.program, file, "--listen", path, "--sessions", 1) as server:
+        with Client(connected(path)) as session:
+            os.remove(path)
+            write(path, b"kept")
+            result.compare("a session whose socket's file is gone", "log 0 acked 0 shown 0", session.ask("log"))
+        server.process.wait()
+        result.check("another file stays once the server has ended", os.path.isfile(path))
+    return result
+
+
+def modes_of_kinds(options, folder):
+    """Each kind of address has a mode of its own."""
+    result, file = Result(), formatted(options.program, os.path.join(folder, "kinds"), SIZE)
+    paths = [os.path.join(folder, name) for name in ("all.sock", "ask.sock", "peers.sock")]
+    places = ("--listen", paths[0], "--ask", paths[1], "--peers", paths[2])
+    for words, modes in (
+        ((), (0o600, 0o600, 0o600)),
+        (("--mode", "0660"), (0o660, 0o600, 0o600)),
+        (("--ask-mode", "0666"), (0o600, 0o666, 0o600)),
+        (("--mode", "0", "--ask-mode", "00777", "--peers-mode", "640"), (0, 0o777, 0o640)),
+    ):
+        with Doors(options.program, file, *places, *words, lines=3):
+            result.compare(f"the modes with {words}", modes, tuple(stat.S_IMODE(os.stat(path).st_mode) for path in paths))
     return result
 
 
@@ -218,8 +242,14 @@ def never_removed(options, folder):
     for what, wrong in (("a path that is too long", folder + "/" + "x" * 120), ("a folder that isn't there", folder + "/none/pfd.sock")):
         result.compare(what, (1, b"", b"pfd: input\n"), ran(options.program, *serve, wrong))
         result.check(f"no socket stays beside {what}", not os.path.exists(first))
-    for mode in ("8", "1777", "-1", "", "rw", "0o600"):
-        result.compare(f"the mode {mode!r}", (1, b"", b"pfd: input\n"), ran(options.program, *serve[:-1], f"--mode={mode}"))
+    with open(file, "rb") as opened:
+        before = opened.read()
+    for mode in ("8", "1777", "-1", "+600", "", "rw", "0o600"):
+        for option in ("mode", "ask-mode", "peers-mode"):
+            status, out, told_of = ran(options.program, *serve[:-1], f"--{option}={mode}")
+            result.compare(f"--{option}={mode}", (2, b"", True), (status, out, told_of.startswith(b"error: ")))
+    with open(file, "rb") as opened:
+        result.compare("the disk after that", before, opened.read())
     result.compare("a client at a path where nothing is", (1, b"", b"pfd: input\n"), ran(options.program, "connect", path, given=b"log\n"))
     return result
 
@@ -239,7 +269,7 @@ def connects(options, folder):
 
 def play(options):
     result = Result()
-    for work in (asked_only, peers_only, many_at_once, socket_files, never_removed, connects):
+    for work in (asked_only, peers_only, many_at_once, socket_files, modes_of_kinds, never_removed, connects):
         with new_folder() as folder:
             result.add(work(options, folder))
     return result

@@ -4,28 +4,58 @@ use std::fs::{self, File, Files, Permissions};
 use std::io::{self, ErrorKind};
 use std::net::{Net, TcpListener, TcpStream};
 use std::os::fd::{AsFd, AsRawFd};
-use std::os::unix::fs::{FileTypeExt, PermissionsExt};
+use std::os::unix::fs::{FileTypeExt, MetadataExt, PermissionsExt};
 use std::os::unix::net::{SocketAddr, UnixListener, UnixStream};
 
 // As many connections may wait to be accepted as the system allows.
 const BACKLOG: i32 = -1;
 
+/// Which file lies at a path, by its device and its number there.
+#[derive(PartialEq, Eq, Drop)]
+pub(crate) struct SocketFile<'a> {
+    path: &'a str,
+    device: u64,
+    inode: u64,
+}
+
+impl<'a> SocketFile<'a> {
+    // The file at this path.
+    fn at<S: Files<File = File>>(files: &S, path: &'a str) -> io::Result<SocketFile<'a>> {
+        let found = fs::symlink_metadata(files, path)?;
+        Ok(SocketFile {
+            path,
+            device: found.dev(),
+            inode: found.ino(),
+        })
+    }
+
+    /// Removes the file, if it still lies at its path. One that can't be removed is found by the next server.
+    pub(crate) fn remove<S: Files<File = File>>(&self, files: &S) {
+        match SocketFile::at(files, self.path) {
+            Ok(found) if found == *self => {
+                let _ = fs::remove_file(files, self.path);
+            }
+            _ => {}
+        }
+    }
+}
+
 /// Listens at a path, on a socket whose file has this mode. A socket's file that is there is removed if nobody answers at it, as one that a
 /// crash left; a file of any other kind is an error, and stays.
-pub(crate) fn listen_at<N: Net<Listener = TcpListener, Stream = TcpStream>, S: Files<File = File>>(
-    net: &N,
-    files: &S,
-    path: &str,
-    mode: u32,
-) -> io::Result<UnixListener> {
+pub(crate) fn listen_at<
+    'a,
+    N: Net<Listener = TcpListener, Stream = TcpStream>,
+    S: Files<File = File>,
+>(net: &N, files: &S, path: &'a str, mode: u32) -> io::Result<(UnixListener, SocketFile<'a>)> {
     let address = SocketAddr::from_pathname(path)?;
     remove_stale(net, files, path)?;
     let socket = net.unix_socket()?;
     files.bind_unix(socket.as_fd(), &address)?;
+    let file = SocketFile::at(files, path)?;
     match let_in(files, path, mode, socket.as_raw_fd()) {
-        Ok(()) => Ok(UnixListener::from(socket)),
+        Ok(()) => Ok((UnixListener::from(socket), file)),
         Err(error) => {
-            let _ = fs::remove_file(files, path);
+            file.remove(files);
             Err(error)
         }
     }
