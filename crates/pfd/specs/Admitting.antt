@@ -1,5 +1,5 @@
 -- What a connection is, by the address that it came to and its first byte, and how it is served.
-use Rattle.std.specs.Prelude.{◌≡◌, ℕ, ◌==◌, if◌then◌else◌, List, Option, None, Result}
+use Rattle.std.specs.Prelude.{◌≡◌, ℕ, ◌-◌, ◌==◌, ◌||◌, not, nat_lt, Bool, true, false, if◌then◌else◌, List, Option, None, Result}
 use Rattle.pf_addr.specs.Writing.{Writes}
 use Rattle.pf_core.specs.{Durable.Changes.PlainDurable, Worlds.Setting}
 use Rattle.pf_view.specs.Seers.{PlainSeer}
@@ -25,6 +25,17 @@ session_at Peers = Denied
 -- A peer's stream begins with the byte 5, the version of its messages, and no line does. What isn't admitted at an address is denied.
 abbrev pub way_of : Admits → ℕ → Way
 way_of admits first = if first == 5 then stream_at admits else session_at admits
+
+-- At an address of sessions alone that ask, or of peers' streams alone, connections are guests.
+abbrev pub is_guest : Admits → Bool
+is_guest Both = false
+is_guest Sessions = false
+is_guest Questions = true
+is_guest Peers = true
+
+-- A guest is let in while another worker is left to those that are none. A worker that is alone serves all.
+abbrev pub lets_in : Admits → ℕ → ℕ → Bool
+lets_in admits guests workers = not (is_guest admits) || guests == 0 || nat_lt guests (workers - 1)
 
 -- What was done for what a connection sent: it had a session, whole or one that asks, or its messages were run as a peer's, or it was
 -- denied, and nothing of it was read. Only a session has its seer learn.

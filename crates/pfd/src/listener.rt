@@ -221,6 +221,7 @@ fn work<W: Wait, A: Accept<Connection = Arrival>, J: Chapter, S: ServeConnection
         };
         // a fault of a connection ends it alone
         let _ = server.serve_connection(alloc, &arrival, &mut seer, session);
+        listener.release(&arrival);
     }
 }
 

@@ -230,7 +230,7 @@ fn listen_to_all<'a, N: Net<Listener = TcpListener, Stream = TcpStream>, S: File
     service: &Service<'a>,
 ) -> Result<Listening<'a>, Fault> {
     let mut all = Listening {
-        doors: Doors::new(alloc, service.idle),
+        doors: Doors::new(alloc, service.idle, service.workers),
         names: Vec::new(alloc),
         sockets: Vec::new(alloc),
     };
