@@ -1,10 +1,10 @@
 -- A line that says a command is denied to a session that may only ask, exactly if the command isn't an inquiry.
-use Rattle.std.proofs.{Common.{◌≡◌, ◌∙◌, ℕ, ◌<◌, ◌≤◌, Bool, true, false, List, [], ◌∷◌, length, Option, Some, None, Result, Ok, Err, codes, inl, inr, refl, sym, ap, subst, arith}, lemmas.Bool.ltb-false, lemmas.List.take_all}
+use Rattle.std.proofs.{Common.{◌≡◌, ◌∙◌, ℕ, Bool, true, false, List, length, Option, Some, Result, Ok, Err, inl, inr, refl, sym, ap, subst, arith}, lemmas.Bool.{ltb-false, ltb-true}, lemmas.List.take_all}
 use Rattle.std.specs.Prelude.{not, nat_lt}
 use Rattle.pf_form.specs.Form.{Words.{Word, words_of}, Forms.{Form, nothing, key, or, making, Spells}}
 use Rattle.pf_rule.specs.declared.fault.Mistake.{Mistake}
 use Rattle.pf_state.specs.declared.peer.fault.OneFault.TheVariants.{Fault, Count}
-use Rattle.pf_core.specs.declared.{command.Command.Command, command.Command.TheVariants.{Transact, Edit, States, Ask, History}, reply.Refusal.Refusal}
+use Rattle.pf_core.specs.declared.{command.Command.Command, command.Command.TheVariants.States, command.StateCommand.TheVariants.Peer, reply.Refusal.Refusal}
 use Rattle.pf_line.specs.Grammar as grammar
 use Rattle.pf_line.specs.{Grammar.{Spoken, Says, Tells}, Lines.{line_at, peer_command, Means, SpellsLine, long_line}}
 use Rattle.pf_line.proofs.Lines.{is_found}
@@ -17,24 +17,32 @@ Said = Result Command Mistake
 -- ---- what follows a word
 
 -- each command that a form makes is an inquiry, or none is
-abbrev Makes : Bool → Form Said → Type 0
-Makes asks f = (r : Said) (ws : List Word) (c : Command) → Spells f r ws → r ≡ Ok c → is_inquiry c ≡ asks
+record Makes (asks : Bool) (f : Form Said) : Type 0 where
+  kind : (r : Said) (ws : List Word) (c : Command) → Spells f r ws → r ≡ Ok c → is_inquiry c ≡ asks
 
 same-kind : (asks : Bool) (a c : Command) → is_inquiry a ≡ asks → (let made : Said = Ok a in made) ≡ Ok c → is_inquiry c ≡ asks
 same-kind asks a c is made = let same : a ≡ c = cc in rw (sym same) is
 
 making-makes : {A : Type 0} (asks : Bool) (make : A → Said) (f : Form A) → ((x : A) (c : Command) → make x ≡ Ok c → is_inquiry c ≡ asks) → Makes asks (making make f)
-making-makes asks make f each r ws c (x, spelled, is) ok = each x c (sym is ∙ ok)
+making-makes asks make f each = record { kind = by } where
+  by : (r : Said) (ws : List Word) (c : Command) → Spells (making make f) r ws → r ≡ Ok c → is_inquiry c ≡ asks
+  by r ws c (x, spelled, is) ok = each x c (sym is ∙ ok)
 
 nothing-makes : (asks : Bool) (a : Command) → is_inquiry a ≡ asks → Makes asks (nothing (Ok a))
-nothing-makes asks a is r ws c (made, none) ok = same-kind asks a c is (sym made ∙ ok)
+nothing-makes asks a is = record { kind = by } where
+  by : (r : Said) (ws : List Word) (c : Command) → Spells (let one : Form Said = nothing (Ok a) in one) r ws → r ≡ Ok c → is_inquiry c ≡ asks
+  by r ws c (made, none) ok = same-kind asks a c is (sym made ∙ ok)
 
 key-makes : (asks : Bool) (k : Word) (f : Form Said) → Makes asks f → Makes asks (key k f)
-key-makes asks k f here r ws c (rest, spelled, is) ok = here r rest c spelled ok
+key-makes asks k f here = record { kind = by } where
+  by : (r : Said) (ws : List Word) (c : Command) → Spells (key k f) r ws → r ≡ Ok c → is_inquiry c ≡ asks
+  by r ws c (rest, spelled, is) ok = here.kind r rest c spelled ok
 
 or-makes : (asks : Bool) (k : Word) (f g : Form Said) → Makes asks f → Makes asks g → Makes asks (or k f g)
-or-makes asks k f g here other r ws c (inl (rest, spelled, is)) ok = here r rest c spelled ok
-or-makes asks k f g here other r ws c (inr spelled) ok = other r ws c spelled ok
+or-makes asks k f g here other = record { kind = by } where
+  by : (r : Said) (ws : List Word) (c : Command) → Spells (or k f g) r ws → r ≡ Ok c → is_inquiry c ≡ asks
+  by r ws c (inl (rest, spelled, is)) ok = here.kind r rest c spelled ok
+  by r ws c (inr spelled) ok = other.kind r ws c spelled ok
 
 begun-makes : Makes false grammar.begun
 unfolding grammar.begun
@@ -115,16 +123,19 @@ shown-makes =
 -- ---- a word, and what follows it
 
 -- words that say a command have a first word that is denied unless it is an inquiry
-abbrev IsDenied : Form Said → Type 0
-IsDenied f = (r : Said) (ws : List Word) (c : Command) → Spells f r ws → r ≡ Ok c → denies (first_of ws) ≡ not (is_inquiry c)
+record IsDenied (f : Form Said) : Type 0 where
+  each : (r : Said) (ws : List Word) (c : Command) → Spells f r ws → r ≡ Ok c → denies (first_of ws) ≡ not (is_inquiry c)
 
 key-denied : (asks : Bool) (k : Word) (f : Form Said) → denies k ≡ not asks → Makes asks f → IsDenied (key k f)
-key-denied asks k f at here r ws c (rest, spelled, is) ok =
-    ap (λ (vs : List Word). denies (first_of vs)) is ∙ at ∙ ap not (sym (here r rest c spelled ok))
+key-denied asks k f at here = record { each = by } where
+  by : (r : Said) (ws : List Word) (c : Command) → Spells (key k f) r ws → r ≡ Ok c → denies (first_of ws) ≡ not (is_inquiry c)
+  by r ws c (rest, spelled, is) ok = ap (λ (vs : List Word). denies (first_of vs)) is ∙ at ∙ ap not (sym (here.kind r rest c spelled ok))
 
 or-denied : (asks : Bool) (k : Word) (f g : Form Said) → denies k ≡ not asks → Makes asks f → IsDenied g → IsDenied (or k f g)
-or-denied asks k f g at here other r ws c (inl spelled) ok = key-denied asks k f at here r ws c spelled ok
-or-denied asks k f g at here other r ws c (inr spelled) ok = other r ws c spelled ok
+or-denied asks k f g at here other = record { each = by } where
+  by : (r : Said) (ws : List Word) (c : Command) → Spells (or k f g) r ws → r ≡ Ok c → denies (first_of ws) ≡ not (is_inquiry c)
+  by r ws c (inl spelled) ok = (key-denied asks k f at here).each r ws c spelled ok
+  by r ws c (inr spelled) ok = other.each r ws c spelled ok
 
 questions-denied : IsDenied grammar.question
 unfolding grammar.question grammar.overview
@@ -154,7 +165,7 @@ commands-denied =
 -- ---- lines
 
 peer-states : (one : _) (c : Command) → (let said : Result (Option Command) Refusal = Ok (Some c) in said) ≡ peer_command one → is_inquiry c ≡ false
-peer-states (Ok m) c is = let same : c ≡ States _ = cc in rw same refl
+peer-states (Ok m) c is = let same : c ≡ States (Peer m) = cc in rw same refl
 peer-states (Err (Fault f)) c is = absurd cc
 peer-states (Err Count) c is = absurd cc
 
@@ -164,14 +175,14 @@ said-denied ws c (x, inl (rest, (bytes, spelled, tells), is), means) =
     ap (λ (vs : List Word). denies (first_of vs)) is ∙ ap not (sym (peer-states one c said))
 said-denied ws c (x, inr (r, spelled, says), means) = by r spelled (subst (λ (y : Spoken). Means (Ok (Some y)) (Ok (Some c))) says means) where
   by : (r : Said) → Spells grammar.command r ws → Means (Ok (Some (Says r))) (Ok (Some c)) → denies (first_of ws) ≡ not (is_inquiry c)
-  by (Ok d) spelled means = let same : d ≡ c = cc in commands-denied (Ok d) ws c spelled (ap (λ (y : Command). Ok y) same)
+  by (Ok d) spelled means = let same : d ≡ c = cc in commands-denied.each (Ok d) ws c spelled (ap (λ (y : Command). Ok y) same)
   by (Err mistake) spelled means = absurd cc
 
 -- a line that says a command is looked at whole
 whole : (line : List ℕ) (c : Command) → Means (line_at line) (Ok (Some c)) → seen line ≡ line
 whole line c means = by (nat_lt 4096 (length line)) refl where
   by : (long : Bool) → nat_lt 4096 (length line) ≡ long → seen line ≡ line
-  by true is = let bad = long_line line (omega arith) in absurd (rw bad at means)
+  by true is = let bad = long_line line (omega (arith, ltb-true 4096 (length line) is)) in let refused = rw bad at means in absurd (cc (refused))
   by false is = take_all 4097 line (omega (arith, ltb-false 4096 (length line) is))
 
 pub line-denied : (line : List ℕ) (c : Command) → Means (line_at line) (Ok (Some c)) → is_denied line ≡ not (is_inquiry c)

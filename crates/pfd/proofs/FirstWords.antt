@@ -1,8 +1,8 @@
 -- The first word of a line is the first of its words.
-use Rattle.std.proofs.{Common.{◌≡◌, ◌∙◌, ℕ, ◌+◌, ◌<◌, ◌≤◌, Bool, true, false, cond, ltb, List, [], ◌∷◌, length, take, drop, Option, Some, None, refl, sym, ap, subst, arith, add-one}, lemmas.Bool.{lt-ltb, ltb-false}, lemmas.List.{take_all, drop_all}}
+use Rattle.std.proofs.{Common.{◌≡◌, ◌∙◌, ℕ, ◌+◌, Bool, true, false, cond, List, [], ◌∷◌, length, take, drop, Some, None, refl, sym, ap, arith}, lemmas.Bool.{lt-ltb, ltb-false}, lemmas.List.{take_all, drop_all}}
 use Rattle.std.specs.{Prelude.{not, nat_lt, filter}, List.{position, position_or_len, onto_first, slice_split}}
 use Rattle.pf_form.specs.Form.Words.{Word, is_blank, words_of}
-use Rattle.pf_session.specs.Server.Askings.{is_of_word, first_word, from_place, from_word, to_blank, to_place}
+use Rattle.pf_session.specs.Server.Askings.{is_of_word, first_word, from_place, from_word, to_place}
 
 -- the first of these words, or none
 abbrev pub first_of : List Word → Word
