@@ -1,4 +1,5 @@
 //! How files and cases are spelled.
+ghost use Rattle.std.specs.Prelude.{◌<◌};
 
 use pf_addr::path::Path;
 use pf_conf::Mode;
@@ -71,7 +72,9 @@ impl<'a> Row<'a> {
 }
 
 /// The value of a hexadecimal digit; 0 of any other byte.
-fn digit(byte: u8) -> u8 {
+fn digit(byte: u8) -> u8
+    ensures { result < 16 }
+{
     match byte {
         b'0'..=b'9' => byte - b'0',
         b'a'..=b'f' => byte - b'a' + 10,
