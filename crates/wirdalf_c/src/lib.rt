@@ -45,8 +45,16 @@ use judging::{count, judge, judge_many, test};
 use keeping::{keep, keep_box, shared};
 use line_fault::tell_fault;
 use lines::read_lines;
-use record::{CountsRecord, FaultRecord, PacketRecord, VerdictRecord};
+use record::{CountsRecord, FaultRecord, PacketRecord, VERSION, VerdictRecord};
 use std::alloc::Global;
+
+/// The version of this library, as the header's `WIRDALF_VERSION` says that of the header.
+#[unsafe(no_mangle)]
+pub extern "C" fn wirdalf_version() -> u32
+    ensures { result ≡ VERSION }
+{
+    VERSION
+}
 
 /// What these bytes hold, in a configuration that held nothing. If it isn't `OK`, the configuration is as it was, and the place that the
 /// fault names is written, or 0.
