@@ -63,12 +63,9 @@ fn tell_rule(path: &Path, number: u32, action: Action, to: &mut VerdictRecord)
     ensures { IsTold to.new (Some (Rules (ruled.Rule path.now number action))) }
 {
     let (does, keeps_state) = codes_of(action);
-    to.state_id = 0;
-    to.state_creator = 0;
-    to.rule = number;
-    to.by = BY_RULE;
-    to.action = does;
+    tell_short(BY_RULE, does, to);
     to.keeps_state = keeps_state;
+    to.rule = number;
     to.path_length = tell_path(path, &mut to.path);
 }
 
