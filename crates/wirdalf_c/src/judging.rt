@@ -25,7 +25,7 @@ pub fn judge(holding: &mut Holding, packet: &PacketRecord, verdict: &mut Verdict
     let durable = holding.durable();
     match passing_state(durable, &packet) {
         Some(name) => tell_state(name, verdict),
-        None => tell_rules(&durable.config().judge(&packet), verdict),
+        None => tell_rules(durable.config().judge(&packet), verdict),
     }
 }
 

@@ -20,10 +20,11 @@ pub fn tell_nothing(to: &mut VerdictRecord)
 
 /// Writes what the rules say.
 #[tactic(auto, unfolding(crate::specs::Verdicts::IsTold))]
-pub fn tell_rules(verdict: &RuleVerdict, to: &mut VerdictRecord)
-    ensures { IsTold to.new (Some (Rules verdict.now)) }
+pub fn tell_rules(verdict: RuleVerdict, to: &mut VerdictRecord)
+    ensures { IsTold to.new (Some (Rules verdict)) }
 {
-    match verdict {
+    // (by reference, so that the path isn't copied)
+    match &verdict {
         RuleVerdict::Default => tell_short(BY_DEFAULT, PASS, to),
         RuleVerdict::Rule {
             path,
