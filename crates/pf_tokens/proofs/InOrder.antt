@@ -7,7 +7,7 @@ use Rattle.pf_tokens.specs.declared.{place.Placed.Placed, token.Token.Token, tok
 use Rattle.pf_tokens.specs.declared.fault.Mistake.TheVariants.{CommentInValue, MacroInValue, NoMacroName}
 use Rattle.pf_tokens.specs.declared.lexing.Source.TheVariants as sources
 use Rattle.pf_tokens.specs.declared.lexing.Run.TheVariants as runs
-use Rattle.pf_tokens.specs.{Stops.faulty, Laws.{HasInOrder, bytes_of}}
+use Rattle.pf_tokens.specs.{Stops.faulty, Counting.counted_some, Laws.{HasInOrder, bytes_of}}
 use Rattle.pf_tokens.specs.Lexing.{front, lex, token_of, skipped, comment, named_macro, macro_use, unjoined, word, a_quoted, a_symbol, symbol_more, quoted, word_checked, run_of, is_quote, is_letter}
 use Rattle.pf_tokens.proofs.{Binds.{then_all, or_else, ok_all, err_all}, Runs.take_run}
 
@@ -100,13 +100,14 @@ joined c cs f us first others =
     let Q : List Placed → Type 0 = λ bs. HasInOrder (c ∷ cs) bs in
     subst Q (sym (flat_map-append (λ (t : Token). t.text) (option_to_list f.token) us)) (subst P (take-append-drop f.more cs) of_all)
 
-pub lex-in_order : (s : Source) (more : ℕ) (cs : List Placed) (ts : List Token) → lex s more cs ≡ Ok ts → HasInOrder (drop more cs) (bytes_of ts)
+pub lex-in_order : (s : Source) (n more : ℕ) (cs : List Placed) (ts : List Token) → lex s n more cs ≡ Ok ts → HasInOrder (drop more cs) (bytes_of ts)
 unfolding lex
-lex-in_order s zero [] ts is = ok_all (λ us. HasInOrder [] (bytes_of us)) [] ts tt is
-lex-in_order s (suc more) [] ts is = ok_all (λ us. HasInOrder [] (bytes_of us)) [] ts tt is
-lex-in_order s (suc more) (c ∷ cs) ts is = lex-in_order s more cs ts is
-lex-in_order s zero (c ∷ cs) ts is =
+lex-in_order s n zero [] ts is = ok_all (λ us. HasInOrder [] (bytes_of us)) [] ts tt is
+lex-in_order s n (suc more) [] ts is = ok_all (λ us. HasInOrder [] (bytes_of us)) [] ts tt is
+lex-in_order s n (suc more) (c ∷ cs) ts is = lex-in_order s n more cs ts is
+lex-in_order s n zero (c ∷ cs) ts is =
     let P : List Token → Type 0 = λ us. HasInOrder (c ∷ cs) (bytes_of us) in
-    then_all P (front s c cs) (λ f. lex s f.more cs >>= λ us. Ok (option_to_list f.token ++ us)) ts
-    (λ f at_front behind. then_all P (lex s f.more cs) (λ us. Ok (option_to_list f.token ++ us)) ts
-    (λ us others. ok_all P (option_to_list f.token ++ us) ts (joined c cs f us (front-in_front s c cs f at_front) (lex-in_order s f.more cs us others))) behind) is
+    then_all P (front s c cs) (λ f. counted_some n f.token >>= λ m. lex s m f.more cs >>= λ us. Ok (option_to_list f.token ++ us)) ts
+    (λ f at_front counts. then_all P (counted_some n f.token) (λ m. lex s m f.more cs >>= λ us. Ok (option_to_list f.token ++ us)) ts
+    (λ m fits behind. then_all P (lex s m f.more cs) (λ us. Ok (option_to_list f.token ++ us)) ts
+    (λ us others. ok_all P (option_to_list f.token ++ us) ts (joined c cs f us (front-in_front s c cs f at_front) (lex-in_order s m f.more cs us others))) behind) counts) is

@@ -3,7 +3,7 @@ pub mod Runs
 pub mod Steps
 pub mod Binds
 pub mod Tokens
-pub mod Macros
+pub mod Uses
 pub mod Stopping
 pub mod Lines
 pub mod Shown

@@ -6,7 +6,7 @@ use Rattle.pf_form.specs.Form.Forms.{◌>>=◌}
 use Rattle.pf_tokens.specs.declared.{place.Place.Place, token.Token.Token, files.File.File, flat.Flat.Flat, fault.Stop.Stop}
 use Rattle.pf_tokens.specs.declared.fault.Mistake.TheVariants.{DeepInclude}
 use Rattle.pf_tokens.specs.{Words.is_newline, Places.text_of, Stops.faulty, Files.text_of_file}
-use Rattle.pf_tokens.specs.Flat.{State, Including, Line, longer, lines, read_line, read_lines, read_text, read_file, including, leaving, closed, is_definition, is_include, put_line, put, is_closed, with_left}
+use Rattle.pf_tokens.specs.Flat.{State, Including, Line, longer, lines, counted_uses, with_words, read_counted, read_line, read_lines, read_text, read_file, including, leaving, closed, is_definition, is_include, put_line, put, is_closed, with_left}
 use Rattle.pf_tokens.proofs.Steps.{drop_item, take_item}
 
 -- ---- lines
@@ -56,9 +56,17 @@ no_line ts end is_end none = lines-none ts (ap (λ (us : List Token). list_any i
 
 -- ---- what a line does
 
-pub read_line_puts : (include : Including) (line : List Token) (newline : Token) (opened : List Place) (s : Flat) → (is_closed opened && is_definition line) ≡ false → (is_closed opened && is_include line) ≡ false → read_line include line newline (opened, s) ≡ (leaving s.macros (put_line s.macros line (opened, s.tokens) >>= put newline) >>= λ x. Ok (with_left s x))
+pub read_counted_puts : (include : Including) (line : List Token) (newline : Token) (opened : List Place) (s : Flat) → (is_closed opened && is_definition line) ≡ false → (is_closed opened && is_include line) ≡ false → read_counted include line newline (opened, s) ≡ (leaving s.macros (put_line s.macros line (opened, s.tokens) >>= put newline) >>= λ x. Ok (with_left s x))
+unfolding read_counted
+read_counted_puts include line newline opened s defines includes = rw (defines, includes) refl
+
+pub read_line_first : (include : Including) (line : List Token) (newline : Token) (x : State) (n : ℕ) → counted_uses x.1.macros x.1.words_read line ≡ Ok n → read_line include line newline x ≡ read_counted include line newline (with_words x n)
 unfolding read_line
-read_line_puts include line newline opened s defines includes = rw (defines, includes) refl
+read_line_first include line newline x n counts = rw counts refl
+
+pub read_line_past : (include : Including) (line : List Token) (newline : Token) (x : State) (e : Stop) → counted_uses x.1.macros x.1.words_read line ≡ Err e → read_line include line newline x ≡ Err (e, x.1.macros)
+unfolding read_line
+read_line_past include line newline x e past = rw past refl
 
 -- ---- included files
 

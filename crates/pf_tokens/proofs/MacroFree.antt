@@ -3,17 +3,17 @@ use Rattle.std.proofs.Common.{◌≡◌, ℕ, zero, suc, ◌+◌, ◌==◌, ◌&
 use Rattle.std.specs.{List.{list_any, list_all}, Option.{option_to_list}}
 use Rattle.std.proofs.lemmas.List.Folds.{list_any-append}
 use Rattle.pf_form.specs.Form.Forms.{◌>>=◌}
-use Rattle.pf_tokens.specs.declared.{place.Place.Place, place.Placed.Placed, token.Token.Token, token.Kind.Kind, files.File.File, flat.Macro.Macro, flat.Flat.Flat, flat.TheConstants.TOKEN_LIMIT, lexing.Front.Front, fault.Stop.Stop}
+use Rattle.pf_tokens.specs.declared.{place.Place.Place, place.Placed.Placed, token.Token.Token, token.Kind.Kind, files.File.File, flat.Macro.Macro, flat.Flat.Flat, counting.TheConstants.TOKEN_LIMIT, lexing.Front.Front, fault.Stop.Stop}
 use Rattle.pf_tokens.specs.declared.token.Kind.TheVariants.{Word, Quoted, Symbol, Macro as Use, Newline}
 use Rattle.pf_tokens.specs.declared.fault.Mistake.TheVariants.{CommentInValue, MacroInValue}
 use Rattle.pf_tokens.specs.declared.fault.Mistake.TheVariants as mistakes
 use Rattle.pf_tokens.specs.declared.lexing.Source.TheVariants as sources
 use Rattle.pf_tokens.specs.declared.lexing.Run.TheVariants as runs
-use Rattle.pf_tokens.specs.{Places.{start_of, text_of}, Stops.faulty, Words.{moved, is_newline, is_macro, same_kind}, Placed.placed, Laws.HasNoMacro}
+use Rattle.pf_tokens.specs.{Places.{start_of, used_at, text_of}, Counting.counted_some, Stops.faulty, Words.{moved, is_newline, is_macro, same_kind}, Placed.placed, Laws.HasNoMacro}
 use Rattle.pf_tokens.specs.Lexing.{front, lex, token_of, skipped, word, a_quoted, a_symbol, symbol_more, quoted, word_checked, run_of, is_quote, is_letter}
 use Rattle.pf_tokens.specs.Files.{text_of_file}
 use Rattle.pf_tokens.proofs.Binds.{then_all, or_else, ok_all, err_all}
-use Rattle.pf_tokens.specs.Flat.{State, parts_of, value_at, used_at, value_of, latest, replaced, Left, put, put_each, put_line, braces, tokens_of_value, joined, short, defined, defined_by, defining, name_checked, first_place, file_name, leaving, Including, Line, longer, lines, define, with_left, read_line, read_lines, read_text, including, read_file, all_closed, is_closed, is_definition, is_include}
+use Rattle.pf_tokens.specs.{Latest.{latest, value_of}, Flat.{State, parts_of, value_at, replaced, Left, put, put_each, put_line, braces, tokens_of_value, joined, short, defined, defined_by, defining, name_checked, first_place, file_name, leaving, Including, Line, longer, lines, define, counted_uses, begun, with_left, with_words, read_counted, read_line, read_lines, read_text, including, read_file, all_closed, is_closed, is_definition, is_include}}
 
 abbrev Free : List Token → Type 0
 Free ts = list_any is_macro ts ≡ false
@@ -65,14 +65,15 @@ front-free c cs f is =
     (or_else FreeFront (c.byte == 36) f (err_all FreeFront (faulty c.place MacroInValue) f)
     (or_else FreeFront (is_letter c.byte || (c.byte == 58)) f (word-free c cs f) (symbol-free c cs f)))))) is
 
-lex-free : (more : ℕ) (cs : List Placed) (ts : List Token) → lex sources.Value more cs ≡ Ok ts → Free ts
+lex-free : (n more : ℕ) (cs : List Placed) (ts : List Token) → lex sources.Value n more cs ≡ Ok ts → Free ts
 unfolding lex
-lex-free more [] ts is = ok_all Free [] ts refl is
-lex-free (suc more) (c ∷ cs) ts is = lex-free more cs ts is
-lex-free zero (c ∷ cs) ts is =
-    then_all Free (front sources.Value c cs) (λ (f : Front). lex sources.Value f.more cs >>= λ us. Ok (option_to_list f.token ++ us)) ts
-    (λ f at_front behind. then_all Free (lex sources.Value f.more cs) (λ (us : List Token). Ok (option_to_list f.token ++ us)) ts
-    (λ us others. ok_all Free (option_to_list f.token ++ us) ts (free-append (option_to_list f.token) us (front-free c cs f at_front) (lex-free f.more cs us others))) behind) is
+lex-free n more [] ts is = ok_all Free [] ts refl is
+lex-free n (suc more) (c ∷ cs) ts is = lex-free n more cs ts is
+lex-free n zero (c ∷ cs) ts is =
+    then_all Free (front sources.Value c cs) (λ (f : Front). counted_some n f.token >>= λ m. lex sources.Value m f.more cs >>= λ us. Ok (option_to_list f.token ++ us)) ts
+    (λ f at_front counts. then_all Free (counted_some n f.token) (λ (m : ℕ). lex sources.Value m f.more cs >>= λ us. Ok (option_to_list f.token ++ us)) ts
+    (λ m fits behind. then_all Free (lex sources.Value m f.more cs) (λ (us : List Token). Ok (option_to_list f.token ++ us)) ts
+    (λ us others. ok_all Free (option_to_list f.token ++ us) ts (free-append (option_to_list f.token) us (front-free c cs f at_front) (lex-free m f.more cs us others))) behind) counts) is
 
 -- ---- what tokens stand for
 
@@ -139,30 +140,30 @@ put_line-free ms (t ∷ ts) x y values free is =
 abbrev MacroFree : Macro → Type 0
 MacroFree m = Free m.value
 
-value_read-free : (first : Place) (ps value : List Token) → (joined ps >>= short first >>= lex sources.Value 0) ≡ Ok value → Free value
-value_read-free first ps value is = then_all Free (joined ps >>= short first) (lex sources.Value 0) value (λ cs text here. lex-free 0 cs value here) is
+value_read-free : (n : ℕ) (first : Place) (ps value : List Token) → (joined ps >>= short first >>= lex sources.Value n 0) ≡ Ok value → Free value
+value_read-free n first ps value is = then_all Free (joined ps >>= short first) (lex sources.Value n 0) value (λ cs text here. lex-free n 0 cs value here) is
 
-tokens_of_value-free : (first end_place : Place) (ps value : List Token) → tokens_of_value first end_place ps ≡ Ok value → Free value
-tokens_of_value-free first end_place ps value is = or_else Free (length ps == 0) value (err_all Free (faulty end_place mistakes.NoValue) value) (value_read-free first ps value) is
+tokens_of_value-free : (n : ℕ) (first end_place : Place) (ps value : List Token) → tokens_of_value n first end_place ps ≡ Ok value → Free value
+tokens_of_value-free n first end_place ps value is = or_else Free (length ps == 0) value (err_all Free (faulty end_place mistakes.NoValue) value) (value_read-free n first ps value) is
 
-defined_value-free : (ms : List Macro) (behind : List Token) (p : Place) (value : List Token) → (replaced ms behind >>= tokens_of_value (first_place behind p) p) ≡ Ok value → Free value
-defined_value-free ms behind p value is = then_all Free (replaced ms behind) (tokens_of_value (first_place behind p) p) value (λ ps parts here. tokens_of_value-free (first_place behind p) p ps value here) is
+defined_value-free : (n : ℕ) (ms : List Macro) (behind : List Token) (p : Place) (value : List Token) → (replaced ms behind >>= tokens_of_value n (first_place behind p) p) ≡ Ok value → Free value
+defined_value-free n ms behind p value is = then_all Free (replaced ms behind) (tokens_of_value n (first_place behind p) p) value (λ ps parts here. tokens_of_value-free n (first_place behind p) p ps value here) is
 
-defined_macro-free : (ms : List Macro) (behind : List Token) (text : List ℕ) (p : Place) (m : Macro) → (replaced ms behind >>= tokens_of_value (first_place behind p) p >>= λ value. Ok (record { name = text; value = value })) ≡ Ok m → MacroFree m
-defined_macro-free ms behind text p m is =
-    then_all MacroFree (replaced ms behind >>= tokens_of_value (first_place behind p) p) (λ (value : List Token). Ok (record { name = text; value = value })) m
-    (λ value read here. ok_all MacroFree (record { name = text; value = value }) m (defined_value-free ms behind p value read) here) is
+defined_macro-free : (n : ℕ) (ms : List Macro) (behind : List Token) (text : List ℕ) (p : Place) (m : Macro) → (replaced ms behind >>= tokens_of_value n (first_place behind p) p >>= λ value. Ok (record { name = text; value = value })) ≡ Ok m → MacroFree m
+defined_macro-free n ms behind text p m is =
+    then_all MacroFree (replaced ms behind >>= tokens_of_value n (first_place behind p) p) (λ (value : List Token). Ok (record { name = text; value = value })) m
+    (λ value read here. ok_all MacroFree (record { name = text; value = value }) m (defined_value-free n ms behind p value read) here) is
 
-defined-free : (ms : List Macro) (name : Token) (behind : List Token) (p : Place) (m : Macro) → defined ms name behind p ≡ Ok m → MacroFree m
+defined-free : (n : ℕ) (ms : List Macro) (name : Token) (behind : List Token) (p : Place) (m : Macro) → defined n ms name behind p ≡ Ok m → MacroFree m
 unfolding defined
-defined-free ms name behind p m is =
-    then_all MacroFree (name_checked name) (λ _. replaced ms behind >>= tokens_of_value (first_place behind p) p >>= λ value. Ok (record { name = text_of name.text; value = value })) m
-    (λ u checked whole. defined_macro-free ms behind (text_of name.text) p m whole) is
+defined-free n ms name behind p m is =
+    then_all MacroFree (name_checked name) (λ _. replaced ms behind >>= tokens_of_value n (first_place behind p) p >>= λ value. Ok (record { name = text_of name.text; value = value })) m
+    (λ u checked whole. defined_macro-free n ms behind (text_of name.text) p m whole) is
 
-defined_by-free : (ms : List Macro) (line : List Token) (p : Place) (m : Macro) → defined_by ms line p ≡ Ok m → MacroFree m
-defined_by-free ms [] p m is = err_all MacroFree (faulty p mistakes.NoValue) m is
-defined_by-free ms (name ∷ []) p m is = err_all MacroFree (faulty p mistakes.NoValue) m is
-defined_by-free ms (name ∷ equals ∷ behind) p m is = defined-free ms name behind p m is
+defined_by-free : (n : ℕ) (ms : List Macro) (line : List Token) (p : Place) (m : Macro) → defined_by n ms line p ≡ Ok m → MacroFree m
+defined_by-free n ms [] p m is = err_all MacroFree (faulty p mistakes.NoValue) m is
+defined_by-free n ms (name ∷ []) p m is = err_all MacroFree (faulty p mistakes.NoValue) m is
+defined_by-free n ms (name ∷ equals ∷ behind) p m is = defined-free n ms name behind p m is
 
 -- ---- files
 
@@ -191,10 +192,10 @@ newline-no_macro t is = newline-no_use t.kind is
 
 defining-free : (s t : Flat) (line : List Token) (p : Place) → HasNoMacro s → defining s line p ≡ Ok t → HasNoMacro t
 defining-free s t line p free is =
-    then_all HasNoMacro (leaving s.macros (defined_by s.macros line p)) (λ (m : Macro). Ok (define s m)) t
+    then_all HasNoMacro (leaving s.macros (defined_by s.words_read s.macros line p)) (λ (m : Macro). Ok (define s m)) t
     (λ m defines here. ok_all HasNoMacro (define s m) t (record {
       tokens = free.tokens;
-      values = list_any-append (λ (n : Macro). list_any is_macro n.value) s.macros (m ∷ []) ∙ rw (free.values, left_all MacroFree s.macros (defined_by s.macros line p) m (defined_by-free s.macros line p m) defines) refl;
+      values = list_any-append (λ (n : Macro). list_any is_macro n.value) s.macros (m ∷ []) ∙ rw (free.values, left_all MacroFree s.macros (defined_by s.words_read s.macros line p) m (defined_by-free s.words_read s.macros line p m) defines) refl;
     }) here) is
 
 define-free : (s : Flat) (line : List Token) (p : Place) (opened : List Place) (y : State) → HasNoMacro s → (defining s line p >>= λ t. Ok (opened, t)) ≡ Ok y → LineFree y
@@ -218,11 +219,17 @@ put-line_free s line newline opened y is_end free is =
       values = free.values;
     }) here) is
 
+read_counted-free : (include : Including) → Keeps include → (line : List Token) (newline : Token) (x y : State) → is_newline newline ≡ true → HasNoMacro x.1 → read_counted include line newline x ≡ Ok y → LineFree y
+unfolding read_counted
+read_counted-free include keeps line newline x y is_end free is =
+    or_else LineFree (is_closed x.0 && is_definition line) y (define-free x.1 line newline.place x.0 y free)
+    (or_else LineFree (is_closed x.0 && is_include line) y (include-free include keeps x.1 line newline.place x.0 y free) (put-line_free x.1 line newline x.0 y is_end free)) is
+
 read_line-free : (include : Including) → Keeps include → (line : List Token) (newline : Token) (x y : State) → is_newline newline ≡ true → HasNoMacro x.1 → read_line include line newline x ≡ Ok y → LineFree y
 unfolding read_line
 read_line-free include keeps line newline x y is_end free is =
-    or_else LineFree (is_closed x.0 && is_definition line) y (define-free x.1 line newline.place x.0 y free)
-    (or_else LineFree (is_closed x.0 && is_include line) y (include-free include keeps x.1 line newline.place x.0 y free) (put-line_free x.1 line newline x.0 y is_end free)) is
+    then_all LineFree (leaving x.1.macros (counted_uses x.1.macros x.1.words_read line)) (λ (n : ℕ). read_counted include line newline (with_words x n)) y
+    (λ n counts here. read_counted-free include keeps line newline (with_words x n) y is_end (record { tokens = free.tokens; values = free.values }) here) is
 
 -- each line ends with a newline
 abbrev Ended : List Line → Type 0
@@ -259,9 +266,8 @@ read_lines-free include keeps (l ∷ ls) x t ended free is =
 
 read_text-free : (include : Including) → Keeps include → (number : ℕ) (text : List ℕ) (s t : Flat) → HasNoMacro s → read_text include number text s ≡ Ok t → HasNoMacro t
 read_text-free include keeps number text s t free is =
-    let begun : Flat = record s { files_read = s.files_read + 1 } in
-    then_all HasNoMacro (leaving s.macros (lex sources.File 0 (placed (start_of number) text))) (λ (ts : List Token). read_lines include (lines ts) ([], begun)) t
-    (λ ts tokens behind. read_lines-free include keeps (lines ts) ([], begun) t (lines-ended ts) (record { tokens = free.tokens; values = free.values }) behind) is
+    then_all HasNoMacro (leaving s.macros (lex sources.File s.words_read 0 (placed (start_of number) text))) (λ (ts : List Token). read_lines include (lines ts) ([], begun s ts)) t
+    (λ ts tokens behind. read_lines-free include keeps (lines ts) ([], begun s ts) t (lines-ended ts) (record { tokens = free.tokens; values = free.values }) behind) is
 
 including-free : (files : List File) (deep : ℕ) → Keeps (including files deep)
 unfolding including

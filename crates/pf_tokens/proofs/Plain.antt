@@ -3,11 +3,11 @@ use Rattle.std.proofs.Common.{◌≡◌, ℕ, ◌+◌, ◌<◌, ◌≤◌, ◌&&
 use Rattle.std.specs.List.{list_any, list_all}
 use Rattle.std.proofs.lemmas.{List.append-nil, Bool.lt-ltb, Grind.fold-append}
 use Rattle.pf_form.specs.Form.Forms.{◌>>=◌}
-use Rattle.pf_tokens.specs.declared.{place.Place.Place, token.Token.Token, files.File.File, flat.Macro.Macro, flat.Flat.Flat, flat.TheConstants.TOKEN_LIMIT, fault.Stop.Stop}
+use Rattle.pf_tokens.specs.declared.{place.Place.Place, token.Token.Token, files.File.File, flat.Macro.Macro, flat.Flat.Flat, counting.TheConstants.TOKEN_LIMIT, fault.Stop.Stop}
 use Rattle.pf_tokens.specs.declared.lexing.Source.TheVariants as sources
 use Rattle.pf_tokens.specs.{Places.start_of, Words.{is_newline, is_macro}, Placed.placed, Lexing.lex, Laws.{is_plain, tokens_of, open_behind}}
-use Rattle.pf_tokens.specs.Flat.{State, parts_of, Left, put, put_each, put_line, braces, leaving, Stopped, Including, Line, lines, with_left, read_line, read_lines, including, read_file, closed, is_definition, is_include, is_closed}
-use Rattle.pf_tokens.proofs.{Lines.{lines-cons, read_lines_first, read_lines-end, read_line_puts}, MacroFree.{and-left, and-right, or-false_left, or-false_right}}
+use Rattle.pf_tokens.specs.Flat.{State, parts_of, Left, put, put_each, put_line, braces, leaving, Stopped, Including, Line, lines, begun, counted_use, counted_uses, with_left, read_line, read_lines, including, read_file, closed, is_definition, is_include, is_closed}
+use Rattle.pf_tokens.proofs.{Lines.{lines-cons, read_lines_first, read_lines-end, read_line_first, read_counted_puts}, MacroFree.{and-left, and-right, or-false_left, or-false_right}}
 
 not-false : (b : Bool) → not b ≡ true → b ≡ false
 not-false true is = cc
@@ -33,6 +33,13 @@ put_line-plain ms (t ∷ line) opened ts plain fits =
     put_first ms t line opened ts (or-false_left (is_macro t) (list_any is_macro line) plain) (omega arith)
     ∙ put_line-plain ms line (braces t opened) (ts ++ (t ∷ [])) (or-false_right (is_macro t) (list_any is_macro line) plain) (simp length-append (omega arith))
     ∙ ap (λ (us : List Token). Ok (open_behind (braces t opened) line, us)) (append_assoc ts (t ∷ []) line)
+
+-- nothing is counted of a line without macros
+counted-plain : (ms : List Macro) (n : ℕ) (line : List Token) → list_any is_macro line ≡ false → counted_uses ms n line ≡ Ok n
+unfolding counted_uses counted_use
+counted-plain ms n [] plain = refl
+counted-plain ms n (t ∷ line) plain =
+    rw (or-false_left (is_macro t) (list_any is_macro line) plain) (counted-plain ms n line (or-false_right (is_macro t) (list_any is_macro line) plain))
 
 -- ---- a plain line, by its parts
 
@@ -76,7 +83,8 @@ put_plain l ms opened ts plain fits =
 
 read_line-plain : (include : Including) (l : Line) (opened : List Place) (s : Flat) → is_plain l ≡ true → length s.tokens + length (l.0 ++ (l.1 ∷ [])) ≤ TOKEN_LIMIT → read_line include l.0 l.1 (opened, s) ≡ Ok (after_line l opened s)
 read_line-plain include l opened s plain fits =
-    read_line_puts include l.0 l.1 opened s (and_false (is_closed opened) (is_definition l.0) (no_definition l plain)) (and_false (is_closed opened) (is_include l.0) (no_include l plain))
+    read_line_first include l.0 l.1 (opened, s) s.words_read (counted-plain s.macros s.words_read l.0 (no_macro l plain))
+    ∙ read_counted_puts include l.0 l.1 opened s (and_false (is_closed opened) (is_definition l.0) (no_definition l plain)) (and_false (is_closed opened) (is_include l.0) (no_include l plain))
     ∙ ap (λ (r : Result Left Stop). leaving s.macros r >>= λ x. Ok (with_left s x)) (put_plain l s.macros opened s.tokens plain fits)
 
 read_lines-plain : (include : Including) (ls : List Line) (opened : List Place) (s : Flat) → list_all is_plain ls ≡ true → open_behind opened (tokens_of ls) ≡ [] → length s.tokens + length (tokens_of ls) ≤ TOKEN_LIMIT → read_lines include ls (opened, s) ≡ Ok (record s { tokens = s.tokens ++ tokens_of ls })
@@ -100,8 +108,8 @@ lines-plain (l ∷ ls) plain =
     ∙ lines-cons l.0 l.1 (tokens_of ls) (one_line l (and-left (is_plain l) _ plain)) (ends l (and-left (is_plain l) _ plain))
     ∙ ap (λ (ms : List Line). l ∷ ms) (lines-plain ls (and-right (is_plain l) _ plain))
 
-pub read_file_plain : (files : List File) (deep number : ℕ) (text : List ℕ) (ls : List Line) (s : Flat) → list_all is_plain ls ≡ true → lex sources.File 0 (placed (start_of number) text) ≡ Ok (tokens_of ls) → open_behind [] (tokens_of ls) ≡ [] → length s.tokens + length (tokens_of ls) ≤ TOKEN_LIMIT → read_file files deep number text s ≡ Ok (record s { files_read = s.files_read + 1; tokens = s.tokens ++ tokens_of ls })
+pub read_file_plain : (files : List File) (deep number : ℕ) (text : List ℕ) (ls : List Line) (s : Flat) → list_all is_plain ls ≡ true → lex sources.File s.words_read 0 (placed (start_of number) text) ≡ Ok (tokens_of ls) → open_behind [] (tokens_of ls) ≡ [] → length s.tokens + length (tokens_of ls) ≤ TOKEN_LIMIT → read_file files deep number text s ≡ Ok (record (begun s (tokens_of ls)) { tokens = s.tokens ++ tokens_of ls })
 read_file_plain files deep number text ls s plain is closes fits =
-    ap (λ (r : Result (List Token) Stop). leaving s.macros r >>= λ ts. read_lines (including files deep) (lines ts) ([], record s { files_read = s.files_read + 1 })) is
-    ∙ ap (λ (ms : List Line). read_lines (including files deep) ms ([], record s { files_read = s.files_read + 1 })) (lines-plain ls plain)
-    ∙ read_lines-plain (including files deep) ls [] (record s { files_read = s.files_read + 1 }) plain closes fits
+    ap (λ (r : Result (List Token) Stop). leaving s.macros r >>= λ ts. read_lines (including files deep) (lines ts) ([], begun s ts)) is
+    ∙ ap (λ (ms : List Line). read_lines (including files deep) ms ([], begun s (tokens_of ls))) (lines-plain ls plain)
+    ∙ read_lines-plain (including files deep) ls [] (begun s (tokens_of ls)) plain closes fits

@@ -1,29 +1,14 @@
 -- Macros and includes (pf.conf(5), MACROS, and "include" in GRAMMAR): the tokens that are left of a file and of those that it includes.
 use Rattle.std.specs.Prelude.{◌≡◌, ◌==◌, ℕ, zero, suc, ◌+◌, ◌-◌, nat_lt, nat_le, ◌&&◌, ◌||◌, not, Bool, true, false, List, [], ◌∷◌, ◌++◌, map, length, take, codes, Option, Some, None, Result, Ok, Err, if◌then◌else◌}
-use Rattle.std.specs.{List.{list_all, slice_get, flat_map}, Str.bytes_eq, Option.{option_map_or, option_or}}
+use Rattle.std.specs.List.{list_all, flat_map}
 use Rattle.pf_form.specs.Form.Forms.{◌>>=◌}
-use Rattle.pf_tokens.specs.declared.{place.Place.Place, place.Placed.Placed, token.Token.Token, flat.Macro.Macro, flat.Flat.Flat, flat.TheConstants.{TOKEN_LIMIT, VALUE_LIMIT}, files.File.File, fault.Stop.Stop, fault.Stop.TheVariants.{Faulty, Needs, Memory}}
+use Rattle.pf_tokens.specs.declared.{place.Place.Place, place.Placed.Placed, token.Token.Token, flat.Macro.Macro, flat.Flat.Flat, counting.TheConstants.TOKEN_LIMIT, flat.TheConstants.VALUE_LIMIT, files.File.File, fault.Stop.Stop, fault.Stop.TheVariants.{Faulty, Needs, Memory}}
 use Rattle.pf_tokens.specs.declared.token.Kind.TheVariants as kinds
 use Rattle.pf_tokens.specs.declared.fault.Mistake.TheVariants as mistakes
 use Rattle.pf_tokens.specs.declared.lexing.Source.TheVariants as sources
-use Rattle.pf_tokens.specs.{Places.{start_of, at, text_of}, Stops.faulty, Words.{same_kind, is_word, is_symbol, is_newline, is_macro, is_keyword_word, is_number, is_string, moved}, Files.text_of_file, Placed.placed, Lexing.{is_letter, lex}}
+use Rattle.pf_tokens.specs.{Places.{start_of, used_at, at, text_of}, Stops.faulty, Words.{same_kind, is_word, is_symbol, is_newline, is_macro, is_keyword_word, is_number, is_string, moved}, Counting.{words_in, counted_at}, Files.text_of_file, Latest.{latest, value_of}, Placed.placed, Lexing.{is_letter, lex}}
 
 -- ---- what a macro's use stands for
-
--- The number of the latest definition of a name, given the number of the first definition here.
-abbrev pub latest_from : ℕ → List ℕ → List Macro → Option ℕ
-latest_from n name [] = None
-latest_from n name (m ∷ ms) = option_or (latest_from (n + 1) name ms) (if bytes_eq name m.name then Some n else None)
-
-abbrev pub latest : List ℕ → List Macro → Option ℕ
-latest name ms = latest_from 0 name ms
-
-abbrev pub value_of : List Macro → ℕ → List Token
-value_of ms n = option_map_or (λ (m : Macro). m.value) (slice_get ms n) []
-
--- where the tokens of a macro's value stand: where it is used
-abbrev pub used_at : Place → ℕ → Place
-used_at p n = record p { value_of = Some n }
 
 abbrev pub value_at : Token → List Macro → Option ℕ → Result (List Token) Stop
 value_at t ms None = Err (faulty t.place (mistakes.Undefined (text_of t.text)))
@@ -36,6 +21,19 @@ parts_of ms t = if is_macro t then value_at t ms (latest (text_of t.text) ms) el
 -- these tokens, and behind them what a token stands for
 unfoldable pub with_parts : List Macro → Token → List Token → Result (List Token) Stop
 with_parts ms t ts = parts_of ms t >>= λ ps. Ok (ts ++ ps)
+
+-- How many words are read with what a token stands for. A token that uses no macro was counted when it was read.
+abbrev pub counted_value : ℕ → Token → List Macro → Option ℕ → Result ℕ Stop
+counted_value n t ms None = Ok n
+counted_value n t ms (Some k) = counted_at (used_at t.place k) n (value_of ms k)
+
+unfoldable pub counted_use : List Macro → ℕ → Token → Result ℕ Stop
+counted_use ms n t = if is_macro t then counted_value n t ms (latest (text_of t.text) ms) else Ok n
+
+-- the same of a line's tokens
+unfoldable pub counted_uses : List Macro → ℕ → List Token → Result ℕ Stop
+counted_uses ms n [] = Ok n
+counted_uses ms n (t ∷ ts) = counted_use ms n t >>= λ m. counted_uses ms m ts
 
 unfoldable pub replaced : List Macro → List Token → Result (List Token) Stop
 replaced ms [] = Ok []
@@ -90,10 +88,10 @@ joined ts = parts_checked ts >>= λ _. Ok (value_text ts)
 abbrev pub short : Place → List Placed → Result (List Placed) Stop
 short first value = if nat_le (length value) VALUE_LIMIT then Ok value else Err (faulty first mistakes.LongValue)
 
--- the tokens of a value, given its parts, where what stands behind "=" begins, and where the line ends
-abbrev pub tokens_of_value : Place → Place → List Token → Result (List Token) Stop
-tokens_of_value first end_place parts =
-    if length parts == 0 then Err (faulty end_place mistakes.NoValue) else (joined parts >>= short first >>= lex sources.Value 0)
+-- the tokens of a value, given how many words were read, its parts, where what stands behind "=" begins, and where the line ends
+abbrev pub tokens_of_value : ℕ → Place → Place → List Token → Result (List Token) Stop
+tokens_of_value n first end_place parts =
+    if length parts == 0 then Err (faulty end_place mistakes.NoValue) else (joined parts >>= short first >>= lex sources.Value n 0)
 
 -- where the first of these stands, or else the line's end
 abbrev pub first_place : List Token → Place → Place
@@ -101,16 +99,16 @@ first_place [] end_place = end_place
 first_place (t ∷ ts) end_place = t.place
 
 -- what a macro is defined as, by its name and what stands behind "="
-unfoldable pub defined : List Macro → Token → List Token → Place → Result Macro Stop
-defined ms name behind end_place =
-    name_checked name >>= λ _. replaced ms behind >>= tokens_of_value (first_place behind end_place) end_place
+unfoldable pub defined : ℕ → List Macro → Token → List Token → Place → Result Macro Stop
+defined n ms name behind end_place =
+    name_checked name >>= λ _. replaced ms behind >>= tokens_of_value n (first_place behind end_place) end_place
     >>= λ value. Ok (record { name = text_of name.text; value = value })
 
 -- the same, by the line's tokens
-abbrev pub defined_by : List Macro → List Token → Place → Result Macro Stop
-defined_by ms [] end_place = Err (faulty end_place mistakes.NoValue)
-defined_by ms (name ∷ []) end_place = Err (faulty end_place mistakes.NoValue)
-defined_by ms (name ∷ equals ∷ behind) end_place = defined ms name behind end_place
+abbrev pub defined_by : ℕ → List Macro → List Token → Place → Result Macro Stop
+defined_by n ms [] end_place = Err (faulty end_place mistakes.NoValue)
+defined_by n ms (name ∷ []) end_place = Err (faulty end_place mistakes.NoValue)
+defined_by n ms (name ∷ equals ∷ behind) end_place = defined n ms name behind end_place
 
 -- ---- include FILE
 
@@ -200,22 +198,29 @@ abbrev pub closed : List Place → Flat → Result Flat Stopped
 closed opened s = leaving s.macros (all_closed opened) >>= λ _. Ok s
 
 abbrev pub define : Flat → Macro → Flat
-define s m = record s { macros = s.macros ++ (m ∷ []) }
+define s m = record s { macros = s.macros ++ (m ∷ []); words_read = s.words_read + words_in m.value }
 
 abbrev pub with_left : Flat → Left → State
 with_left s x = (x.0, record s { tokens = x.1 })
 
--- a line that defines a macro
+-- a line that defines a macro, whose value's words are read
 abbrev pub defining : Flat → List Token → Place → Result Flat Stopped
-defining s line end_place = leaving s.macros (defined_by s.macros line end_place) >>= λ m. Ok (define s m)
+defining s line end_place = leaving s.macros (defined_by s.words_read s.macros line end_place) >>= λ m. Ok (define s m)
 
--- a line, by its tokens and its newline: only outside braces are macros defined and files included
-unfoldable pub read_line : Including → List Token → Token → State → Result State Stopped
-read_line include line newline x =
+-- a line, by its tokens and its newline, when what it stands for was counted: only outside braces are macros defined and files included
+unfoldable pub read_counted : Including → List Token → Token → State → Result State Stopped
+read_counted include line newline x =
     if is_closed x.0 && is_definition line then (defining x.1 line newline.place >>= λ t. Ok (x.0, t))
     else if is_closed x.0 && is_include line
     then (leaving x.1.macros (file_name x.1.macros line newline.place) >>= λ name. include name x.1 >>= λ t. Ok (x.0, t))
     else (leaving x.1.macros (put_line x.1.macros line (x.0, x.1.tokens) >>= put newline) >>= λ left. Ok (with_left x.1 left))
+
+abbrev pub with_words : State → ℕ → State
+with_words x n = (x.0, record x.1 { words_read = n })
+
+unfoldable pub read_line : Including → List Token → Token → State → Result State Stopped
+read_line include line newline x =
+    leaving x.1.macros (counted_uses x.1.macros x.1.words_read line) >>= λ n. read_counted include line newline (with_words x n)
 
 -- Lines: the tokens before each newline, with that newline.
 abbrev pub Line : Type 0
@@ -233,11 +238,15 @@ unfoldable pub read_lines : Including → List Line → State → Result Flat St
 read_lines include [] x = closed x.0 x.1
 read_lines include (l ∷ ls) x = read_line include l.0 l.1 x >>= read_lines include ls
 
+-- behind one more file, of these tokens
+abbrev pub begun : Flat → List Token → Flat
+begun s ts = record s { files_read = s.files_read + 1; words_read = s.words_read + words_in ts }
+
 -- the file of this number, which has this text
 abbrev pub read_text : Including → ℕ → List ℕ → Flat → Result Flat Stopped
 read_text include number text s =
-    leaving s.macros (lex sources.File 0 (placed (start_of number) text))
-    >>= λ ts. read_lines include (lines ts) ([], record s { files_read = s.files_read + 1 })
+    leaving s.macros (lex sources.File s.words_read 0 (placed (start_of number) text))
+    >>= λ ts. read_lines include (lines ts) ([], begun s ts)
 
 -- files that are included at most so deep
 unfoldable pub including : List File → ℕ → Including

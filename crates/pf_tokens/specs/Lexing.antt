@@ -6,7 +6,7 @@ use Rattle.pf_tokens.specs.declared.{place.Placed.Placed, token.Token.Token, tok
 use Rattle.pf_tokens.specs.declared.fault.Mistake.TheVariants.{Byte, Character, Backslash, OpenQuote, QuoteInWord, DollarInWord, NoMacroName, InterfaceAddress, Joined, MacroInValue, CommentInValue}
 use Rattle.pf_tokens.specs.declared.lexing.Source.TheVariants as sources
 use Rattle.pf_tokens.specs.declared.lexing.Run.TheVariants as runs
-use Rattle.pf_tokens.specs.{Places.text_of, Stops.faulty}
+use Rattle.pf_tokens.specs.{Places.text_of, Stops.faulty, Counting.counted_some}
 
 -- ---- bytes
 
@@ -135,8 +135,9 @@ front source c cs =
     else if is_letter c.byte || (c.byte == 58) then word c cs
     else a_symbol c cs
 
--- The tokens, behind so many bytes that belong to the one before.
-unfoldable pub lex : Source → ℕ → List Placed → Result (List Token) Stop
-lex source more [] = Ok []
-lex source (suc more) (c ∷ cs) = lex source more cs
-lex source zero (c ∷ cs) = front source c cs >>= λ f. lex source f.more cs >>= λ ts. Ok (option_to_list f.token ++ ts)
+-- The tokens, given how many words were read before, and behind so many bytes that belong to the token before.
+unfoldable pub lex : Source → ℕ → ℕ → List Placed → Result (List Token) Stop
+lex source n more [] = Ok []
+lex source n (suc more) (c ∷ cs) = lex source n more cs
+lex source n zero (c ∷ cs) =
+    front source c cs >>= λ f. counted_some n f.token >>= λ m. lex source m f.more cs >>= λ ts. Ok (option_to_list f.token ++ ts)

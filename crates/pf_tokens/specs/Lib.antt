@@ -2,7 +2,9 @@ pub mod Places
 pub mod Stops
 pub mod Placed
 pub mod Words
+pub mod Counting
 pub mod Lexing
 pub mod Files
+pub mod Latest
 pub mod Flat
 pub mod Laws

@@ -1,9 +1,13 @@
 -- Places in files: lines from 1, columns from 1 in bytes.
-use Rattle.std.specs.{Prelude.{ℕ, ◌+◌, ◌==◌, ◌&&◌, not, Bool, List, [], map, length, None, if◌then◌else◌}, List.list_all, Char.is_ascii_digit, Str.is_utf8}
+use Rattle.std.specs.{Prelude.{ℕ, ◌+◌, ◌==◌, ◌&&◌, not, Bool, List, [], map, length, Some, None, if◌then◌else◌}, List.list_all, Char.is_ascii_digit, Str.is_utf8}
 use Rattle.pf_tokens.specs.declared.{place.Place.Place, place.Placed.Placed}
 
 abbrev pub start_of : ℕ → Place
 start_of file = record { file = file; line = 1; column = 1; value_of = None }
+
+-- where the tokens of a macro's value stand, by its number: where it is used
+abbrev pub used_at : Place → ℕ → Place
+used_at p n = record p { value_of = Some n }
 
 abbrev pub next_line : Place → Place
 next_line p = record p { line = p.line + 1; column = 1 }

@@ -1,24 +1,24 @@
 //! Tokens without macros, definitions of macros and includes.
-ghost use Rattle.std.specs.Prelude.{◌≡◌, ◌≤◌, ◌<◌, ◌+◌, ◌∷◌, ◌++◌, [], drop, length, Some, Err, Ok, IfSome, IsTrue, MatchOption, OnOk};
-ghost use Rattle.pf_tokens.specs.{declared.place.Place.Place, Places.{start_of, text_of}, Stops.{Gives, Leaves}, Words.{is_newline}, Placed.placed, Lexing.lex};
-ghost use Rattle.pf_tokens.specs.Flat.{latest, with_parts, replaced, is_definition, has_letters_alone, name_checked, part_checked, with_part, joined, tokens_of_value, first_place, defined, is_include, only_string, file_name, defining, lines, braces, put, put_each, put_line, all_closed, Reaches, ReachesLine, including, read_line, read_file};
+ghost use Rattle.std.specs.Prelude.{◌≡◌, ◌≤◌, ◌<◌, ◌+◌, ◌∷◌, ◌++◌, [], drop, length, Some, Err, Ok, IfOk, IfSome, IsTrue, MatchOption, OnErr, OnOk};
+ghost use Rattle.pf_tokens.specs.{declared.place.Place.Place, Places.{start_of, text_of}, Stops.{Gives, Leaves}, Words.{is_newline}, Counting.words_in, Latest.latest, Placed.placed, Lexing.lex};
+ghost use Rattle.pf_tokens.specs.Flat.{with_parts, replaced, is_definition, has_letters_alone, name_checked, part_checked, with_part, joined, tokens_of_value, first_place, defined, counted_value, counted_use, counted_uses, is_include, only_string, file_name, defining, lines, braces, put, put_each, put_line, all_closed, Reaches, ReachesLine, including, read_counted, read_line, read_file};
 
+use crate::counting::{TOKEN_LIMIT, count_at};
 use crate::fault::{Mistake, Stop, refusal};
 use crate::files::{FILE_LIMIT, Files, READING_LIMIT, text_of_file};
 use crate::items::{Bytes, Items, PlacedText};
 use crate::lexing::{Source, is_letter, lex};
 use crate::place::{Place, Placed};
 use crate::placing::placed;
-use crate::texts::same_bytes;
 use crate::token::{Kind, Token};
-use std::alloc::Global;
+use std::alloc::{AllocError, Global};
+use std::collections::BTreeMap;
+use std::marker::Model;
 
 /// How deep files are included.
 pub const INCLUDE_LIMIT: u32 = 16;
 /// The most bytes of a macro's value.
 pub const VALUE_LIMIT: usize = 4_096;
-/// The most tokens that are left.
-pub const TOKEN_LIMIT: usize = 262_144;
 
 /// A macro's definition.
 #[derive(Debug, Drop)]
@@ -28,32 +28,81 @@ pub struct Macro {
     pub value: Items<Token>,
 }
 
-/// The macros that were defined, in order. A name means its latest definition.
-pub type Macros = Items<Macro>;
+/// The macros that were defined, in order, and by each name the number of its latest definition. Contracts see the list of the macros.
+#[derive(Debug, Drop)]
+pub struct Macros {
+    definitions: Items<Macro>,
+    numbers: BTreeMap<Vec<u8>, usize>,
+}
+
+impl Model for Macros {
+    ghost use Rattle.std.specs.Prelude.{List};
+    ghost use Rattle.pf_tokens.specs.declared.flat.Macro.{Macro};
+
+    ghost Value = { List Macro };
+
+    ghost use Rattle.std.specs.Prelude.{ℕ, ◌≡◌};
+    ghost use Rattle.pf_tokens.specs.Latest.{latest, number_at};
+
+    ghost view = { λ m. m.definitions };
+
+    ghost invariant = { λ m. (name : List ℕ) → number_at m.numbers name ≡ latest name m.definitions };
+}
+
+impl Macros {
+    /// None.
+    pub fn new(alloc: Global) -> Macros
+        ensures { result ≡ [] }
+    {
+        Macros {
+            definitions: Items::new(alloc),
+            numbers: BTreeMap::new(alloc),
+        }
+    }
+
+    /// The macros, in the order of their definitions.
+    pub fn as_slice(&self) -> &[Macro]
+        ensures { result.now ≡ self.now }
+    {
+        self.definitions.as_slice()
+    }
+
+    /// The number of a name's latest definition.
+    fn latest(&self, name: &[u8]) -> Option<usize>
+        ensures latest { result ≡ latest name.now self.now }
+        ensures bound { IfSome result (λ n. n < length self.now) }
+    {
+        self.numbers.get(name).copied()
+    }
+
+    /// Appends a definition. `AllocError`: the macros are as before.
+    fn push(&mut self, alloc: Global, definition: Macro) -> Result<(), AllocError>
+        ensures ok { OnOk result (self.new ≡ self.old ++ definition ∷ []) }
+        ensures err { OnErr result (self.new ≡ self.old) }
+    {
+        let name = Vec::from_slice(alloc, definition.name.as_slice())?;
+        let number = self.definitions.len();
+        self.definitions.push(definition)?;
+        match self.numbers.insert(name, number) {
+            Ok(_) => Ok(()),
+            Err(_) => {
+                self.definitions.pop();
+                Err(AllocError)
+            }
+        }
+    }
+}
 
 /// What reading files has come to.
 #[derive(Debug, Drop)]
 pub struct Flat {
     /// How many files were read.
     pub files_read: usize,
+    /// How many words were read of these files, and of what macros stand for.
+    pub words_read: usize,
     pub macros: Macros,
     /// The tokens that are left.
     pub tokens: Items<Token>,
-}
-
-/// The number of a macro's latest definition.
-#[tactic(auto, using(crate::proofs::Steps::drop_item, std::proofs::lemmas::List::drop_all))]
-fn latest(macros: &[Macro], name: &[Placed]) -> Option<usize>
-    ensures latest { result ≡ latest (text_of name.now) macros.now }
-    ensures bound { IfSome result (λ n. n < length macros.now) }
-{
-    let mut found = None;
-    for (number, definition) in macros.iter().enumerate() {
-        if same_bytes(name, definition.name.as_slice()) {
-            found = Some(number);
-        }
-    }
-    found
 }
 
 /// Appends what a token stands for: the value of a macro, at the place of its use; of any other token, itself.
@@ -70,14 +119,66 @@ fn replace(
         out.push(token.copied(alloc)?)?;
         return Ok(());
     }
-    let macros = macros.as_slice();
-    let Some(number) = latest(macros, token.text.as_slice()) else {
-        return Err(refusal(token.place, Mistake::Undefined(token.bytes(alloc)?)));
+    let name = token.bytes(alloc)?;
+    let Some(number) = macros.latest(name.as_slice()) else {
+        return Err(refusal(token.place, Mistake::Undefined(name)));
     };
-    let mut place = token.place;
-    place.value_of = Some(number);
-    for part in macros[number].value.as_slice() {
+    let place = token.place.used(number);
+    for part in macros.as_slice()[number].value.as_slice() {
         out.push(part.moved(alloc, place)?)?;
+    }
+    Ok(())
+}
+
+/// Counts what the use of a macro stands for, if that is defined.
+fn count_value(
+    alloc: Global,
+    macros: &Macros,
+    words_read: &mut usize,
+    token: &Token,
+) -> Result<(), Stop>
+    ensures { Leaves result words_read.new (counted_value words_read.old token.now macros.now (latest (text_of token.now.text) macros.now)) }
+{
+    let name = token.bytes(alloc)?;
+    let Some(number) = macros.latest(name.as_slice()) else {
+        return Ok(());
+    };
+    let place = token.place.used(number);
+    count_at(
+        place,
+        words_read,
+        macros.as_slice()[number].value.as_slice(),
+    )
+}
+
+/// Counts what a token stands for, if it isn't itself.
+#[tactic(auto, unfolding(crate::specs::Flat::counted_use))]
+fn count_use(
+    alloc: Global,
+    macros: &Macros,
+    words_read: &mut usize,
+    token: &Token,
+) -> Result<(), Stop>
+    ensures { Leaves result words_read.new (counted_use macros.now words_read.old token.now) }
+{
+    if token.is_macro() {
+        return count_value(alloc, macros, words_read, token);
+    }
+    Ok(())
+}
+
+/// Counts what the tokens of a line stand for. `Faulty`: a macro stands for more words than the limit leaves.
+#[tactic(auto, using(crate::proofs::Steps::drop_item, std::proofs::lemmas::List::drop_all), unfolding(crate::specs::Flat::counted_uses))]
+fn count_uses(
+    alloc: Global,
+    macros: &Macros,
+    words_read: &mut usize,
+    line: &[Token],
+) -> Result<(), Stop>
+    ensures { Leaves result words_read.new (counted_uses macros.now words_read.old line.now) }
+{
+    for token in line {
+        count_use(alloc, macros, words_read, token)?;
     }
     Ok(())
 }
@@ -165,7 +266,7 @@ fn join(value: &mut PlacedText, part: &Token) -> Result<(), Stop>
 }
 
 /// The texts of a value's parts, with one space between each two.
-#[tactic(auto, using(crate::proofs::Steps::drop_item, std::proofs::lemmas::List::drop_all, crate::proofs::Macros::value_step), unfolding(crate::specs::Flat::joined))]
+#[tactic(auto, using(crate::proofs::Steps::drop_item, std::proofs::lemmas::List::drop_all, crate::proofs::Uses::value_step), unfolding(crate::specs::Flat::joined))]
 fn joined(alloc: Global, parts: &[Token]) -> Result<PlacedText, Stop>
     ensures { Gives result (joined parts.now) }
 {
@@ -177,14 +278,16 @@ fn joined(alloc: Global, parts: &[Token]) -> Result<PlacedText, Stop>
     Ok(value)
 }
 
-/// The tokens of a value, given its parts, where what stands behind `=` begins, and where the line ends.
+/// The tokens of a value, which are counted, given its parts, where what stands behind `=` begins, and where the line ends.
 fn tokens_of_value(
     alloc: Global,
+    words_read: &mut usize,
     parts: &[Token],
     first: Place,
     line_end: Place,
 ) -> Result<Items<Token>, Stop>
-    ensures { Gives result (tokens_of_value first line_end parts.now) }
+    ensures value { Gives result (tokens_of_value words_read.old first line_end parts.now) }
+    ensures counted { IfOk result (λ ts. words_read.new ≡ words_read.old + words_in ts) }
 {
     if parts.is_empty() {
         return Err(refusal(line_end, Mistake::NoValue));
@@ -193,7 +296,7 @@ fn tokens_of_value(
     if value.len() > VALUE_LIMIT {
         return Err(refusal(first, Mistake::LongValue));
     }
-    lex(alloc, Source::Value, &value)
+    lex(alloc, Source::Value, words_read, &value)
 }
 
 /// Where the first of these tokens stands, or else the line's end.
@@ -206,21 +309,23 @@ fn first_place(tokens: &[Token], line_end: Place) -> Place
     }
 }
 
-/// What a macro is defined as, by its name and what stands behind `=`.
+/// What a macro is defined as, by its name and what stands behind `=`. Its value's words are counted.
 #[tactic(auto, unfolding(crate::specs::Flat::defined))]
 fn definition(
     alloc: Global,
+    words_read: &mut usize,
     macros: &Macros,
     name: &Token,
     behind: &[Token],
     line_end: Place,
 ) -> Result<Macro, Stop>
-    ensures { Gives result (defined macros.now name.now behind.now line_end) }
+    ensures definition { Gives result (defined words_read.old macros.now name.now behind.now line_end) }
+    ensures counted { IfOk result (λ m. words_read.new ≡ words_read.old + words_in m.value) }
 {
     check_name(alloc, name)?;
     let parts = replaced(alloc, macros, behind)?;
     let first = first_place(behind, line_end);
-    let value = tokens_of_value(alloc, parts.as_slice(), first, line_end)?;
+    let value = tokens_of_value(alloc, words_read, parts.as_slice(), first, line_end)?;
     let name = name.bytes(alloc)?;
     Ok(Macro { name, value })
 }
@@ -291,7 +396,7 @@ fn put_each(
 }
 
 /// Appends what the tokens of a line stand for.
-#[tactic(auto, using(crate::proofs::Steps::drop_item, std::proofs::lemmas::List::drop_all, crate::proofs::Macros::with_parts_first), unfolding(crate::specs::Flat::put_line))]
+#[tactic(auto, using(crate::proofs::Steps::drop_item, std::proofs::lemmas::List::drop_all, crate::proofs::Uses::with_parts_first), unfolding(crate::specs::Flat::put_line))]
 fn put_line(
     alloc: Global,
     macros: &Macros,
@@ -309,13 +414,19 @@ fn put_line(
     Ok(())
 }
 
-/// The tokens of the file of this number, which has this text.
-fn tokens_of(alloc: Global, number: usize, text: &[u8]) -> Result<Items<Token>, Stop>
+/// The tokens of the file of this number, which has this text. They are counted.
+fn tokens_of(
+    alloc: Global,
+    words_read: &mut usize,
+    number: usize,
+    text: &[u8],
+) -> Result<Items<Token>, Stop>
     requires { length text.now ≤ FILE_LIMIT }
-    ensures { Gives result (lex Source.File 0 (placed (start_of number) text.now)) }
+    ensures tokens { Gives result (lex Source.File words_read.old 0 (placed (start_of number) text.now)) }
+    ensures counted { IfOk result (λ ts. words_read.new ≡ words_read.old + words_in ts) }
 {
     let text = placed(alloc, Place::start(number), text)?;
-    lex(alloc, Source::File, &text)
+    lex(alloc, Source::File, words_read, &text)
 }
 
 /// The tokens before the first newline, that newline, and the tokens behind it.
@@ -345,17 +456,19 @@ fn check_closed(opened: &[Place]) -> Result<(), Stop>
 impl Flat {
     /// Before the first file, or before another one that shares nothing but the number of those that were read.
     pub fn new(alloc: Global, files_read: usize) -> Flat
-        ensures { result ≡ record { files_read = files_read; macros = []; tokens = [] } }
+        ensures { result ≡ record { files_read = files_read; words_read = 0; macros = []; tokens = [] } }
     {
         Flat {
             files_read,
-            macros: Items::new(alloc),
+            words_read: 0,
+            macros: Macros::new(alloc),
             tokens: Items::new(alloc),
         }
     }
 
-    /// Reads the file of this number, which has this text, and what it includes, at most so deep. Each file that is read counts. A fault
-    /// leaves the macros that were defined before it.
+    /// Reads the file of this number, which has this text, and what it includes, at most so deep. Each file that is read counts, and so do
+    /// the words of each: `Mistake::ManyWords`, at the word that is past [`TOKEN_LIMIT`]. A fault leaves the macros that were defined
+    /// before it.
     #[cycle(reading)]
     #[tactic(auto, unfolding(crate::specs::Flat::read_lines))]
     pub fn read(
@@ -372,7 +485,7 @@ impl Flat {
         ensures counted { OnOk result (self.old.files_read < self.new.files_read) }
         ensures within { self.new.files_read ≤ READING_LIMIT }
     {
-        let tokens = tokens_of(alloc, number, text)?;
+        let tokens = tokens_of(alloc, &mut self.words_read, number, text)?;
         self.files_read += 1;
         let mut rest = tokens.as_slice();
         let mut opened = Items::new(alloc);
@@ -400,6 +513,27 @@ impl Flat {
         ensures counted { OnOk result (self.old.files_read ≤ self.new.files_read) }
         ensures within { self.new.files_read ≤ READING_LIMIT }
     {
+        count_uses(alloc, &self.macros, &mut self.words_read, line)?;
+        self.read_counted(alloc, files, deep, line, newline, opened)
+    }
+
+    /// Reads a line, when what it stands for was counted.
+    #[cycle(reading)]
+    #[tactic(auto, unfolding(crate::specs::Flat::read_counted))]
+    fn read_counted(
+        &mut self,
+        alloc: Global,
+        files: &Files,
+        deep: u32,
+        line: &[Token],
+        newline: &Token,
+        opened: &mut Items<Place>,
+    ) -> Result<(), Stop>
+        requires { self.old.files_read ≤ READING_LIMIT }
+        ensures reached { ReachesLine result (opened.new, self.new) (read_counted (including files.now deep) line.now newline.now (opened.old, self.old)) }
+        ensures counted { OnOk result (self.old.files_read ≤ self.new.files_read) }
+        ensures within { self.new.files_read ≤ READING_LIMIT }
+    {
         if opened.len() == 0 {
             if is_definition(line) {
                 return self.define(alloc, line, newline.place);
@@ -419,8 +553,15 @@ impl Flat {
         ensures reached { Reaches result self.new (defining self.old line.now line_end) }
         ensures unread { self.new.files_read ≡ self.old.files_read }
     {
-        let definition = definition(alloc, &self.macros, &line[0], &line[2..], line_end)?;
-        self.macros.push(definition)?;
+        let definition = definition(
+            alloc,
+            &mut self.words_read,
+            &self.macros,
+            &line[0],
+            &line[2..],
+            line_end,
+        )?;
+        self.macros.push(alloc, definition)?;
         Ok(())
     }
 

@@ -1,9 +1,9 @@
 //! Laws of texts and tokens. Each function does nothing; its contract is what is proved.
 ghost use Rattle.std.specs.Prelude.{◌≡◌, ◌≤◌, ◌+◌, ◌∷◌, ◌++◌, ℕ, true, [], List, Ok, length};
 ghost use Rattle.std.specs.List.{list_all};
-ghost use Rattle.pf_tokens.specs.declared.{place.Place.Place, place.Placed.Placed, token.Token.Token, lexing.Source.Source, files.File.File, flat.Flat.Flat, flat.TheConstants.TOKEN_LIMIT};
+ghost use Rattle.pf_tokens.specs.declared.{place.Place.Place, place.Placed.Placed, token.Token.Token, lexing.Source.Source, files.File.File, flat.Flat.Flat, counting.TheConstants.TOKEN_LIMIT};
 ghost use Rattle.pf_tokens.specs.declared.lexing.Source.TheVariants as sources;
-ghost use Rattle.pf_tokens.specs.{Places.{start_of, at}, Placed.placed, Lexing.lex, Flat.{Line, read_file}};
+ghost use Rattle.pf_tokens.specs.{Places.{start_of, at}, Placed.placed, Lexing.lex, Flat.{Line, begun, read_file}};
 ghost use Rattle.pf_tokens.specs.Laws.{located, end_of, uncontinued, HasInOrder, bytes_of, HasNoMacro, is_plain, tokens_of, open_behind};
 
 /// What is read of a text is its bytes without continued lines, each with its place in the text, and a newline at the end.
@@ -14,7 +14,7 @@ pub fn continued_lines_vanish()
 
 /// What tokens are made of stands in the text, byte after byte, each where the token has it.
 pub fn tokens_stand_in_their_text()
-    ensures { (source : Source) (text : List Placed) (ts : List Token) → lex source 0 text ≡ Ok ts → HasInOrder text (bytes_of ts) }
+    ensures { (source : Source) (n : ℕ) (text : List Placed) (ts : List Token) → lex source n 0 text ≡ Ok ts → HasInOrder text (bytes_of ts) }
 {}
 
 /// No use of a macro is left of a file and of those that it includes, nor is one in a macro's value.
@@ -26,7 +26,7 @@ pub fn no_macro_is_left()
 #[tactic(auto, using(crate::proofs::Plain::read_file_plain))]
 pub fn plain_lines_are_left()
     ensures { (files : List File) (deep number : ℕ) (text : List ℕ) (ls : List Line) (s : Flat) → list_all is_plain ls ≡ true →
-        lex sources.File 0 (placed (start_of number) text) ≡ Ok (tokens_of ls) → open_behind [] (tokens_of ls) ≡ [] →
+        lex sources.File s.words_read 0 (placed (start_of number) text) ≡ Ok (tokens_of ls) → open_behind [] (tokens_of ls) ≡ [] →
         length s.tokens + length (tokens_of ls) ≤ TOKEN_LIMIT →
-        read_file files deep number text s ≡ Ok (record s { files_read = s.files_read + 1; tokens = s.tokens ++ tokens_of ls }) }
+        read_file files deep number text s ≡ Ok (record (begun s (tokens_of ls)) { tokens = s.tokens ++ tokens_of ls }) }
 {}

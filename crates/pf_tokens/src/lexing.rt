@@ -1,8 +1,9 @@
 //! Tokens of placed bytes.
-ghost use Rattle.std.specs.Prelude.{◌≡◌, ◌≤◌, ◌<◌, ◌∷◌, ◌++◌, length, take, drop, IfOk, OnOk};
+ghost use Rattle.std.specs.Prelude.{◌≡◌, ◌≤◌, ◌<◌, ◌+◌, ◌∷◌, ◌++◌, length, take, drop, IfOk, OnOk};
 ghost use Rattle.std.specs.Option.{option_to_list};
-ghost use Rattle.pf_tokens.specs.{Stops.Gives, Places.text_of, Lexing.{is_letter, is_word_byte, goes_on, run_of, is_text, is_quote, is_pair, pairs, is_symbol_byte, is_printable, quoted, word_checked, is_of_interface, unjoined, symbol_more, a_quoted, a_symbol, comment, named_macro, macro_use, word, front, lex}};
+ghost use Rattle.pf_tokens.specs.{Stops.{Gives, Leaves}, Places.text_of, Counting.{words_in, counted_some}, Lexing.{is_letter, is_word_byte, goes_on, run_of, is_text, is_quote, is_pair, pairs, is_symbol_byte, is_printable, quoted, word_checked, is_of_interface, unjoined, symbol_more, a_quoted, a_symbol, comment, named_macro, macro_use, word, front, lex}};
 
+use crate::counting::count;
 use crate::fault::{Mistake, Stop, refusal};
 use crate::items::{Items, PlacedText};
 use crate::place::Placed;
@@ -359,19 +360,31 @@ fn take_front(
     }
 }
 
-/// Appends a token, if there is one.
-fn put_some(tokens: &mut Items<Token>, token: Option<Token>) -> Result<(), AllocError>
-    ensures { OnOk result (tokens.new ≡ tokens.old ++ option_to_list token) }
+/// Counts and appends a token, if there is one.
+fn put_some(
+    words_read: &mut usize,
+    tokens: &mut Items<Token>,
+    token: Option<Token>,
+) -> Result<(), Stop>
+    ensures counted { Leaves result words_read.new (counted_some words_read.old token) }
+    ensures put { OnOk result (tokens.new ≡ tokens.old ++ option_to_list token) }
 {
-    match token {
-        Some(token) => tokens.push(token),
-        None => Ok(()),
+    if let Some(token) = token {
+        count(token.place, words_read, &token)?;
+        tokens.push(token)?;
     }
+    Ok(())
 }
 
-/// The tokens of the bytes.
-pub fn lex(alloc: Global, source: Source, text: &PlacedText) -> Result<Items<Token>, Stop>
-    ensures { Gives result (lex source 0 text.now) }
+/// The tokens of the bytes, which count as words that are read. `Faulty`: no token stands at the front, or one is past the limit.
+pub fn lex(
+    alloc: Global,
+    source: Source,
+    words_read: &mut usize,
+    text: &PlacedText,
+) -> Result<Items<Token>, Stop>
+    ensures tokens { Gives result (lex source words_read.old 0 text.now) }
+    ensures counted { IfOk result (λ ts. words_read.new ≡ words_read.old + words_in ts) }
 {
     let mut tokens = Items::new(alloc);
     let bytes = text.as_slice();
@@ -379,7 +392,7 @@ pub fn lex(alloc: Global, source: Source, text: &PlacedText) -> Result<Items<Tok
     while at < bytes.len() {
         let front = take_front(alloc, source, bytes[at], &bytes[at + 1..])?;
         at += front.more + 1;
-        put_some(&mut tokens, front.token)?;
+        put_some(words_read, &mut tokens, front.token)?;
     }
     Ok(tokens)
 }

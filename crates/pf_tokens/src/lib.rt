@@ -2,15 +2,17 @@
 //! and symbols; and these without macros, definitions of macros and includes.
 //!
 //! The modules, each of which uses only those before it: `place` (where bytes stand), `items` (lists), `texts`, `fault` (what is wrong, and
-//! where), `placing` (continued lines), `reserved` and `token`, `lexing`, `files` (those that are given), and `flat`.
+//! where), `placing` (continued lines), `reserved` and `token`, `counting` (how many words are read), `lexing`, `files` (those that are
+//! given), and `flat`.
 //!
 //! The crate opens no file: a text that names a file which isn't given is answered by [`Stop::Needs`], and whoever reads files asks again.
 //! It knows no rule, table or anchor; all that a word may mean is left to the crates above, but for the words that are reserved.
 //!
 //! Read `specs/Placed.antt` first, then `specs/Lexing.antt` and `specs/Flat.antt`: three total functions over plain lists. `specs/Laws.antt`
-//! and `laws` say what holds of them.
+//! and `laws` say what holds of them, `specs/Counting.antt` how words are counted.
 #![tactic(auto)]
 
+mod counting;
 mod fault;
 mod files;
 mod flat;

@@ -1,6 +1,6 @@
 //! Where bytes stand.
 ghost use Rattle.std.specs.Prelude.{◌≡◌, ◌<◌, ◌+◌, ◌^◌};
-ghost use Rattle.pf_tokens.specs.Places.{start_of, next_line, next_column};
+ghost use Rattle.pf_tokens.specs.Places.{start_of, used_at, next_line, next_column};
 
 /// Where a byte, a token or what is made of it stands.
 #[derive(Clone, Copy, Debug, PartialEq, Eq)]
@@ -32,6 +32,16 @@ impl Place {
             line: 1,
             column: 1,
             value_of: None,
+        }
+    }
+
+    /// Where what the macro of this number stands for is, if it is used here.
+    pub(crate) fn used(self, number: usize) -> Place
+        ensures { result ≡ used_at self number }
+    {
+        Place {
+            value_of: Some(number),
+            ..self
         }
     }
 

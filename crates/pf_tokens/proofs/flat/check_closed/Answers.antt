@@ -1,4 +1,4 @@
-use Rattle.pf_tokens.proofs.Macros.{all_closed-open}
+use Rattle.pf_tokens.proofs.Uses.{all_closed-open}
 use Rattle.pf_tokens.proofs.flat.check_closed.Goals as goal
 
 pub returns-in-len1-up : goal.returns-in-len1-up

@@ -1,7 +1,7 @@
 use Rattle.std.proofs.{Common.{◌≡◌, ◌∙◌, [], Ok, ap, sym, List}, lemmas.Result.err_from_is_err_and}
 use Rattle.pf_tokens.specs.declared.token.Token.{Token}
 use Rattle.pf_tokens.specs.Flat.{with_parts, put_each, put_line}
-use Rattle.pf_tokens.proofs.{Stopping.leaves_stop, Macros.{put_line-step, put_line-fault}}
+use Rattle.pf_tokens.proofs.{Stopping.leaves_stop, Uses.{put_line-step, put_line-fault}}
 use Rattle.pf_tokens.proofs.flat.put_line.Goals as goal
 
 pub loop-token-preserved : goal.loop-token-preserved

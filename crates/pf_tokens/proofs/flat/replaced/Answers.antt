@@ -1,6 +1,6 @@
 use Rattle.std.proofs.Common.{arith, ◌∙◌}
 use Rattle.pf_tokens.specs.Flat.{replaced}
-use Rattle.pf_tokens.proofs.{Stopping.gives_left, Macros.{replaced-step, replaced-fault}}
+use Rattle.pf_tokens.proofs.{Stopping.gives_left, Uses.{replaced-step, replaced-fault}}
 use Rattle.std.proofs.lemmas.Result.{err_from_is_err_and}
 use Rattle.pf_tokens.proofs.flat.replaced.Goals as goal
 

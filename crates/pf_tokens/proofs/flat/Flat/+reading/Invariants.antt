@@ -3,14 +3,17 @@ use Rattle.pf_tokens.specs.{declared.files.TheConstants.READING_LIMIT, Flat.{inc
 use Rattle.pf_tokens.proofs.flat.Flat.+reading.Given as goal
 
 abbrev pub decreases-read : goal.decreases-read
-decreases-read l = 3 * l.deep + 2
+decreases-read l = 4 * l.deep + 3
 
 abbrev pub decreases-read_line : goal.decreases-read_line
-decreases-read_line l = 3 * l.deep + 1
+decreases-read_line l = 4 * l.deep + 2
+
+abbrev pub decreases-read_counted : goal.decreases-read_counted
+decreases-read_counted l = 4 * l.deep + 1
 
 -- an included file is read less deep
 abbrev pub decreases-include : goal.decreases-include
-decreases-include l = 3 * l.deep
+decreases-include l = 4 * l.deep
 
 -- what is left to read gives the whole
 abbrev pub invariant-read-loop-line : goal.invariant-read-loop-line

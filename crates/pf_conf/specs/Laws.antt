@@ -1,0 +1,23 @@
+-- What the laws of files speak of.
+use Rattle.std.specs.Prelude.{◌≡◌, ◌⊎◌, ℕ, Bool, List, map, Ok, Contains}
+use Rattle.pf_tokens.specs.declared.{place.Place.Place, files.File.File, flat.Flat.Flat}
+use Rattle.pf_parse.specs.declared.{parser.Mode.Mode, statements.Parsed.Parsed, tree.Product.Product}
+use Rattle.pf_parse.specs.{Lines.parsed, Laws.BeginsAt}
+use Rattle.pf_conf.specs.declared.found.Mention.{Mention}
+use Rattle.pf_conf.specs.Resolving.{flat_of}
+
+-- Here an interface is named that a file's lines skip.
+pub record SkipsAt (flat : Flat) (p : Place) : Type 0 where
+  pub mode : Mode
+  pub is_main : Bool
+  pub lines : Parsed
+  pub read : parsed flat.tokens mode is_main ≡ Ok lines
+  pub among : Contains (map (λ (w : Product). w.place) lines.tree.skips) p
+
+-- Here a rule begins of a file that is read, with pass, block or anchor, or an interface is named that the file skips.
+pub record IsRulePlace (files : List File) (p : Place) : Type 0 where
+  pub file : Mention
+  pub before : ℕ
+  pub flat : Flat
+  pub read : flat_of files file before ≡ Ok flat
+  pub begins : BeginsAt flat.tokens p ⊎ SkipsAt flat p

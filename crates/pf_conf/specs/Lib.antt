@@ -1,0 +1,9 @@
+pub mod Steps
+pub mod Tables
+pub mod Found
+pub mod Rulesets
+pub mod Filling
+pub mod Telling
+pub mod Resolving
+pub mod Shown
+pub mod Laws

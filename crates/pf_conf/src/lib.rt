@@ -1,0 +1,36 @@
+//! What a pf.conf means (pf.conf(5)): the rules and the tables that it stands for, by the paths of their rulesets, or the one fault with
+//! its place.
+//!
+//! The modules, each of which uses only those before it: `fault` (what a user is told, and where), `tables` (a table's entries and their
+//! texts), `found` (rulesets, tables and what is still to be loaded), `rulesets` (rules in braces), `filling` (tables from lists and
+//! files), `telling` (places as a user finds them), `resolving` (all files), `shown` (what is printed) and `laws`. The lines of a file are
+//! read by pf_parse, the lists of a rule are multiplied by pf_lists, and a table's entries are put in order by pf_table.
+//!
+//! The crate opens no file: [`resolve`] answers with the name of one that isn't given, and whoever reads files asks again. It knows no
+//! server, no ticket and no state.
+//!
+//! Read `specs/Rulesets.antt`, `specs/Filling.antt` and then `specs/Resolving.antt`: what a file means is a total function of the files
+//! that are given. Proved: [`resolve`] gives what it says, or the first fault, unless memory runs out; [`write_conf`] prints what
+//! `specs/Shown.antt` says. Laws: what is taken strictly is taken leniently, with the same result (`lenient_takes_what_strict_takes`);
+//! rules stand where one begins in a file (`rules_stand_at_their_words`); pf_rule reads each rule that is printed as this rule
+//! (`printed_rules_are_read_again`). Only tested: that main's rules, as they are printed, are a file with the same rules (pf_conf_rows).
+#![tactic(auto)]
+
+mod fault;
+mod filling;
+mod found;
+mod laws;
+mod resolving;
+mod rulesets;
+mod shown;
+mod tables;
+mod telling;
+
+pub use fault::{Fault, Note, Spot, Unread};
+pub use found::{Conf, FilledTable, Ruleset};
+pub use laws::{
+    lenient_takes_what_strict_takes, printed_rules_are_read_again, rules_stand_at_their_words,
+};
+pub use pf_parse::{At, LeftOut, Mistake, Mode, Reason, Remark};
+pub use resolving::resolve;
+pub use shown::write_conf;

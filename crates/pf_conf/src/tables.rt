@@ -1,0 +1,83 @@
+//! Tables that are filled.
+ghost use Rattle.std.specs.Prelude.{◌≡◌, length, map, codes, IfOk, if◌then◌else◌, []};
+ghost use Rattle.pf_addr.specs.Writing.{Continues};
+ghost use Rattle.pf_parse.specs.Stops.{Gives};
+ghost use Rattle.pf_conf.specs.Tables.{plain, filled, entry_text, entries_text};
+
+use pf_addr::{write_more, write_more_net};
+use pf_parse::{Entry, Mistake, Stop, refusal};
+use pf_table::{Entry as TableEntry, Table, TableRefusal};
+use pf_tokens::Place;
+use std::alloc::{AllocError, Global};
+use std::io::{self, Write};
+
+/// The entries without their places.
+#[tactic(auto, using(crate::proofs::Steps::map_item))]
+fn plain_entries(alloc: Global, entries: &[Entry]) -> Result<Vec<TableEntry>, AllocError>
+    ensures { IfOk result (λ v. v.items ≡ map plain entries.now) }
+{
+    let mut listed = Vec::new(alloc);
+    for entry in entries {
+        listed.push(TableEntry::new(entry.net, entry.is_negated))?;
+    }
+    Ok(listed)
+}
+
+/// The table of these entries, whose name stands at this place: an entry is once in it, and has one sign.
+#[tactic(auto, unfolding(crate::specs::Tables::filled))]
+pub(crate) fn filled(alloc: Global, named: Place, entries: &[Entry]) -> Result<Table, Stop>
+    ensures { Gives result (filled named entries.now) }
+{
+    let listed = plain_entries(alloc, entries)?;
+    let mut table = Table::empty();
+    match table.replace(alloc, &listed) {
+        Ok(()) => Ok(table),
+        Err(TableRefusal::Conflict { at }) if at < entries.len() => {
+            Err(refusal(entries[at].place, Mistake::OtherSign))
+        }
+        Err(TableRefusal::Conflict { .. }) => Err(refusal(named, Mistake::OtherSign)),
+        Err(TableRefusal::TableFull) => Err(refusal(named, Mistake::ManyEntries)),
+        Err(TableRefusal::Memory) => Err(Stop::Memory),
+    }
+}
+
+fn sign(is_negated: bool) -> &'static [u8]
+    ensures { result.now ≡ (if is_negated then codes "!" else []) }
+{
+    if is_negated { b"!" } else { b"" }
+}
+
+/// Writes an entry as it is shown.
+fn write_entry<W: Write>(out: &mut W, so_far: io::Result<()>, entry: TableEntry) -> io::Result<()>
+    ensures { Continues so_far (W.contents out.old) result (W.contents out.new) (entry_text entry) }
+{
+    let so_far = write_more(out, so_far, sign(entry.is_negated()));
+    write_more_net(out, so_far, entry.net())
+}
+
+/// Writes each entry of a table, each behind a space.
+pub(crate) fn write_entries<W: Write>(
+    out: &mut W,
+    begun: io::Result<()>,
+    table: &Table,
+) -> io::Result<()>
+    ensures { Continues begun (W.contents out.old) result (W.contents out.new) (entries_text table.now) }
+{
+    let mut so_far = begun;
+    for entry in table.entries() {
+        so_far = write_more(out, so_far, b" ");
+        so_far = write_entry(out, so_far, *entry);
+    }
+    so_far
+}
+
+/// How many bytes the texts of a table's entries have, each behind a space.
+pub(crate) fn entries_length(alloc: Global, table: &Table) -> Result<usize, AllocError>
+    ensures { IfOk result (λ n. n ≡ length (entries_text table.now)) }
+{
+    let mut text = Vec::new(alloc);
+    match write_entries(&mut text, Ok(()), table) {
+        Ok(()) => Ok(text.as_slice().len()),
+        Err(_) => Err(AllocError),
+    }
+}

@@ -1,0 +1,14 @@
+pub mod Stops
+pub mod States
+pub mod Beginning
+pub mod Reading
+pub mod Values
+pub mod Lists
+pub mod Criteria
+pub mod Options
+pub mod Product
+pub mod Openings
+pub mod Anchors
+pub mod Lines
+pub mod Entries
+pub mod Laws

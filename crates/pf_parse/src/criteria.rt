@@ -1,0 +1,176 @@
+//! What a rule tests.
+ghost use Rattle.std.specs.Prelude.{◌≡◌, ◌∷◌, [], IfOk};
+ghost use Rattle.pf_form.specs.Form.Words.{texts};
+ghost use Rattle.pf_parse.specs.Reading.{Takes};
+ghost use Rattle.pf_parse.specs.Criteria.{any_side, no_tests, interface_word, interface_words, tested_interfaces, family, protocols, words_of_hosts, side_hosts, side, sides, tests};
+
+use crate::fault::Stop;
+use crate::lists::Tested;
+use crate::parser::{Parser, words_of};
+use crate::tree::{Host, Side, Tests};
+use pf_lists::Words;
+use pf_tokens::{Items, Token};
+use std::alloc::{AllocError, Global};
+
+/// A list of one item, with these words.
+fn only(alloc: Global, words: &[&[u8]]) -> Result<Items<Words>, AllocError>
+    ensures { IfOk result (λ list. list ≡ texts words.now ∷ []) }
+{
+    let mut list = Items::new(alloc);
+    list.push(words_of(alloc, words)?)?;
+    Ok(list)
+}
+
+/// The words that an interface adds to a rule.
+pub(crate) fn interface_word(alloc: Global, interface: &Token) -> Result<Words, AllocError>
+    ensures { IfOk result (λ words. words ≡ interface_word interface.now) }
+{
+    let name = interface.bytes(alloc)?;
+    words_of(alloc, &[b"on", name.as_slice()])
+}
+
+/// The words that each of these interfaces adds to a rule.
+#[tactic(auto, using(crate::proofs::Steps::interface_item))]
+fn interface_words(alloc: Global, interfaces: &[Token]) -> Result<Items<Words>, AllocError>
+    ensures { IfOk result (λ words. words ≡ interface_words interfaces.now) }
+{
+    let mut list = Items::new(alloc);
+    for interface in interfaces {
+        list.push(interface_word(alloc, interface)?)?;
+    }
+    Ok(list)
+}
+
+/// The words that each of these hosts adds to a rule.
+fn words_of_hosts(alloc: Global, hosts: Items<Host>) -> Result<Items<Words>, AllocError>
+    ensures { IfOk result (λ words. words ≡ words_of_hosts hosts) }
+{
+    let mut words = Items::new(alloc);
+    for host in hosts.into_items() {
+        words.push(host.words)?;
+    }
+    Ok(words)
+}
+
+/// The tests of a rule that tests nothing.
+pub(crate) fn no_tests(alloc: Global) -> Result<Tests, AllocError>
+    ensures { IfOk result (λ t. t ≡ no_tests) }
+{
+    Ok(Tests {
+        interfaces: only(alloc, &[])?,
+        family: Items::new(alloc),
+        protocols: only(alloc, &[])?,
+        source: any_side(alloc)?,
+        destination: any_side(alloc)?,
+    })
+}
+
+fn any_side(alloc: Global) -> Result<Side, AllocError>
+    ensures { IfOk result (λ side. side ≡ any_side) }
+{
+    Ok(Side {
+        hosts: only(alloc, &[b"any"])?,
+        ports: only(alloc, &[])?,
+    })
+}
+
+impl Parser<'_> {
+    /// What a rule tests.
+    #[tactic(auto, unfolding(crate::specs::Criteria::tests))]
+    pub(crate) fn tests(&mut self) -> Result<Tests, Stop>
+        ensures { Takes result self.new (tests self.old) }
+    {
+        let interfaces = self.tested_interfaces()?;
+        let family = self.family()?;
+        let protocols = self.protocols()?;
+        let (source, destination) = self.sides()?;
+        Ok(Tests {
+            interfaces,
+            family,
+            protocols,
+            source,
+            destination,
+        })
+    }
+
+    #[tactic(auto, unfolding(crate::specs::Criteria::tested_interfaces))]
+    fn tested_interfaces(&mut self) -> Result<Items<Words>, Stop>
+        ensures { Takes result self.new (tested_interfaces self.old) }
+    {
+        if !self.takes_word(b"on") {
+            return Ok(only(self.alloc, &[])?);
+        }
+        let interfaces = self.interfaces()?;
+        Ok(interface_words(self.alloc, interfaces.as_slice())?)
+    }
+
+    #[tactic(auto, unfolding(crate::specs::Criteria::family))]
+    fn family(&mut self) -> Result<Words, Stop>
+        ensures { Takes result self.new (family self.old) }
+    {
+        if self.takes_word(b"inet") {
+            return Ok(words_of(self.alloc, &[b"inet"])?);
+        }
+        if self.takes_word(b"inet6") {
+            return Ok(words_of(self.alloc, &[b"inet6"])?);
+        }
+        Ok(Items::new(self.alloc))
+    }
+
+    #[tactic(auto, unfolding(crate::specs::Criteria::protocols))]
+    fn protocols(&mut self) -> Result<Items<Words>, Stop>
+        ensures { Takes result self.new (protocols self.old) }
+    {
+        if self.takes_word(b"proto") {
+            return self.tested(Tested::Protocol);
+        }
+        Ok(only(self.alloc, &[])?)
+    }
+
+    /// The source and the destination.
+    #[tactic(auto, unfolding(crate::specs::Criteria::sides))]
+    fn sides(&mut self) -> Result<(Side, Side), Stop>
+        ensures { Takes result self.new (sides self.old) }
+    {
+        if self.takes_word(b"all") {
+            return Ok((any_side(self.alloc)?, any_side(self.alloc)?));
+        }
+        let source = if self.takes_word(b"from") {
+            self.side()?
+        } else {
+            any_side(self.alloc)?
+        };
+        let destination = if self.takes_word(b"to") {
+            self.side()?
+        } else {
+            any_side(self.alloc)?
+        };
+        Ok((source, destination))
+    }
+
+    /// The hosts and ports of one side.
+    #[tactic(auto, unfolding(crate::specs::Criteria::side))]
+    fn side(&mut self) -> Result<Side, Stop>
+        ensures { Takes result self.new (side self.old) }
+    {
+        let hosts = self.side_hosts()?;
+        let ports = if self.takes_word(b"port") {
+            self.tested(Tested::Port)?
+        } else {
+            only(self.alloc, &[])?
+        };
+        Ok(Side { hosts, ports })
+    }
+
+    /// The hosts of one side.
+    #[tactic(auto, unfolding(crate::specs::Criteria::side_hosts))]
+    fn side_hosts(&mut self) -> Result<Items<Words>, Stop>
+        ensures { Takes result self.new (side_hosts self.old) }
+    {
+        if self.next_is_word(b"port") || self.takes_word(b"any") {
+            return Ok(only(self.alloc, &[b"any"])?);
+        }
+        let hosts = self.hosts()?;
+        Ok(words_of_hosts(self.alloc, hosts)?)
+    }
+}
