@@ -28,19 +28,24 @@ several_rule name = record (new_rule name) { value_names = 1; required = true; a
 abbrev pub cases_rule : Rule
 cases_rule = several_rule (codes "cases")
 
+-- a subcommand for a pf.conf, and one for its cases
+abbrev pub conf_words : Text → App
+conf_words name = with_rule (with_rule (new_app name) file_rule) lenient_rule
+
+abbrev pub case_words : Text → App
+case_words name = with_rule (conf_words name) cases_rule
+
 abbrev pub check_words : App
-check_words = with_rule (with_rule (with_rule (new_app (codes "check")) file_rule) lenient_rule) (text_rule (codes "anchor"))
+check_words = with_rule (conf_words (codes "check")) (text_rule (codes "anchor"))
 
 abbrev pub test_words : App
-test_words =
-    with_rule (with_rule (with_rule (with_rule (with_rule (new_app (codes "test")) file_rule) cases_rule) lenient_rule) (flag_rule (codes "tap")))
-    (text_rule (codes "junit"))
+test_words = with_rule (with_rule (case_words (codes "test")) (flag_rule (codes "tap"))) (text_rule (codes "junit"))
 
 abbrev pub cover_words : App
-cover_words = with_rule (with_rule (with_rule (new_app (codes "cover")) file_rule) cases_rule) lenient_rule
+cover_words = case_words (codes "cover")
 
 abbrev pub explain_words : App
-explain_words = with_rule (with_rule (with_rule (new_app (codes "explain")) file_rule) (several_rule (codes "packet"))) lenient_rule
+explain_words = with_rule (conf_words (codes "explain")) (several_rule (codes "packet"))
 
 -- ---- what they ask. `met` is the subcommand that clap found, with its options
 

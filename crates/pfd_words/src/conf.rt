@@ -2,7 +2,7 @@
 ghost use Rattle.std.specs.Prelude.{◌≡◌, ℕ, IfOk, List, Some, codes, false};
 ghost use Rattle.clap.specs.Words.{app_of, found_of, rows_of, rule_of};
 ghost use Rattle.clap.specs.declared.builder.command.Command.TheViews.{out-Command};
-ghost use Rattle.pfd_words.specs.{Conf.{file_rule, lenient_rule, cases_rule, check_words, test_words, cover_words, explain_words, AsksConf}, Options.{SaysText, SaysFlag}};
+ghost use Rattle.pfd_words.specs.{Conf.{file_rule, lenient_rule, cases_rule, conf_words, case_words, check_words, test_words, cover_words, explain_words, AsksConf}, Options.{SaysText, SaysFlag}};
 
 use crate::options::{is_said, text_if_any, text_in, texts_in};
 use clap::{Arg, ArgAction, ArgMatches, Command};
@@ -72,6 +72,26 @@ fn cases<'a>(alloc: Global) -> Arg<'a>
         .help("Files of cases, each a line PACKET -> VERDICT")
 }
 
+// The options of a subcommand, added two at a time.
+
+/// A subcommand of this name that asks something of a pf.conf.
+fn conf_words<'a>(alloc: Global, name: &'a str) -> Result<Command<'a>, AllocError>
+    ensures app { IfOk result (λ c. app_of c ≡ conf_words name.now) }
+    ensures local { IfOk result (λ c. (out-Command c).has_globals ≡ false) }
+{
+    Command::new(alloc, name)
+        .arg(file(alloc))?
+        .arg(lenient(alloc))
+}
+
+/// The same of what its cases come to.
+fn case_words<'a>(alloc: Global, name: &'a str) -> Result<Command<'a>, AllocError>
+    ensures app { IfOk result (λ c. app_of c ≡ case_words name.now) }
+    ensures local { IfOk result (λ c. (out-Command c).has_globals ≡ false) }
+{
+    conf_words(alloc, name)?.arg(cases(alloc))
+}
+
 pub(crate) fn check_words<'a>(alloc: Global) -> Result<Command<'a>, AllocError>
     ensures app { IfOk result (λ c. app_of c ≡ check_words) }
     ensures local { IfOk result (λ c. (out-Command c).has_globals ≡ false) }
@@ -80,10 +100,9 @@ pub(crate) fn check_words<'a>(alloc: Global) -> Result<Command<'a>, AllocError>
         .long("anchor")
         .value_name("PATH")
         .help("Reads it as the rules of the anchor at this path");
-    Command::new(alloc, "check")
+    let words = conf_words(alloc, "check")?;
+    words
         .about("Shows what a pf.conf means, or what is wrong with it")
-        .arg(file(alloc))?
-        .arg(lenient(alloc))?
         .arg(anchor)
 }
 
@@ -99,11 +118,9 @@ pub(crate) fn test_words<'a>(alloc: Global) -> Result<Command<'a>, AllocError>
         .long("junit")
         .value_name("FILE")
         .help("Writes the outcomes to this file too, in JUnit's XML");
-    Command::new(alloc, "test")
+    let words = case_words(alloc, "test")?;
+    words
         .about("Judges the packets of cases by a pf.conf, and shows each verdict that differs")
-        .arg(file(alloc))?
-        .arg(cases(alloc))?
-        .arg(lenient(alloc))?
         .arg(tap)?
         .arg(junit)
 }
@@ -112,11 +129,8 @@ pub(crate) fn cover_words<'a>(alloc: Global) -> Result<Command<'a>, AllocError>
     ensures app { IfOk result (λ c. app_of c ≡ cover_words) }
     ensures local { IfOk result (λ c. (out-Command c).has_globals ≡ false) }
 {
-    Command::new(alloc, "cover")
-        .about("Shows the rules of a pf.conf that decide no case")
-        .arg(file(alloc))?
-        .arg(cases(alloc))?
-        .arg(lenient(alloc))
+    let words = case_words(alloc, "cover")?;
+    Ok(words.about("Shows the rules of a pf.conf that decide no case"))
 }
 
 pub(crate) fn explain_words<'a>(alloc: Global) -> Result<Command<'a>, AllocError>
@@ -128,11 +142,10 @@ pub(crate) fn explain_words<'a>(alloc: Global) -> Result<Command<'a>, AllocError
         .required(true)
         .action(ArgAction::Append)
         .help("As in em0 tcp 198.51.100.9 40000 192.0.2.1 80");
-    Command::new(alloc, "explain")
+    let words = conf_words(alloc, "explain")?;
+    words
         .about("Shows the rules of a pf.conf that match a packet, and the verdict")
-        .arg(file(alloc))?
-        .arg(packet)?
-        .arg(lenient(alloc))
+        .arg(packet)
 }
 
 /// The pf.conf that a subcommand names, and this question of it.
