@@ -1,6 +1,6 @@
 -- Cases: a packet, `->`, and what is wanted of its verdict (pf.conf(5), PACKET FILTERING).
-use Rattle.std.specs.Prelude.{ℕ, ◌+◌, ◌^◌, ◌==◌, nat_lt, ◌&&◌, not, Bool, true, false, List, [], ◌++◌, length, codes, decimal, Option, Some, None, Result, Ok, Err, if◌then◌else◌}
-use Rattle.std.proofs.Common.{◌≡◌, refl}
+use Rattle.std.specs.Prelude.{ℕ, ◌^◌, ◌==◌, nat_lt, ◌&&◌, not, Bool, true, false, List, [], ◌++◌, length, codes, decimal, Option, Some, None, Result, Ok, Err, if◌then◌else◌}
+use Rattle.std.proofs.Common.{refl}
 use Rattle.pf_form.specs.declared.form.fault.Kind.{Kind, TheVariants.BadWord}
 use Rattle.pf_form.specs.Form.{Words.Word, Forms.{Form, nothing, word, key, or, pair, making}, Numbers.number_of}
 use Rattle.pf_addr.specs.Path.Paths.{path_of, main, same_path}

@@ -1,8 +1,7 @@
 //! The rules that match a packet, in the order in which they are looked at.
-ghost use Rattle.std.specs.Prelude.{◌≡◌, ◌+◌, ◌++◌, ◌∷◌, [], ℕ, IfOk, OnErr, if◌then◌else◌};
+ghost use Rattle.std.specs.Prelude.{◌≡◌, ◌+◌, ◌++◌, ◌∷◌, [], IfOk, OnErr, if◌then◌else◌};
 ghost use Rattle.pf_anchor.specs.{Rulesets.{IsMap, children, targets}, Evaluation.matching, Laws.Evaluation.rulesets_at};
-ghost use Rattle.pf_case.specs.Matches.{came_of, came_then, came_settled, Lists, IsTrace};
-ghost use Rattle.pf_case.specs.Levels.{ruleset_matched, ruleset_given, rule_matched, rule_given, effect_matched, effect_given, targets_matched, targets_given};
+ghost use Rattle.pf_case.specs.Matches.{came_then, came_settled, part_of_rulesets, part_of_effect, part_of_rule, part_of_ruleset, Lists, IsTrace};
 
 use pf_addr::Addr;
 use pf_addr::path::{DEPTH_LIMIT, Path, TableName};
@@ -119,8 +118,7 @@ impl Trace<'_> {
     #[cycle(trace)]
     fn ruleset(&self, matched: &mut Vec<Matched>, path: &Path, levels: usize) -> Result<Came, Cut>
         ensures { Lists result matched.old.items matched.new.items
-            (ruleset_matched levels self.now.config.now self.now.packet.now path.now)
-            (came_of (ruleset_given levels self.now.config.now self.now.packet.now path.now)) }
+            (part_of_ruleset levels self.now.config.now self.now.packet.now path.now) }
     {
         let rules = self.config.rules_at(path)?;
         let mut came = Came::Nothing;
@@ -169,8 +167,7 @@ impl Trace<'_> {
     ) -> Result<Came, Cut>
         requires { IsMap self.now.config.now.rulesets }
         ensures { Lists result matched.old.items matched.new.items
-            (rule_matched levels self.now.config.now self.now.packet.now path.now number rule.now)
-            (came_of (rule_given levels self.now.config.now self.now.packet.now path.now number rule.now)) }
+            (part_of_rule levels self.now.config.now self.now.packet.now path.now number rule.now) }
     {
         if !self.add(matched, path, number, rule)? {
             return Ok(Came::Nothing);
@@ -189,9 +186,8 @@ impl Trace<'_> {
         levels: usize,
     ) -> Result<Came, Cut>
         requires { IsMap self.now.config.now.rulesets }
-        ensures { (number : ℕ) → Lists result matched.old.items matched.new.items
-            (effect_matched levels self.now.config.now self.now.packet.now path.now rule.now.effect)
-            (came_of (effect_given levels self.now.config.now self.now.packet.now path.now number rule.now.effect)) }
+        ensures { Lists result matched.old.items matched.new.items
+            (part_of_effect levels self.now.config.now self.now.packet.now path.now rule.now.effect) }
     {
         match rule.effect() {
             Effect::Decide(_) => Ok(Came::Decided),
@@ -210,8 +206,7 @@ impl Trace<'_> {
     ) -> Result<Came, Cut>
         requires { IsMap self.now.config.now.rulesets }
         ensures { Lists result matched.old.items matched.new.items
-            (targets_matched levels self.now.config.now self.now.packet.now (targets self.now.config.now.rulesets path.now reference.now))
-            (came_of (targets_given levels self.now.config.now self.now.packet.now (targets self.now.config.now.rulesets path.now reference.now))) }
+            (part_of_rulesets levels self.now.config.now self.now.packet.now (targets self.now.config.now.rulesets path.now reference.now)) }
     {
         let Some(target) = path.joined(reference.names()) else {
             return Ok(Came::Nothing);
@@ -227,12 +222,15 @@ impl Trace<'_> {
 
     /// The same for the children of a path, and for so many levels below them.
     #[cycle(trace)]
-    fn each_child(&self, matched: &mut Vec<Matched>, path: &Path, levels: usize) -> Result<Came, Cut>
+    fn each_child(
+        &self,
+        matched: &mut Vec<Matched>,
+        path: &Path,
+        levels: usize,
+    ) -> Result<Came, Cut>
         ensures { Lists result matched.old.items matched.new.items
-            (targets_matched (levels + 1) self.now.config.now self.now.packet.now
-                (rulesets_at self.now.config.now.rulesets (children self.now.config.now.rulesets path.now)))
-            (came_of (targets_given (levels + 1) self.now.config.now self.now.packet.now
-                (rulesets_at self.now.config.now.rulesets (children self.now.config.now.rulesets path.now)))) }
+            (part_of_rulesets (levels + 1) self.now.config.now self.now.packet.now
+            (rulesets_at self.now.config.now.rulesets (children self.now.config.now.rulesets path.now))) }
     {
         let mut came = Came::Nothing;
         let children = self.config.children(self.alloc, path)?;

@@ -24,14 +24,17 @@ abbrev pub is_of : ℕ → ℕ → Option Decided → Bool
 is_of within number None = false
 is_of within number (Some d) = (d.within == within) && (d.number == number)
 
--- some case is decided by the rule of this number in the ruleset of this number
-abbrev pub decides_some : ℕ → ℕ → List Tried → Bool
-decides_some within number ts = list_any (λ (t : Tried). list_any (λ (o : Outcome). is_of within number o.decided) t.outcomes) ts
+-- some outcome is decided by the rule of this number in the ruleset of this number
+abbrev pub decides_any : ℕ → ℕ → List Outcome → Bool
+decides_any within number os = list_any (λ (o : Outcome). is_of within number o.decided) os
 
--- Each mark says whether its rule decides some case.
-pub record AreMarks (ts : List Tried) (within count : ℕ) (marks : List Bool) : Type 0 where
+abbrev pub decides_some : ℕ → ℕ → List Tried → Bool
+decides_some within number ts = list_any (λ (t : Tried). decides_any within number t.outcomes) ts
+
+-- Each mark is what is said of its number.
+pub record AreMarks (says : ℕ → Bool) (count : ℕ) (marks : List Bool) : Type 0 where
   pub all : length marks ≡ count
-  pub each : (k : ℕ) → k < count → slice_get marks k ≡ Some (decides_some within k ts)
+  pub each : (k : ℕ) → k < count → slice_get marks k ≡ Some (says k)
 
 -- a rule that could decide, unless it is marked
 abbrev pub unless_marked : ℕ → ℕ → Bool → PlainRule → List Decided

@@ -1,12 +1,12 @@
 //! Rules that decide no case.
-ghost use Rattle.std.specs.Prelude.{◌≡◌, ◌++◌, ◌==◌, length, IfOk, OnOk, IfErr};
+ghost use Rattle.std.specs.Prelude.{◌≡◌, ◌++◌, ◌==◌, ◌||◌, ℕ, Bool, length, IfOk, OnOk, IfErr};
 ghost use Rattle.pf_addr.specs.Writing.{Continues, Writes};
 ghost use Rattle.pf_rule.specs.RuleText.{rule_text};
-ghost use Rattle.pfd_conf.specs.Covering.{is_deciding, AreMarks, unmarked_from, uncovered_of, deciding_count, sign_text, rule_line, line_of_rule, lines_of_rules, cover_text};
+ghost use Rattle.pfd_conf.specs.Covering.{is_deciding, is_of, decides_any, decides_some, AreMarks, unmarked_from, uncovered_of, deciding_count, sign_text, rule_line, line_of_rule, lines_of_rules, cover_text};
 
 use crate::fault::Fault;
 use crate::firewall::{Decided, Firewall, write_place};
-use crate::outcomes::Tried;
+use crate::outcomes::{Outcome, Tried};
 use crate::report::written;
 use pf_addr::{write_more, write_more_number};
 use pf_conf::{At, Ruleset};
@@ -22,24 +22,40 @@ fn is_deciding(rule: &Rule) -> bool
     matches!(rule.effect(), Effect::Decide(_))
 }
 
-/// Which rules of the ruleset with this number, which has so many, decided a case.
+/// Marks the rule of the ruleset with this number that decides, if one of its does.
+fn mark(marks: &mut Vec<bool>, within: usize, decided: Option<Decided>)
+    ensures { (P : ℕ → Bool) (count : ℕ) → AreMarks P count marks.old.items
+        → AreMarks (λ k. P k || is_of within k decided) count marks.new.items }
+{
+    if let Some(decided) = decided {
+        if decided.within == within && decided.number < marks.len() {
+            marks[decided.number] = true;
+        }
+    }
+}
+
+/// The same for each outcome.
+fn mark_all(marks: &mut Vec<bool>, within: usize, outcomes: &[Outcome])
+    ensures { (P : ℕ → Bool) (count : ℕ) → AreMarks P count marks.old.items
+        → AreMarks (λ k. P k || decides_any within k outcomes.now) count marks.new.items }
+{
+    for outcome in outcomes {
+        mark(marks, within, outcome.decided);
+    }
+}
+
+/// Which rules of the ruleset with this number, which has so many, decide a case.
 fn marks(
     alloc: Global,
     tried: &[Tried<'_>],
     within: usize,
     count: usize,
 ) -> Result<Vec<bool>, AllocError>
-    ensures { IfOk result (λ marks. AreMarks tried.now within count marks.items) }
+    ensures { IfOk result (λ marks. AreMarks (λ k. decides_some within k tried.now) count marks.items) }
 {
     let mut marks = vec![in alloc; false; count]?;
     for file in tried {
-        for outcome in file.outcomes.as_slice() {
-            if let Some(decided) = outcome.decided {
-                if decided.within == within && decided.number < marks.len() {
-                    marks[decided.number] = true;
-                }
-            }
-        }
+        mark_all(&mut marks, within, file.outcomes.as_slice());
     }
     Ok(marks)
 }
@@ -54,7 +70,7 @@ fn add_unmarked(
     ensures { OnOk result (unmarked.new ≡ unmarked.old ++ unmarked_from within 0 marks.now rules.now) }
 {
     for (number, rule) in rules.iter().enumerate() {
-        let is_marked = marks.get(number) == Some(&true);
+        let is_marked = marks.get(number).copied().unwrap_or(false);
         if is_deciding(&rule.is) && !is_marked {
             unmarked.push(Decided { within, number })?;
         }

@@ -71,7 +71,7 @@ fn is_left_out(words: Words<'_>) -> bool
     ensures { result ≡ is_left_out (texts words.now) }
 {
     match words {
-        [first, ..] => first.first() == Some(&b'#'),
+        [first, ..] => matches!(first, [b'#', ..]),
         [] => true,
     }
 }
