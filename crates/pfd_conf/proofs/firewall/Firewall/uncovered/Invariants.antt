@@ -1,6 +1,6 @@
 use Rattle.std.proofs.Common.{◌≡◌, ◌++◌, drop}
 use Rattle.pfd_conf.specs.Covering.{uncovered_of, uncovered_from}
-use Rattle.pfd_conf.proofs.cover.Firewall.uncovered.Given as goal
+use Rattle.pfd_conf.proofs.firewall.Firewall.uncovered.Given as goal
 
 abbrev pub invariant-loop-within : goal.invariant-loop-within
 invariant-loop-within l =

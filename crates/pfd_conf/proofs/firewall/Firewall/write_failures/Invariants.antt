@@ -1,6 +1,6 @@
 use Rattle.pfd_conf.specs.Reports.{told_text}
 use Rattle.pfd_conf.proofs.Texts.{Told}
-use Rattle.pfd_conf.proofs.report.Firewall.write_failures.Given as goal
+use Rattle.pfd_conf.proofs.firewall.Firewall.write_failures.Given as goal
 
 abbrev pub invariant-loop-outcome : goal.invariant-loop-outcome
 invariant-loop-outcome g l =

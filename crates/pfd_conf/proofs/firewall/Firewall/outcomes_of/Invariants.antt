@@ -1,7 +1,7 @@
 use Rattle.std.proofs.Common.{◌≡◌, ◌+◌, [], drop}
 use Rattle.pf_form.specs.Form.Words.{texts}
 use Rattle.pfd_conf.specs.Outcomes.{outcomes_from}
-use Rattle.pfd_conf.proofs.outcomes.Firewall.outcomes_of.Given as goal
+use Rattle.pfd_conf.proofs.firewall.Firewall.outcomes_of.Given as goal
 
 abbrev pub invariant-loop-index : goal.invariant-loop-index
 invariant-loop-index l =
