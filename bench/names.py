@@ -190,7 +190,7 @@ def options_of(path):
 
 @functools.cache
 def options_of_pfd():
-    return {f"--{it}" for it in re.findall(r'\.long\("([\w-]+)"\)', text_of(f"{TOP}/crates/pfd_words/src/words.rt"))} | {"--help", "--version"}
+    return {f"--{it}" for it in re.findall(r'\.long\("([\w-]+)"\)', "".join(text_of(it) for it in sorted(glob.glob(f"{TOP}/crates/pfd_words/src/*.rt"))))} | {"--help", "--version"}
 
 
 @functools.cache

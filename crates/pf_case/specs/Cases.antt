@@ -21,17 +21,12 @@ abbrev pub word_of : Bool → List ℕ
 word_of true = codes "pass"
 word_of false = codes "block"
 
--- where a rule is, unless it is in the main ruleset
+-- how `judge` says which rule decides; its ruleset's path is left out if it is main's
 abbrev pub at_text : List ℕ → List ℕ
 at_text path = if length path == 0 then [] else codes " at " ++ path
 
 abbrev pub decided_text : ℕ → List ℕ → List ℕ
 decided_text n path = codes " rule " ++ (decimal n ++ at_text path)
-
--- as `judge` is answered
-abbrev pub verdict_text : RuleVerdict → List ℕ
-verdict_text (by.Rule path n action) = word_of (passes (by.Rule path n action)) ++ decided_text n path
-verdict_text by.Default = codes "pass default"
 
 -- ---- what is wanted of a verdict
 

@@ -1,5 +1,7 @@
 pub mod Cases
 pub mod Matches
+pub mod Levels
+pub mod Laws
 -- what public clauses cite of the crates below
 pub use Rattle.pf_form.specs.Form
 pub use Rattle.pf_rule.specs.RuleGrammar

@@ -1,21 +1,25 @@
 //! Tests of a firewall: packets, each with the verdict that is wanted; and the rules that match a packet.
 //!
 //! The modules: `verdict` (whether a packet passes), `wanted` (what is wanted of a verdict, and whether a verdict is that), `case` (what a
-//! line of cases means), and `trace` (the rules that match).
+//! line of cases means), `trace` (the rules that match) and `laws`.
 //!
 //! The crate knows packets and verdicts, and no file and no place where a rule is written. Read `specs/Cases.antt` first, then
 //! `specs/Matches.antt`.
 //!
 //! Proved: a line is read as the grammar of cases says, or refused for the one fault due; a case holds exactly if the verdict is what it
-//! wants; each rule that is listed for a packet is one of the configuration, and matches. Only tested: that none is missing, and the order.
+//! wants; the rules that are listed for a packet are those at which its evaluation looks and that match, in that order, or the first of them
+//! ([`rules_that_match`]). A law: the last of them that decides is the one by which the packet is judged
+//! ([`the_last_that_is_listed_decides`]).
 #![tactic(auto)]
 
 mod case;
+mod laws;
 mod trace;
 mod verdict;
 mod wanted;
 
 pub use case::{Case, read_case, read_packet};
+pub use laws::the_last_that_is_listed_decides;
 pub use trace::{MATCH_LIMIT, Matched, Traced, rules_that_match};
 pub use verdict::{action_text, passes};
 pub use wanted::{Decider, Wanted, read_wanted};

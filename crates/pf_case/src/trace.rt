@@ -1,19 +1,17 @@
 //! The rules that match a packet, in the order in which they are looked at.
-ghost use Rattle.std.specs.{Prelude.{◌≡◌, Some, IfOk}, List.slice_get};
-ghost use Rattle.pf_anchor.specs.Rulesets.{rules_at};
-ghost use Rattle.pf_case.specs.Matches.{AreMatches};
+ghost use Rattle.std.specs.Prelude.{◌≡◌, ◌+◌, ◌++◌, ◌∷◌, [], ℕ, IfOk, OnErr, if◌then◌else◌};
+ghost use Rattle.pf_anchor.specs.{Rulesets.{IsMap, children, targets}, Evaluation.matching, Laws.Evaluation.rulesets_at};
+ghost use Rattle.pf_case.specs.Matches.{came_of, came_then, came_settled, Lists, IsTrace};
+ghost use Rattle.pf_case.specs.Levels.{ruleset_matched, ruleset_given, rule_matched, rule_given, effect_matched, effect_given, targets_matched, targets_given};
 
 use pf_addr::Addr;
-use pf_addr::path::{Path, TableName};
+use pf_addr::path::{DEPTH_LIMIT, Path, TableName};
 use pf_anchor::Config;
 use pf_rule::{Effect, Packet, Reference, Rule, TableAnswers};
 use std::alloc::{AllocError, AllocFailed, Global};
 
 /// The most rules that are listed.
 pub const MATCH_LIMIT: usize = 4_096;
-
-/// How many levels of rulesets there may be below main's.
-const LEVELS: usize = 16;
 
 /// A rule that matches: its ruleset's path, and its number there from 0.
 #[derive(Drop)]
@@ -40,6 +38,30 @@ enum Came {
     Decided,
     /// A rule decided, and ends it.
     Ended,
+}
+
+impl Came {
+    /// Behind this one comes another.
+    fn then(self, later: Came) -> Came
+        ensures { result ≡ came_then self later }
+    {
+        match (self, later) {
+            (Came::Ended, _) => Came::Ended,
+            (Came::Decided, Came::Nothing) => Came::Decided,
+            _ => later,
+        }
+    }
+
+    /// What comes of a rule within which this came: if it is quick, a match ends the evaluation.
+    fn settled(self, quick: bool) -> Came
+        ensures { result ≡ came_settled quick self }
+    {
+        if quick && self == Came::Decided {
+            Came::Ended
+        } else {
+            self
+        }
+    }
 }
 
 /// Why a list of rules is cut off.
@@ -94,26 +116,24 @@ struct Trace<'a> {
 
 impl Trace<'_> {
     /// Appends the rules that match of the ruleset at a path, and of so many levels below it.
-    #[tactic(auto, using(std::proofs::lemmas::Option::slice_get_read))]
     #[cycle(trace)]
     fn ruleset(&self, matched: &mut Vec<Matched>, path: &Path, levels: usize) -> Result<Came, Cut>
-        ensures { AreMatches self.now.config.now self.now.packet.now matched.old.items
-            → AreMatches self.now.config.now self.now.packet.now matched.new.items }
+        ensures { Lists result matched.old.items matched.new.items
+            (ruleset_matched levels self.now.config.now self.now.packet.now path.now)
+            (came_of (ruleset_given levels self.now.config.now self.now.packet.now path.now)) }
     {
         let rules = self.config.rules_at(path)?;
         let mut came = Came::Nothing;
         for (number, rule) in rules.as_slice().iter().enumerate() {
-            match self.rule(matched, path, number, rule, levels)? {
-                Came::Nothing => {}
-                Came::Decided => came = Came::Decided,
-                Came::Ended => return Ok(Came::Ended),
+            came = came.then(self.rule(matched, path, number, rule, levels)?);
+            if came == Came::Ended {
+                return Ok(came);
             }
         }
         Ok(came)
     }
 
-    /// Appends a rule of the ruleset at a path if it matches, and returns whether it does.
-    #[tactic(auto, using(crate::proofs::Matching::one_match))]
+    /// Appends a rule of the ruleset at a path if it matches, and returns whether it does. `Cut`: nothing is appended.
     fn add(
         &self,
         matched: &mut Vec<Matched>,
@@ -121,9 +141,9 @@ impl Trace<'_> {
         number: usize,
         rule: &Rule,
     ) -> Result<bool, Cut>
-        requires { slice_get (rules_at path.now self.now.config.now.rulesets) number ≡ Some rule.now }
-        ensures { AreMatches self.now.config.now self.now.packet.now matched.old.items
-            → AreMatches self.now.config.now self.now.packet.now matched.new.items }
+        ensures ok { IfOk result (λ is_match. (is_match ≡ matching self.now.config.now.tables self.now.packet.now path.now rule.now)
+            × (matched.new.items ≡ matched.old.items ++ (if is_match then record { path = path.now; number = number } ∷ [] else []))) }
+        ensures cut { OnErr result (matched.new.items ≡ matched.old.items) }
     {
         let config = self.config;
         if !rule.matches(&NamedTables { config, path }, self.packet) {
@@ -147,22 +167,36 @@ impl Trace<'_> {
         rule: &Rule,
         levels: usize,
     ) -> Result<Came, Cut>
-        requires { slice_get (rules_at path.now self.now.config.now.rulesets) number ≡ Some rule.now }
-        ensures { AreMatches self.now.config.now self.now.packet.now matched.old.items
-            → AreMatches self.now.config.now self.now.packet.now matched.new.items }
+        requires { IsMap self.now.config.now.rulesets }
+        ensures { Lists result matched.old.items matched.new.items
+            (rule_matched levels self.now.config.now self.now.packet.now path.now number rule.now)
+            (came_of (rule_given levels self.now.config.now self.now.packet.now path.now number rule.now)) }
     {
         if !self.add(matched, path, number, rule)? {
             return Ok(Came::Nothing);
         }
-        let came = match rule.effect() {
-            Effect::Decide(_) => Came::Decided,
-            Effect::Evaluate(reference) => self.targets(matched, path, &reference, levels)?,
-        };
-        Ok(if came == Came::Decided && rule.is_quick() {
-            Came::Ended
-        } else {
-            came
-        })
+        let came = self.within(matched, path, rule, levels)?;
+        Ok(came.settled(rule.is_quick()))
+    }
+
+    /// The same for what a rule that matches leads to.
+    #[cycle(trace)]
+    fn within(
+        &self,
+        matched: &mut Vec<Matched>,
+        path: &Path,
+        rule: &Rule,
+        levels: usize,
+    ) -> Result<Came, Cut>
+        requires { IsMap self.now.config.now.rulesets }
+        ensures { (number : ℕ) → Lists result matched.old.items matched.new.items
+            (effect_matched levels self.now.config.now self.now.packet.now path.now rule.now.effect)
+            (came_of (effect_given levels self.now.config.now self.now.packet.now path.now number rule.now.effect)) }
+    {
+        match rule.effect() {
+            Effect::Decide(_) => Ok(Came::Decided),
+            Effect::Evaluate(reference) => self.targets(matched, path, &reference, levels),
+        }
     }
 
     /// The same for the rulesets that a reference leads to from there.
@@ -174,8 +208,10 @@ impl Trace<'_> {
         reference: &Reference,
         levels: usize,
     ) -> Result<Came, Cut>
-        ensures { AreMatches self.now.config.now self.now.packet.now matched.old.items
-            → AreMatches self.now.config.now self.now.packet.now matched.new.items }
+        requires { IsMap self.now.config.now.rulesets }
+        ensures { Lists result matched.old.items matched.new.items
+            (targets_matched levels self.now.config.now self.now.packet.now (targets self.now.config.now.rulesets path.now reference.now))
+            (came_of (targets_given levels self.now.config.now self.now.packet.now (targets self.now.config.now.rulesets path.now reference.now))) }
     {
         let Some(target) = path.joined(reference.names()) else {
             return Ok(Came::Nothing);
@@ -183,35 +219,49 @@ impl Trace<'_> {
         if levels == 0 {
             return Ok(Came::Nothing);
         }
-        if !reference.is_wildcard() {
-            return self.ruleset(matched, &target, levels - 1);
+        if reference.is_wildcard() {
+            return self.each_child(matched, &target, levels - 1);
         }
-        let children = self.config.children(self.alloc, &target)?;
+        self.ruleset(matched, &target, levels - 1)
+    }
+
+    /// The same for the children of a path, and for so many levels below them.
+    #[cycle(trace)]
+    fn each_child(&self, matched: &mut Vec<Matched>, path: &Path, levels: usize) -> Result<Came, Cut>
+        ensures { Lists result matched.old.items matched.new.items
+            (targets_matched (levels + 1) self.now.config.now self.now.packet.now
+                (rulesets_at self.now.config.now.rulesets (children self.now.config.now.rulesets path.now)))
+            (came_of (targets_given (levels + 1) self.now.config.now self.now.packet.now
+                (rulesets_at self.now.config.now.rulesets (children self.now.config.now.rulesets path.now)))) }
+    {
         let mut came = Came::Nothing;
+        let children = self.config.children(self.alloc, path)?;
         for child in &children {
-            match self.ruleset(matched, child, levels - 1)? {
-                Came::Nothing => {}
-                Came::Decided => came = Came::Decided,
-                Came::Ended => return Ok(Came::Ended),
+            came = came.then(self.ruleset(matched, child, levels)?);
+            if came == Came::Ended {
+                return Ok(came);
             }
         }
         Ok(came)
     }
 }
 
-/// The rules that match a packet as the main ruleset is evaluated (pf.conf(5), PACKET FILTERING and ANCHORS): up to 4,096 of them.
+/// The rules that match a packet, in the order in which the evaluation of the main ruleset looks at them (pf.conf(5), PACKET FILTERING and
+/// ANCHORS): the first 4,096 if there are more.
 pub fn rules_that_match(
     alloc: Global,
     config: &Config,
     packet: &Packet,
-) -> Result<Traced, AllocError> {
+) -> Result<Traced, AllocError>
+    ensures { IfOk result (IsTrace config.now packet.now) }
+{
     let trace = Trace {
         alloc,
         config,
         packet,
     };
     let mut matched = Vec::new(alloc);
-    match trace.ruleset(&mut matched, &Path::main(), LEVELS) {
+    match trace.ruleset(&mut matched, &Path::main(), DEPTH_LIMIT) {
         Ok(_) => Ok(Traced {
             matched,
             is_whole: true,

@@ -4,7 +4,7 @@ use Rattle.std.proofs.lemmas.List.{drop_all}
 use Rattle.std.specs.Option.{option_to_list}
 use Rattle.pfd_conf.specs.declared.{fault.Fault.Fault, firewall.Firewall.Firewall, outcomes.Outcome.Outcome}
 use Rattle.pfd_conf.specs.Outcomes.{outcome_at, outcomes_from}
-use Rattle.pfd_conf.proofs.Steps.{drop_item}
+use Rattle.pf_conf.proofs.Steps.{drop_item}
 
 -- the first of the lines that are left is judged
 pub judged_on : (f : Firewall) (file : List ℕ) (all : List (List ℕ)) (i : ℕ) (text : List ℕ) (known : List Outcome) (o : Option Outcome) (whole : Result (List Outcome) Fault) → whole ≡ outcomes_from f file known (i + 1) (drop i all) → i < length all → text ≡ get_or all i text → outcome_at f file (i + 1) text ≡ Ok o → whole ≡ outcomes_from f file (known ++ option_to_list o) (i + 1 + 1) (drop (i + 1) all)

@@ -6,17 +6,9 @@ use denote.Ref.{Bor}
 use Rattle.pf_addr.specs.Writing.{Wrote, Writes, WritesFront, WritesFront-longer, Writes-then, Continues, Continues-then, Appends-none, Appends-then}
 use Rattle.pf_form.specs.Form.Words.{Word, texts}
 use Rattle.pfd_conf.specs.Reports.{spaced}
-use Rattle.pfd_conf.proofs.Steps.{take_item}
-
--- with nothing to write, what was written stays
-pub still : (q : Result (Unit {0}) Error) (old : Option (List ℕ)) → Continues {B = Unit {0}} q old q old []
-still q old = record { behind = λ at front w. subst (λ (t : List ℕ). Wrote q at old t) (sym (append-nil front)) w }
+use Rattle.pf_conf.proofs.{Steps.take_item, Texts.Before}
 
 -- ---- a text for each of a list
-
--- the texts of those before this one
-abbrev pub Before : {X : Type 0} → (X → List ℕ) → Result (Unit {0}) Error → Option (List ℕ) → Result (Unit {0}) Error → Option (List ℕ) → List X → ℕ → Type 0
-Before text p old q new xs i = Continues p old q new (flat_map text (take i xs))
 
 more_text : {X : Type 0} → (text : X → List ℕ) (xs : List X) (i : ℕ) (x : X) → i < length xs → x ≡ get_or xs i x → flat_map text (take (i + 1) xs) ≡ flat_map text (take i xs) ++ text x
 more_text {X} text xs i x within here =

@@ -1,13 +1,14 @@
 -- Rules that decide no case, and how a user is told of rules.
-use Rattle.std.specs.Prelude.{◌≡◌, ℕ, ◌+◌, ◌-◌, ◌^◌, ◌<◌, ◌==◌, ◌&&◌, not, min, Bool, true, false, List, [], ◌∷◌, ◌++◌, length, sum_by, count_by, codes, decimal, Option, Some, None, unwrap_or, if◌then◌else◌}
+use Rattle.std.specs.Prelude.{◌≡◌, ℕ, ◌+◌, ◌-◌, ◌<◌, ◌==◌, ◌&&◌, not, Bool, true, false, List, [], ◌∷◌, ◌++◌, length, sum_by, count_by, codes, decimal, Option, Some, None, unwrap_or, if◌then◌else◌}
 use Rattle.std.specs.List.{slice_get, list_any, flat_map}
 use Rattle.pf_rule.specs.{Rules.PlainRule, RuleText.rule_text}
 use Rattle.pf_rule.specs.declared.rule.Effect.{Effect, TheVariants.{Decide, Evaluate}}
 use Rattle.pf_tokens.specs.declared.files.File.{File}
 use Rattle.pf_parse.specs.declared.fault.At.{At}
 use Rattle.pf_conf.specs.declared.found.Ruleset.{Ruleset}
+use Rattle.pf_conf.specs.Shown.{newline}
 use Rattle.pfd_conf.specs.declared.{firewall.Decided.Decided, firewall.Firewall.Firewall, outcomes.Outcome.Outcome, outcomes.Tried.Tried}
-use Rattle.pfd_conf.specs.{Firewalls.{rule_at, place_text}, Reports.newline}
+use Rattle.pfd_conf.specs.{Firewalls.{rule_at, place_text}, Reports.sayable}
 
 -- it decides if it matches; an anchor rule doesn't
 abbrev pub decides_by : Effect → Bool
@@ -55,9 +56,9 @@ uncovered_from ts within (r ∷ rs) = uncovered_in ts within 0 r.rules ++ uncove
 abbrev pub uncovered_of : List Tried → List Ruleset → List Decided
 uncovered_of ts rs = uncovered_from ts 0 rs
 
--- how many rules could decide, but no more than a number of the program can say
+-- how many rules could decide
 abbrev pub deciding_count : List Ruleset → ℕ
-deciding_count rs = min (sum_by (λ (r : Ruleset). count_by (λ (x : At PlainRule). is_deciding x.is) r.rules) rs) (2 ^ 64 - 1)
+deciding_count rs = sayable (sum_by (λ (r : Ruleset). count_by (λ (x : At PlainRule). is_deciding x.is) r.rules) rs)
 
 -- ---- how a user is told of rules
 

@@ -3,12 +3,10 @@ use Rattle.std.specs.Prelude.{ℕ, ◌+◌, ◌-◌, ◌^◌, ◌==◌, min, Boo
 use Rattle.std.specs.{List.{slice_get, flat_map}, Option.option_map_or}
 use Rattle.pf_form.specs.Form.Words.{Word, words_of, texts}
 use Rattle.pf_conf.specs.declared.found.Ruleset.{Ruleset}
-use Rattle.pf_case.specs.Cases.{word_of, same}
+use Rattle.pf_conf.specs.Shown.{newline}
+use Rattle.pf_case.specs.Cases.{word_of, decided_text, same}
 use Rattle.pfd_conf.specs.declared.{firewall.Decided.Decided, firewall.Firewall.Firewall, outcomes.Outcome.Outcome, outcomes.Tried.Tried, report.Tally.Tally, report.TheConstants.PACKET_WORDS}
 use Rattle.pfd_conf.specs.{Firewalls.behind_text, Outcomes.line_of}
-
-abbrev pub newline : List ℕ
-newline = codes "\n"
 
 -- ---- words
 
@@ -26,12 +24,9 @@ wanted_of ws = drop (PACKET_WORDS + 1) ws
 
 -- ---- verdicts, as `judge` is answered
 
--- where a rule is, unless it is in the main ruleset
-abbrev pub at_text : List ℕ → List ℕ
-at_text path = if length path == 0 then [] else (codes " at " ++ path)
-
+-- which rule decides: its number, and its ruleset's path unless that is main's
 abbrev pub rule_text_of : List Ruleset → Decided → List ℕ
-rule_text_of rs d = codes " rule " ++ decimal d.number ++ option_map_or (λ (r : Ruleset). at_text r.path) (slice_get rs d.within) []
+rule_text_of rs d = decided_text d.number (option_map_or (λ (r : Ruleset). r.path) (slice_get rs d.within) [])
 
 abbrev pub decider_text : List Ruleset → Option Decided → List ℕ
 decider_text rs None = codes " default"
@@ -70,9 +65,12 @@ all_failures f ts = flat_map (failures_text f) ts
 abbrev pub has : Bool → Outcome → Bool
 has holds o = same holds o.holds
 
--- no more than a number of the program can say
+-- the greatest number that the program can say stands for all that are greater
+abbrev pub sayable : ℕ → ℕ
+sayable n = min n (2 ^ 64 - 1)
+
 abbrev pub counted : Bool → List Tried → ℕ
-counted holds ts = min (sum_by (λ (t : Tried). count_by (has holds) t.outcomes) ts) (2 ^ 64 - 1)
+counted holds ts = sayable (sum_by (λ (t : Tried). count_by (has holds) t.outcomes) ts)
 
 abbrev pub tally : List Tried → Tally
 tally ts = record { passed = counted true ts; failed = counted false ts }
@@ -97,10 +95,6 @@ reason_text f ws o = if o.holds then [] else (codes "# " ++ difference_text f ws
 abbrev pub point_text : Firewall → ℕ → List Word → Outcome → List ℕ
 point_text f n ws o =
     result_word o.holds ++ decimal n ++ codes " - line " ++ decimal o.line ++ codes ":" ++ spaced ws ++ newline ++ reason_text f ws o
-
--- the greatest number that the program can say stands for all that are greater
-abbrev pub sayable : ℕ → ℕ
-sayable n = min n (2 ^ 64 - 1)
 
 -- the cases of a file from this one on, before which so many came in all files
 abbrev pub points_text : Firewall → Tried → ℕ → List Outcome → List ℕ

@@ -3,7 +3,7 @@ ghost use Rattle.std.specs.Prelude.{◌≡◌, Ok, IfOk, IfErr};
 ghost use Rattle.pf_addr.specs.Writing.{Continues, Writes};
 ghost use Rattle.pf_form.specs.Form.Words.{words_of};
 ghost use Rattle.pf_rule.specs.{PacketGrammar.packet, Refusals.reading};
-ghost use Rattle.pfd_conf.specs.Explaining.{joined, IsExplained, RefusesPacket, line_of_match, lines_of_matches};
+ghost use Rattle.pfd_conf.specs.Explaining.{joined, IsExplained, RefusesPacket, note_text, line_of_match, lines_of_matches};
 
 use crate::fault::Fault;
 use crate::firewall::{Decided, Firewall, ruleset_at};
@@ -71,7 +71,9 @@ impl Firewall {
 }
 
 /// What is said where not all rules that match are listed.
-fn note(is_whole: bool) -> &'static [u8] {
+fn note(is_whole: bool) -> &'static [u8]
+    ensures { result.now ≡ note_text is_whole }
+{
     if is_whole {
         b""
     } else {

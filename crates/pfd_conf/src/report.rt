@@ -2,8 +2,9 @@
 ghost use Rattle.std.specs.{Prelude.{◌≡◌, ◌≤◌, ◌-◌, ◌^◌, Ok, IfErr, OnOk, count_by}, Option.option_map_or};
 ghost use Rattle.pf_addr.specs.Writing.{Continues, Writes};
 ghost use Rattle.pf_form.specs.Form.Words.{texts};
+ghost use Rattle.pf_case.specs.Cases.{at_text};
 ghost use Rattle.pfd_conf.specs.declared.fault.Fault.TheVariants.{Output};
-ghost use Rattle.pfd_conf.specs.Reports.{spaced, packet_of, wanted_of, at_text, rule_text_of, got_text, difference_text, failure_text, failures_text, all_failures, has, counted, tally, tally_text, report_text};
+ghost use Rattle.pfd_conf.specs.Reports.{spaced, packet_of, wanted_of, rule_text_of, got_text, difference_text, failure_text, failures_text, all_failures, has, counted, tally, tally_text, report_text};
 
 use crate::fault::Fault;
 use crate::firewall::{Decided, Firewall};

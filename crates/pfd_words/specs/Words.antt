@@ -1,9 +1,10 @@
 -- The program's command line, as clap reads it, and what it asks for.
 use Rattle.std.specs.{Prelude.{◌≡◌, ◌≤◌, ℕ, true, List, [], ◌∷◌, Option, Some, None, codes, map, option_and_then, option_map, pos, unwrap_or}, Str.Parse.{IsNumeral, digits_value, without_leading_plus}}
-use Rattle.clap.specs.{Simple.on_top, Words.{App, Row, Rule, Text, new_app, all_of, new_rule, one_of, first_of, with_rule, with_subcommand}}
+use Rattle.clap.specs.{Simple.on_top, Words.{App, Row, Rule, Text, new_app, new_rule, one_of, with_rule, with_subcommand}}
 use Rattle.clap.specs.declared.builder.action.ArgAction.TheVariants.{Append}
 use Rattle.clap.specs.declared.builder.value_parser.ValueParser.TheVariants.{Signed}
-use Rattle.pfd_words.specs.declared.words.{Service.Service, Task.Task, Task.TheVariants.{Run, RunOn, Format, Show, Serve, Connect}, TheConstants.{MEMORY_SIZE, HISTORY_LIMIT, MOST_HISTORY, WORKERS, MOST_WORKERS}}
+use Rattle.pfd_words.specs.{Options.{text_in, SaysText, SaysTexts}, Conf.{AsksConf, check_words, test_words, cover_words, explain_words}}
+use Rattle.pfd_words.specs.declared.words.{Service.Service, Task.Task, Task.TheVariants.{Run, RunOn, Format, Show, Serve, Connect, Conf}, TheConstants.{MEMORY_SIZE, HISTORY_LIMIT, MOST_HISTORY, WORKERS, MOST_WORKERS}}
 
 -- ---- the subcommands and their options
 
@@ -73,18 +74,19 @@ serve_words = with_rule (with_rule limited_words peers_rule) ask_rule
 abbrev pub connect_words : App
 connect_words = with_rule (new_app (codes "connect")) (record (new_rule (codes "address")) { value_names = 1; required = true })
 
--- One of the five subcommands must be there. Help and the version may be asked for.
-abbrev pub program_words : App
-program_words =
+-- the subcommands of sessions, disks and servers
+abbrev pub engine_words : App
+engine_words =
     with_subcommand (with_subcommand (with_subcommand (with_subcommand (with_subcommand
     (on_top (λ s. record s { has_version = true; subcommand_required = true }) (new_app (codes "pfd")))
     run_words.top) format_words.top) show_words.top) serve_words.top) connect_words.top
 
--- ---- what a command line asks for. `met` is the subcommand that clap found, with its options
+-- One of these, or of those for a pf.conf, must be there. Help and the version may be asked for.
+abbrev pub program_words : App
+program_words =
+    with_subcommand (with_subcommand (with_subcommand (with_subcommand engine_words check_words.top) test_words.top) cover_words.top) explain_words.top
 
--- the text of an option of the subcommand
-abbrev pub text_in : Text → Option (Text × List Row) → Option Text
-text_in id met = option_and_then (λ m. first_of id m.1) met
+-- ---- what a command line asks for. `met` is the subcommand that clap found, with its options
 
 -- the text that an option's number is read from
 abbrev pub digits_in : Text → Option (Text × List Row) → Option Text
@@ -113,10 +115,6 @@ MaySaySize met n = MaySayNumber 0 4294967295 (digits_in (codes "size") met) n
 abbrev pub SaysHistory : Option (Text × List Row) → ℕ → Type 0
 SaysHistory met n = SaysNumber 1 MOST_HISTORY HISTORY_LIMIT (digits_in (codes "history") met) n
 
--- the text of an option that must be there
-abbrev pub SaysText : Text → Option (Text × List Row) → Text → Type 0
-SaysText id met text = text ≡ unwrap_or (text_in id met) []
-
 abbrev pub SaysPath : Option (Text × List Row) → Text → Type 0
 SaysPath met path = SaysText (codes "disk") met path
 
@@ -128,10 +126,6 @@ SaysSessions met n = SaysNumber 0 4294967295 0 (digits_in (codes "sessions") met
 
 abbrev pub SaysIdle : Option (Text × List Row) → ℕ → Type 0
 SaysIdle met n = SaysNumber 0 4294967295 0 (digits_in (codes "idle") met) n
-
--- the texts of an option that may be said again, in their order
-abbrev pub SaysTexts : Text → Option (Text × List Row) → List Text → Type 0
-SaysTexts id met texts = texts ≡ unwrap_or (option_and_then (λ m. all_of id m.1) met) []
 
 -- the mode of a Unix socket's file: only its owner may connect, if nothing else is said
 abbrev pub SaysMode : Option (Text × List Row) → Text → Type 0
@@ -158,6 +152,7 @@ IsAsked met (Format path size) = (option_map (λ m. m.0) met ≡ Some (codes "fo
 IsAsked met (Show path) = (option_map (λ m. m.0) met ≡ Some (codes "show")) × SaysPath met path.now
 IsAsked met (Serve service) = (option_map (λ m. m.0) met ≡ Some (codes "serve")) × AsksService met service
 IsAsked met (Connect address) = (option_map (λ m. m.0) met ≡ Some (codes "connect")) × SaysText (codes "address") met address.now
+IsAsked met (Conf task) = AsksConf met task
 
 -- the words are the program's name, whatever it is, and `run`
 abbrev pub IsPlainRun : List Text → Type 0
@@ -190,3 +185,4 @@ HasHistory (Format path size) = Unit {0}
 HasHistory (Show path) = Unit {0}
 HasHistory (Serve service) = CanServe service
 HasHistory (Connect address) = Unit {0}
+HasHistory (Conf task) = Unit {0}

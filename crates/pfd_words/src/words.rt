@@ -1,9 +1,14 @@
 //! The subcommands with their options, as clap's commands, and the task that a command line asks for.
-ghost use Rattle.std.specs.Prelude.{◌≡◌, ◌≤◌, IfErr, IfOk, List, ℕ, Some, [], codes, false, map, option_map, string_bytes, unwrap_or};
-ghost use Rattle.clap.specs.Words.{all_of, app_of, found_of, kind_of, one_of, first_of, rows_of, rule_of, subcommand_of, subcommand_rows_of};
+ghost use Rattle.std.specs.Prelude.{◌≡◌, ◌≤◌, IfErr, IfOk, List, ℕ, Some, codes, false, map, string_bytes, unwrap_or};
+ghost use Rattle.clap.specs.Words.{app_of, found_of, kind_of, one_of, first_of, rows_of, rule_of, subcommand_of, subcommand_rows_of};
 ghost use Rattle.clap.specs.declared.builder.command.Command.TheViews.{out-Command};
-ghost use Rattle.pfd_words.specs.Words.{IsPlainRun, plain_run, HasHistory, IsAsked, MaySayNumber, SaysNumber, disk_rule, history_rule, size_rule, listen_rule, workers_rule, sessions_rule, idle_rule, mode_rule, peers_rule, ask_rule, run_words, format_words, show_words, place_words, server_words, bounded_words, limited_words, serve_words, connect_words, program_words};
+ghost use Rattle.pfd_words.specs.Words.{IsPlainRun, plain_run, HasHistory, IsAsked, MaySayNumber, SaysNumber, disk_rule, history_rule, size_rule, listen_rule, workers_rule, sessions_rule, idle_rule, mode_rule, peers_rule, ask_rule, run_words, format_words, show_words, place_words, server_words, bounded_words, limited_words, serve_words, connect_words, engine_words, program_words};
 
+use crate::conf::{
+    ConfTask, check_words, cover_words, coverage_in, explain_words, matches_in, meaning_in,
+    outcomes_in, test_words,
+};
+use crate::options::{text_if_any, text_in, texts_in};
 use clap::error::ErrorKind;
 use clap::{Arg, ArgAction, ArgMatches, Command, Error, value_parser};
 use std::alloc::{AllocError, Global};
@@ -85,6 +90,8 @@ pub enum Task<'a> {
     Connect {
         address: &'a str,
     },
+    /// Answers something of a pf.conf.
+    Conf(ConfTask<'a>),
 }
 
 fn disk<'a>(alloc: Global) -> Arg<'a>
@@ -289,8 +296,8 @@ fn connect_words<'a>(alloc: Global) -> Result<Command<'a>, AllocError>
         .arg(address)
 }
 
-fn program_words<'a>(alloc: Global) -> Result<Command<'a>, AllocError>
-    ensures { IfOk result (λ c. app_of c ≡ program_words) }
+fn engine_words<'a>(alloc: Global) -> Result<Command<'a>, AllocError>
+    ensures { IfOk result (λ c. app_of c ≡ engine_words) }
 {
     Command::new(alloc, "pfd")
         .about("A control plane for rulesets of pf")
@@ -301,6 +308,16 @@ fn program_words<'a>(alloc: Global) -> Result<Command<'a>, AllocError>
         .subcommand(show_words(alloc)?)?
         .subcommand(serve_words(alloc)?)?
         .subcommand(connect_words(alloc)?)
+}
+
+fn program_words<'a>(alloc: Global) -> Result<Command<'a>, AllocError>
+    ensures { IfOk result (λ c. app_of c ≡ program_words) }
+{
+    engine_words(alloc)?
+        .subcommand(check_words(alloc)?)?
+        .subcommand(test_words(alloc)?)?
+        .subcommand(cover_words(alloc)?)?
+        .subcommand(explain_words(alloc)?)
 }
 
 /// Reads a command line, which begins with the program's own name. The error has the text for the user: help, the version, what is wrong
@@ -317,7 +334,7 @@ pub fn read_words<'a>(alloc: Global, words: &'a [String]) -> Result<Task<'a>, Er
     }
 }
 
-// The task of the subcommand that clap found. There always is one, with its required options. Only the addresses of `serve` take memory.
+// The task of the subcommand that clap found. There always is one, with its required options. Only lists of words take memory.
 fn task_of<'a>(alloc: Global, matches: &ArgMatches<'a>) -> Result<Task<'a>, AllocError>
     ensures asked { IfOk result (λ task. IsAsked (subcommand_rows_of matches.now) task) }
     ensures history { IfOk result HasHistory }
@@ -334,6 +351,10 @@ fn task_of<'a>(alloc: Global, matches: &ArgMatches<'a>) -> Result<Task<'a>, Allo
         Some(("connect", found)) => Ok(Task::Connect {
             address: text_in(found, "address"),
         }),
+        Some(("check", found)) => Ok(Task::Conf(meaning_in(found))),
+        Some(("test", found)) => Ok(Task::Conf(outcomes_in(alloc, found)?)),
+        Some(("cover", found)) => Ok(Task::Conf(coverage_in(alloc, found)?)),
+        Some(("explain", found)) => Ok(Task::Conf(matches_in(alloc, found)?)),
         Some((_, found)) => Ok(session_in(found)),
         None => Ok(Task::Run {
             size: MEMORY_SIZE,
@@ -348,7 +369,7 @@ fn session_in<'a>(found: &ArgMatches<'a>) -> Task<'a>
     ensures history { HasHistory result }
 {
     let history = number_in(found, "history", HISTORY_LIMIT).clamp(1, MOST_HISTORY);
-    match disk_in(found) {
+    match text_if_any(found, "disk") {
         Some(path) => Task::RunOn {
             path,
             size: number_if_any(found, "size"),
@@ -385,38 +406,11 @@ fn server_in<'a>(alloc: Global, found: &ArgMatches<'a>) -> Result<Task<'a>, Allo
     }))
 }
 
-// The texts of an option that may be said again, in their order.
-fn texts_in<'a>(
-    alloc: Global,
-    found: &ArgMatches<'a>,
-    option: &str,
-) -> Result<Vec<&'a str>, AllocError>
-    ensures { IfOk result (λ texts. map (λ s. s.now) texts.items ≡ unwrap_or (all_of option.now (rows_of (found_of found.now))) []) }
-{
-    match found.get_strs(option) {
-        Some(texts) => texts.to_vec(alloc),
-        None => Ok(Vec::new(alloc)),
-    }
-}
-
 // The mode that is said, or the one by which only the owner may connect.
 fn mode_in<'a>(found: &ArgMatches<'a>) -> &'a str
     ensures { result.now ≡ unwrap_or (first_of (codes "mode") (rows_of (found_of found.now))) (codes "0600") }
 {
     found.get_str("mode").unwrap_or("0600")
-}
-
-// The text of an option that must be there.
-fn text_in<'a>(found: &ArgMatches<'a>, option: &str) -> &'a str
-    ensures { result.now ≡ unwrap_or (first_of option.now (rows_of (found_of found.now))) [] }
-{
-    found.get_str(option).unwrap_or("")
-}
-
-fn disk_in<'a>(found: &ArgMatches<'a>) -> Option<&'a str>
-    ensures { option_map (λ s. s.now) result ≡ first_of (codes "disk") (rows_of (found_of found.now)) }
-{
-    found.get_str("disk")
 }
 
 // An option's number, or none if the option isn't there.

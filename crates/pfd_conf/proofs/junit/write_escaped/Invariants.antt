@@ -1,5 +1,5 @@
 use Rattle.pfd_conf.specs.Junit.{escaped}
-use Rattle.pfd_conf.proofs.Texts.{Before}
+use Rattle.pf_conf.proofs.Texts.{Before}
 use Rattle.pfd_conf.proofs.junit.write_escaped.Given as goal
 
 abbrev pub invariant-loop-byte : goal.invariant-loop-byte

@@ -1,4 +1,5 @@
-use Rattle.pfd_conf.proofs.Texts.{Before, behind_space}
+use Rattle.pf_conf.proofs.Texts.{Before}
+use Rattle.pfd_conf.proofs.Texts.{behind_space}
 use Rattle.pfd_conf.proofs.report.write_spaced.Given as goal
 
 abbrev pub invariant-loop-word : goal.invariant-loop-word

@@ -1,5 +1,5 @@
 use Rattle.pfd_conf.specs.Covering.{line_of_rule}
-use Rattle.pfd_conf.proofs.Texts.{Before}
+use Rattle.pf_conf.proofs.Texts.{Before}
 use Rattle.pfd_conf.proofs.cover.Firewall.write_lines.Given as goal
 
 abbrev pub invariant-loop-rule : goal.invariant-loop-rule

@@ -1,5 +1,5 @@
 use Rattle.pfd_conf.specs.Explaining.{line_of_match}
-use Rattle.pfd_conf.proofs.Texts.{Before}
+use Rattle.pf_conf.proofs.Texts.{Before}
 use Rattle.pfd_conf.proofs.explain.Firewall.write_matches.Given as goal
 
 abbrev pub invariant-loop-rule : goal.invariant-loop-rule

@@ -3,7 +3,7 @@ use Rattle.std.proofs.lemmas.Result.{IfOk-weaker}
 use Rattle.clap.specs.Words.{Text, all_of, found_of, rows_of}
 use Rattle.clap.proofs.WalkLemmas.{raw_values-rows}
 use Rattle.pfd_words.proofs.Asking.{texts_read}
-use Rattle.pfd_words.proofs.words.texts_in.Goals as goal
+use Rattle.pfd_words.proofs.options.texts_in.Goals as goal
 
 pub returns-in-Some : goal.returns-in-Some
 returns-in-Some c =
