@@ -1,8 +1,8 @@
 -- Texts that are written one after another.
 use Rattle.std.proofs.Common.{◌≡◌, ℕ, zero, suc, ◌+◌, ◌-◌, ◌<◌, ◌≤◌, List, [], ◌∷◌, ◌++◌, length, take, drop, get_or, Option, Some, Result, Ok, refl, sym, ap, ◌∙◌, subst, arith, append_assoc, append-nil, length-drop}
-use Rattle.std.proofs.lemmas.Grind.{flat_map-append}
-use Rattle.std.specs.{List.flat_map, declared.io.Error.Error}
-use Rattle.pf_addr.specs.Writing.{Wrote, Continues, Continues-then, behind_nothing}
+use Rattle.std.proofs.{lemmas.List.take_all, lemmas.Grind.flat_map-append}
+use Rattle.std.specs.{List.flat_map, Io.KnownBytes.{Appends, Keeps}, declared.io.Error.Error}
+use Rattle.pf_addr.specs.Writing.{Wrote, Writes, WritesFront, WritesFront-longer, WritesFront-then, Continues, Continues-then, behind_nothing, Appends-none, Appends-then, Appends-kept}
 use Rattle.pf_form.specs.Form.Words.{Word}
 use Rattle.pf_table.specs.Entries.{PlainEntry}
 use Rattle.pf_load.specs.declared.lines.TheConstants.{PART}
@@ -82,3 +82,46 @@ all_parts table p q old mid all left none so_far =
     let whole : so_far.text ≡ extend_lines table all =
     sym (append-nil so_far.text) ∙ ap (λ (t : Word). so_far.text ++ t) (sym nothing) ∙ so_far.whole in
     subst (λ (t : Word). Continues p old q mid t) whole so_far.written
+
+-- ---- what was sent
+
+-- some text was sent
+pub record Sent (old new : Option (List ℕ)) : Type 0 where
+  pub text : List ℕ
+  pub sent : Appends old new text
+
+pub sent_none : (old : Option (List ℕ)) → Sent old old
+sent_none old = record { text = []; sent = Appends-none old }
+
+pub sent_then : (old mid new : Option (List ℕ)) → Sent old mid → Sent mid new → Sent old new
+sent_then old mid new a b = record { text = a.text ++ b.text; sent = Appends-then old mid new a.text b.text a.sent b.sent }
+
+-- of some lines those before these were sent
+pub record SentSome (old mid : Option (List ℕ)) (all left : List ℕ) : Type 0 where
+  pub text : List ℕ
+  pub whole : text ++ left ≡ all
+  pub sent : Appends old mid text
+
+pub sent_nothing : (old : Option (List ℕ)) (all : List ℕ) → SentSome old old all all
+sent_nothing old all = record { text = []; whole = refl; sent = Appends-none old }
+
+pub one_more_sent : (old mid new : Option (List ℕ)) (all left some rest : List ℕ) → some ++ rest ≡ left → SentSome old mid all left → Appends mid new some → SentSome old new all rest
+one_more_sent old mid new all left some rest cut so_far next = record {
+  text = so_far.text ++ some;
+  whole = append_assoc so_far.text some rest ∙ ap (λ (l : List ℕ). so_far.text ++ l) cut ∙ so_far.whole;
+  sent = Appends-then old mid new so_far.text some so_far.sent next;
+}
+
+pub all_sent : (old mid : Option (List ℕ)) (all left : List ℕ) → length left ≡ 0 → SentSome old mid all left → Appends old mid all
+all_sent old mid all [] none so_far = subst (Appends old mid) (sym (append-nil so_far.text) ∙ so_far.whole) so_far.sent
+all_sent old mid all (b ∷ bs) none so_far = absurd (omega arith)
+
+-- a front of what is left was sent
+pub stopped : (old mid new : Option (List ℕ)) (all left : List ℕ) → SentSome old mid all left → WritesFront mid new left → WritesFront old new all
+stopped old mid new all left so_far front = subst (WritesFront old new) so_far.whole (WritesFront-then old mid new so_far.text left so_far.sent front)
+
+-- a text is a front of itself
+pub whole_front : (old new : Option (List ℕ)) (text : List ℕ) → Appends old new text → WritesFront old new text
+whole_front old new text sent = (length text, subst (Appends old new) (sym (take-all-of text)) sent) where
+  take-all-of : (xs : List ℕ) → take (length xs) xs ≡ xs
+  take-all-of xs = take_all (length xs) xs (omega arith)

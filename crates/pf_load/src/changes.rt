@@ -2,7 +2,9 @@
 ghost use Rattle.std.specs.Prelude.{◌≡◌, ◌≤◌, ◌-◌, ◌++◌, length, map, take, drop, IfOk, OnOk};
 ghost use Rattle.pf_addr.specs.Writing.{Continues};
 ghost use Rattle.pf_rule.specs.RuleText.{rule_text};
+ghost use Rattle.pf_table.specs.Edits.{deletions};
 ghost use Rattle.pf_conf.specs.Tables.{entry_text};
+ghost use Rattle.pf_load.specs.Lines.{newline};
 ghost use Rattle.pf_load.specs.Changes.{rules_heading, table_heading, marked, changes_text, WritesDifference, absent_in};
 
 use crate::fault::Fault;
@@ -110,13 +112,15 @@ fn rule_texts(alloc: Global, rules: &[At<Rule>]) -> Result<Vec<Bytes>, AllocErro
 }
 
 /// How many come first that both lists have.
+#[tactic(auto, using(crate::proofs::Steps::more_in_front))]
 fn common_front(old: &[Bytes], new: &[Bytes]) -> usize
     ensures same { take result old.now ≡ take result new.now }
     ensures of_old { result ≤ length old.now }
     ensures of_new { result ≤ length new.now }
 {
     for at in 0..old.len().min(new.len()) {
-        if old[at].as_slice() != new[at].as_slice() {
+        let (one, other) = (&old[at], &new[at]);
+        if one.as_slice() != other.as_slice() {
             return at;
         }
     }
@@ -124,6 +128,7 @@ fn common_front(old: &[Bytes], new: &[Bytes]) -> usize
 }
 
 /// How many come last that both lists have.
+#[tactic(auto, using(crate::proofs::Steps::more_behind))]
 fn common_back(old: &[Bytes], new: &[Bytes]) -> usize
     ensures same { drop (length old.now - result) old.now ≡ drop (length new.now - result) new.now }
     ensures of_old { result ≤ length old.now }
@@ -138,6 +143,19 @@ fn common_back(old: &[Bytes], new: &[Bytes]) -> usize
     old.len().min(new.len())
 }
 
+fn write_marked_one<W: Write>(
+    out: &mut W,
+    so_far: io::Result<()>,
+    mark: &[u8],
+    text: &[u8],
+) -> io::Result<()>
+    ensures { Continues so_far (W.contents out.old) result (W.contents out.new) (mark.now ++ text.now ++ newline) }
+{
+    let so_far = write_more(out, so_far, mark);
+    let so_far = write_more(out, so_far, text);
+    write_more(out, so_far, b"\n")
+}
+
 fn write_marked<W: Write>(
     out: &mut W,
     written: io::Result<()>,
@@ -148,9 +166,7 @@ fn write_marked<W: Write>(
 {
     let mut so_far = written;
     for text in texts {
-        so_far = write_more(out, so_far, mark);
-        so_far = write_more(out, so_far, text.as_slice());
-        so_far = write_more(out, so_far, b"\n");
+        so_far = write_marked_one(out, so_far, mark, text.as_slice());
     }
     so_far
 }
@@ -263,7 +279,9 @@ fn absent_in(alloc: Global, other: &Table, entries: &[Entry]) -> Result<Vec<Byte
 }
 
 /// What a table would answer if these entries were deleted from it.
-fn answers_of(alloc: Global, table: &Table, entries: &[Entry]) -> Result<Vec<Deletion>, Fault> {
+fn answers_of(alloc: Global, table: &Table, entries: &[Entry]) -> Result<Vec<Deletion>, Fault>
+    ensures { IfOk result (λ v. v.items ≡ deletions table.now entries.now) }
+{
     let mut table = table.shared()?;
     match table.delete(alloc, entries) {
         Ok(answers) => Ok(answers),

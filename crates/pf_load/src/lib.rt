@@ -15,6 +15,7 @@
 
 mod changes;
 mod fault;
+mod laws;
 mod lines;
 mod loading;
 mod naming;
@@ -22,6 +23,7 @@ mod replies;
 
 pub use changes::show_changes;
 pub use fault::Fault;
+pub use laws::a_load_replaces_what_it_names;
 pub use lines::PART;
 pub use loading::load;
 pub use naming::{Begun, ruleset_names};

@@ -182,12 +182,12 @@ fn write_ruleset<W: Write>(
     out: &mut W,
     so_far: io::Result<()>,
     begun: &[Begun],
-    ruleset: &Ruleset,
+    listed: &Ruleset,
 ) -> io::Result<()>
-    ensures { Continues so_far (W.contents out.old) result (W.contents out.new) (add_lines begun.now ruleset.now) }
+    ensures { Continues so_far (W.contents out.old) result (W.contents out.new) (add_lines begun.now listed.now) }
 {
-    let ticket = ticket_of(begun, &RulesetName::filter(&ruleset.path));
-    let (path, rules) = (&ruleset.path, ruleset.rules.as_slice());
+    let ticket = ticket_of(begun, &RulesetName::filter(&listed.path));
+    let (path, rules) = (&listed.path, listed.rules.as_slice());
     write_adds(out, so_far, path, ticket, rules)
 }
 
@@ -295,6 +295,7 @@ fn write_extend<W: Write>(
 }
 
 /// The first entries, as many as a line takes, and the others.
+#[tactic(auto, using(std::proofs::lemmas::List::take_all, std::proofs::lemmas::List::drop_all))]
 fn cut(entries: &[Entry]) -> (&[Entry], &[Entry])
     ensures part { result.0.now ≡ take PART entries.now }
     ensures rest { result.1.now ≡ drop PART entries.now }

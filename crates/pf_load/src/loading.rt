@@ -59,6 +59,7 @@ fn offer<B: BufRead, W: Write>(
 }
 
 /// Each of these rulesets, with its ticket.
+#[tactic(auto, using(crate::proofs::Steps::take_item, crate::proofs::Steps::name_pushed))]
 fn with_tickets(
     alloc: Global,
     names: &[RulesetName],
@@ -87,7 +88,7 @@ fn begun_by(
 {
     let words = words(alloc, reply)?;
     match words.as_slice().split_first() {
-        Some((first, tickets)) if *first == b"ok" && tickets.len() == names.len() => {
+        Some((first, tickets)) if *first == b"ok".as_slice() && tickets.len() == names.len() => {
             Ok(with_tickets(alloc, names, tickets)?)
         }
         _ => Err(Fault::refused(alloc, first_line(line).0, reply)),
@@ -178,6 +179,14 @@ fn attempt<B: BufRead, W: Write>(
     done
 }
 
+/// Whether it stopped since somebody else began on the same ruleset, or committed it, meanwhile.
+fn is_busy(done: &Result<Vec<u8>, Fault>) -> bool {
+    match done {
+        Ok(_) => false,
+        Err(fault) => fault.is_busy(),
+    }
+}
+
 /// Loads all that a file means into a server, in one commit, or nothing of it; and returns the server's reply, `applied N` or `stored N`.
 /// Other rulesets and tables stay. It is begun anew so many times if somebody else began or committed one of the rulesets meanwhile.
 ///
@@ -193,10 +202,10 @@ pub fn load<B: BufRead, W: Write>(
     ensures { Loads conf.now result (W.contents server.old) (W.contents server.new) }
 {
     let names = ruleset_names(alloc, conf)?;
-    for _ in 0..retries {
-        match attempt(alloc, server, replies, conf, &names) {
-            Err(fault) if fault.is_busy() => {}
-            done => return done,
+    'tries: for _ in 0..retries {
+        let done = attempt(alloc, server, replies, conf, &names);
+        if !is_busy(&done) {
+            return done;
         }
     }
     attempt(alloc, server, replies, conf, &names)

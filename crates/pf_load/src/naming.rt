@@ -68,11 +68,14 @@ pub fn ruleset_names(alloc: Global, conf: &Conf) -> Result<Vec<RulesetName>, All
 }
 
 /// The ticket of a ruleset; an empty text if it wasn't begun.
+#[tactic(auto, using(crate::proofs::Steps::drop_item, std::proofs::lemmas::List::drop_all))]
 pub(crate) fn ticket_of<'a>(begun: &'a [Begun], name: &RulesetName) -> &'a [u8]
     ensures { result.now ≡ ticket_of begun.now name.now }
 {
-    match begun.iter().find(|one| one.name.same(name)) {
-        Some(one) => one.ticket.as_slice(),
-        None => b"",
+    for one in begun {
+        if one.name.same(name) {
+            return one.ticket.as_slice();
+        }
     }
+    b""
 }

@@ -59,7 +59,7 @@ pub(crate) fn heed<B: BufRead>(
     while !left.is_empty() {
         let (line, rest) = first_line(left);
         let reply = read_reply(alloc, replies)?;
-        if refused.is_ok() && reply.as_slice() != b"ok" {
+        if refused.is_ok() && reply.as_slice() != b"ok".as_slice() {
             refused = Err(Fault::refused(alloc, line, &reply));
         }
         left = rest;
