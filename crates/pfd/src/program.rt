@@ -4,6 +4,7 @@
 //! - `serving`: a server over the disk on a file.
 //! - `ended`: what the program says of a session.
 //! - `conf`: what is asked of a pf.conf.
+//! - `load`: loads of one into a server.
 ghost use Rattle.std.specs.{Prelude.{◌≡◌, ◌≢◌, ◌≤◌, ◌<◌, ◌^◌, ◌⊎◌, IfErr, IfOk, Result, map, string_bytes}, Io.KnownBytes.Keeps, IoError.error_kind};
 ghost use Rattle.clap.specs.Words.{kind_of, subcommand_of};
 ghost use Rattle.pfd_files.specs.declared.fault.Fault.{Fault};
@@ -15,6 +16,7 @@ ghost use Rattle.pfd.specs.Program.{IsDone, IsDeviceRun, IsMemoryRun, IsProgramR
 mod conf;
 mod ended;
 mod fresh;
+mod load;
 mod serving;
 mod streams;
 
@@ -23,6 +25,7 @@ use crate::fullness::gauge::{Gauge, tell_fullness};
 use crate::program::conf::answer;
 use crate::program::ended::told;
 use crate::program::fresh::open_memory;
+use crate::program::load::load_file;
 use crate::program::serving::serve_file;
 use crate::program::streams::hold_streams;
 use clap::Error;
@@ -140,6 +143,7 @@ fn perform<
         Task::Serve(service) => serve_file(machine, alloc, files, &service, writer, faults),
         Task::Connect { address } => told(connect(machine, alloc, address, reader, writer)),
         Task::Conf(task) => answer(alloc, files, &task, writer, faults),
+        Task::Load(task) => load_file(machine, alloc, files, &task, writer, faults),
     }
 }
 
@@ -223,6 +227,10 @@ fn explain<W: Write, F: Write>(error: &Error, writer: &mut W, faults: &mut F) ->
 /// that has another verdict than is wanted. `pfd cover FILE CASES .. [--lenient]` writes the rules that decide no case, `pfd explain FILE
 /// PACKET [--lenient]` those that match the packet. What is wrong with a file, and what is noted of it, goes to the faults. The status is 1
 /// also if a case has another verdict, or a rule decides none.
+///
+/// `pfd load FILE [--to ADDR] [--anchor PATH] [--lenient] [--dry-run] [--retry N]` loads such a file into a server: all that it means in one
+/// commit, or nothing of it, and writes the server's reply, or with `--dry-run` what would change. A line that the server refuses goes to the
+/// faults with the reply, and the status is then 1. If somebody else began on one of its rulesets meanwhile it begins anew, N times at most.
 ///
 /// A session on a file and a server say on the faults how full the disk is, in a line, once more than seven eighths of its half are used:
 /// as they begin, and a server again as that rises. They say it once for each hundredth, until no more than three quarters were used.

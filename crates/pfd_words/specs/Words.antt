@@ -4,8 +4,8 @@ use Rattle.clap.specs.{Simple.on_top, Words.{App, Row, Rule, Text, new_app, new_
 use Rattle.clap.specs.declared.builder.action.ArgAction.TheVariants.{Append}
 use Rattle.clap.specs.declared.builder.value_parser.ValueParser.TheVariants.{Signed}
 use Rattle.clap.specs.declared.error.kind.ErrorKind.{ErrorKind, TheVariants.{OutOfMemory, ValueValidation}}
-use Rattle.pfd_words.specs.{Options.{text_in, SaysText, SaysTexts}, Conf.{AsksConf, check_words, test_words, cover_words, explain_words}}
-use Rattle.pfd_words.specs.declared.words.{Service.Service, Task.Task, Task.TheVariants.{Run, RunOn, Format, Show, Serve, Connect, Conf}, TheConstants.{MEMORY_SIZE, HISTORY_LIMIT, MOST_HISTORY, WORKERS, MOST_WORKERS, OWNER_MODE, MOST_MODE}}
+use Rattle.pfd_words.specs.{Options.{text_in, SaysText, MaySayText, SaysTexts, SaysFlag}, Conf.{IsWord, AsksConf, flag_rule, text_rule, conf_words, check_words, test_words, cover_words, explain_words}}
+use Rattle.pfd_words.specs.declared.words.{Service.Service, Task.Task, LoadTask.LoadTask, Task.TheVariants.{Run, RunOn, Format, Show, Serve, Connect, Conf, Load}, TheConstants.{MEMORY_SIZE, HISTORY_LIMIT, MOST_HISTORY, WORKERS, MOST_WORKERS, OWNER_MODE, MOST_MODE}}
 
 -- ---- the subcommands and their options
 
@@ -79,16 +79,32 @@ abbrev pub connect_words : App
 connect_words = with_rule (new_app (codes "connect")) (record (new_rule (codes "address")) { value_names = 1; required = true })
 
 -- the subcommands of sessions, disks and servers
+abbrev pub to_rule : Rule
+to_rule = text_rule (codes "to")
+
+abbrev pub retry_rule : Rule
+retry_rule = number_rule (codes "retry") 0 4294967295
+
+abbrev pub placed_words : App
+placed_words = with_rule (with_rule (conf_words (codes "load")) to_rule) (text_rule (codes "anchor"))
+
+abbrev pub load_words : App
+load_words = with_rule (with_rule placed_words (flag_rule (codes "dry-run"))) retry_rule
+
 abbrev pub engine_words : App
 engine_words =
     with_subcommand (with_subcommand (with_subcommand (with_subcommand (with_subcommand
     (on_top (λ s. record s { has_version = true; subcommand_required = true }) (new_app (codes "pfd")))
     run_words.top) format_words.top) show_words.top) serve_words.top) connect_words.top
 
--- One of these, or of those for a pf.conf, must be there. Help and the version may be asked for.
-abbrev pub program_words : App
-program_words =
+-- with those that ask something of a pf.conf
+abbrev pub reading_words : App
+reading_words =
     with_subcommand (with_subcommand (with_subcommand (with_subcommand engine_words check_words.top) test_words.top) cover_words.top) explain_words.top
+
+-- One of these must be there. Help and the version may be asked for.
+abbrev pub program_words : App
+program_words = with_subcommand reading_words load_words.top
 
 -- ---- what a command line asks for. `met` is the subcommand that clap found, with its options
 
@@ -167,6 +183,23 @@ pub record AsksService (met : Option (Text × List Row)) (service : Service) : T
   pub sessions : SaysSessions met service.sessions
   pub idle : SaysIdle met service.idle
 
+abbrev pub SaysRetries : Option (Text × List Row) → ℕ → Type 0
+SaysRetries met n = SaysNumber 0 4294967295 0 (digits_in (codes "retry") met) n
+
+-- the address of the server that a file is loaded into: where the unit and the script for rc(8) have it, if nothing else is said
+abbrev pub SaysServer : Option (Text × List Row) → Text → Type 0
+SaysServer met to = to ≡ unwrap_or (text_in (codes "to") met) (codes "/var/run/pfd/pfd.sock")
+
+-- what `load` asks for
+pub record AsksLoad (met : Option (Text × List Row)) (task : LoadTask) : Type 0 where
+  pub word : IsWord (codes "load") met
+  pub path : SaysText (codes "file") met task.path.now
+  pub lenient : SaysFlag (codes "lenient") met task.is_lenient
+  pub anchor : MaySayText (codes "anchor") met task.anchor
+  pub to : SaysServer met task.to.now
+  pub retries : SaysRetries met task.retries
+  pub dry : SaysFlag (codes "dry-run") met task.is_dry
+
 -- The task is what the subcommand and its options ask for. Without `--disk` a session is in memory.
 abbrev pub IsAsked : Option (Text × List Row) → Task → Type 0
 IsAsked met (Run size history) = (text_in (codes "disk") met ≡ None) × SaysSize met MEMORY_SIZE size × SaysHistory met history
@@ -176,6 +209,7 @@ IsAsked met (Show path) = (option_map (λ m. m.0) met ≡ Some (codes "show")) �
 IsAsked met (Serve service) = (option_map (λ m. m.0) met ≡ Some (codes "serve")) × AsksService met service
 IsAsked met (Connect address) = (option_map (λ m. m.0) met ≡ Some (codes "connect")) × SaysText (codes "address") met address.now
 IsAsked met (Conf task) = AsksConf met task
+IsAsked met (Load task) = AsksLoad met task
 
 -- the words are the program's name, whatever it is, and `run`
 abbrev pub IsPlainRun : List Text → Type 0
@@ -209,3 +243,4 @@ HasHistory (Show path) = Unit {0}
 HasHistory (Serve service) = CanServe service
 HasHistory (Connect address) = Unit {0}
 HasHistory (Conf task) = Unit {0}
+HasHistory (Load task) = Unit {0}

@@ -75,7 +75,7 @@ fn cases<'a>(alloc: Global) -> Arg<'a>
 // The options of a subcommand, added two at a time.
 
 /// A subcommand of this name that asks something of a pf.conf.
-fn conf_words<'a>(alloc: Global, name: &'a str) -> Result<Command<'a>, AllocError>
+pub(crate) fn conf_words<'a>(alloc: Global, name: &'a str) -> Result<Command<'a>, AllocError>
     ensures app { IfOk result (λ c. app_of c ≡ conf_words name.now) }
     ensures local { IfOk result (λ c. (out-Command c).has_globals ≡ false) }
 {

@@ -5,7 +5,8 @@
 //!
 //! - `options`: what the options of a subcommand say.
 //! - `conf`: the subcommands `check`, `test`, `cover` and `explain`, which ask something of a pf.conf, and what they ask.
-//! - `words`: the subcommands `run`, `format`, `show`, `serve` and `connect`, and [`read_words`], which reads a command line into a [`Task`].
+//! - `words`: the subcommands `run`, `format`, `show`, `serve`, `connect` and `load`, and [`read_words`], which reads a command line into a
+//!   [`Task`].
 //!
 //! Read `specs/Words.antt` first: it has the subcommands with their options, and `IsAsked`, what a command line asks for by clap's own
 //! rules; `specs/Conf.antt` has those of a pf.conf. Proved, by the contracts of [`read_words`]: the task is what the words ask for (`asked`);
@@ -21,5 +22,6 @@ mod words;
 
 pub use conf::{ConfTask, Question};
 pub use words::{
-    HISTORY_LIMIT, MEMORY_SIZE, MOST_HISTORY, MOST_WORKERS, Service, Task, WORKERS, read_words,
+    HISTORY_LIMIT, LoadTask, MEMORY_SIZE, MOST_HISTORY, MOST_WORKERS, Service, Task, WORKERS,
+    read_words,
 };

@@ -25,11 +25,18 @@ pub(crate) fn answer<S: Files<File = File>, W: Write, F: Write>(
     match answered(alloc, files, task, writer, faults) {
         Ok(true) => Ok(()),
         Ok(false) => Err(Fault::Told),
-        Err(ConfFault::Memory) => Err(Fault::Memory),
-        Err(ConfFault::Output) => Err(Fault::Output),
-        Err(fault) => {
+        Err(fault) => Err(told_of_conf(fault, faults)),
+    }
+}
+
+/// What the program says of why there is no answer.
+pub(crate) fn told_of_conf<F: Write>(fault: ConfFault, faults: &mut F) -> Fault {
+    match fault {
+        ConfFault::Memory => Fault::Memory,
+        ConfFault::Output => Fault::Output,
+        fault => {
             let _ = writeln!(faults, "{fault}");
-            Err(Fault::Told)
+            Fault::Told
         }
     }
 }
@@ -75,8 +82,9 @@ fn answered<S: Files<File = File>, W: Write, F: Write>(
     }
 }
 
-fn mode(task: &ConfTask<'_>) -> Mode {
-    if task.is_lenient {
+/// How a file is read.
+pub(crate) fn mode_of(is_lenient: bool) -> Mode {
+    if is_lenient {
         Mode::Lenient
     } else {
         Mode::Strict
@@ -96,7 +104,7 @@ fn show<S: Files<File = File>, W: Write, F: Write>(
         return Err(ConfFault::anchor(alloc, anchor)?);
     };
     let read = |name: &[u8]| read_conf(alloc, files, name);
-    check(alloc, &read, mode(task), &base, task.path, writer, faults)
+    check(alloc, &read, mode_of(task.is_lenient), &base, task.path, writer, faults)
 }
 
 // The rules and tables of the file. What is noted of it goes to the faults.
@@ -107,7 +115,7 @@ fn firewall<S: Files<File = File>, F: Write>(
     faults: &mut F,
 ) -> Result<Firewall, ConfFault> {
     let read = |name: &[u8]| read_conf(alloc, files, name);
-    let taken = take_noting(alloc, &read, mode(task), &Path::main(), task.path, faults)?;
+    let taken = take_noting(alloc, &read, mode_of(task.is_lenient), &Path::main(), task.path, faults)?;
     Ok(Firewall::of(alloc, taken)?)
 }
 
