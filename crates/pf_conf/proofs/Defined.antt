@@ -1,7 +1,8 @@
 -- The tables of a file up to the first that is defined again.
-use Rattle.std.proofs.Common.{◌≡◌, ℕ, suc, ◌+◌, ◌<◌, ◌≤◌, ◌||◌, cond, Bool, true, false, List, [], ◌∷◌, ◌++◌, length, get_or, take, drop, Option, Some, None, Result, Ok, Err, refl, sym, ap, ◌∙◌, arith, if◌then◌else◌}
-use Rattle.std.specs.{List.{slice_get, list_any}, Str.bytes_eq}
-use Rattle.std.proofs.lemmas.List.{drop_all}
+use Rattle.std.proofs.Common.{◌≡◌, ℕ, suc, ◌+◌, ◌<◌, ◌≤◌, ◌||◌, not, cond, Bool, true, false, List, [], ◌∷◌, ◌++◌, length, get_or, take, drop, Option, Some, None, Result, Ok, Err, refl, sym, ap, ◌∙◌, arith, if◌then◌else◌}
+use Rattle.std.specs.{List.{slice_get}, Str.bytes_eq, BTreeSet.{BTreeSet, contains}, Ordering.{is_eq, nat_cmp}, Cmp.Lexicographic.slice_cmp}
+use denote.Ref.{Bor}
+use Rattle.std.proofs.lemmas.{List.drop_all, Map.Text.is_eq-slice_cmp}
 use Rattle.pf_form.specs.Form.Forms.{◌>>=◌}
 use Rattle.pf_tokens.specs.declared.files.File.{File}
 use Rattle.pf_parse.specs.declared.{fault.Stop.Stop, fault.Stop.TheVariants.{Faulty, Needs, Memory}, tree.Table.Table}
@@ -13,6 +14,10 @@ use Rattle.pf_conf.proofs.Steps.{drop_item, take_item}
 
 -- ---- how many come before that
 
+-- the set has the names of these
+abbrev pub Named : BTreeSet (Bor Word) → List Table → Type 0
+Named names ts = (name : Bor Word) → contains (λ x y. slice_cmp nat_cmp x.now y.now) names name ≡ is_defined name.now ts
+
 -- one more table is defined
 pub defined_more : (name : Word) (ts : List Table) (t : Table) → is_defined name (ts ++ t ∷ []) ≡ cond (bytes_eq t.name name) true (is_defined name ts)
 defined_more name [] t = elim (bytes_eq t.name name) as (λ b. (b || false) ≡ cond b true false) [ true ↦ refl | false ↦ refl ]
@@ -22,6 +27,24 @@ defined_more name (u ∷ ts) t =
       | true ↦ elim (bytes_eq u.name name) as (λ b. (b || true) ≡ true) [ true ↦ refl | false ↦ refl ]
       | false ↦ refl
     ]
+
+pub named_more : (old new : BTreeSet (Bor Word)) (ts : List Table) (i : ℕ) (t : Table) (key : Bor Word) → i < length ts → t ≡ get_or ts i t → key.now ≡ t.name
+    → ((name : Bor Word) → contains (λ x y. slice_cmp nat_cmp x.now y.now) new name ≡ cond (is_eq (slice_cmp nat_cmp key.now name.now)) true (contains (λ x y. slice_cmp nat_cmp x.now y.now) old name))
+    → Named old (take i ts) → Named new (take (i + 1) ts)
+named_more old new ts i t key within item is updates known = λ name.
+    updates name
+    ∙ ap (λ (b : Bool). cond (is_eq (slice_cmp nat_cmp key.now name.now)) true b) (known name)
+    ∙ ap (λ (b : Bool). cond b true (is_defined name.now (take i ts))) (is_eq-slice_cmp key.now name.now ∙ ap (λ (w : Word). bytes_eq w name.now) is)
+    ∙ sym (defined_more name.now (take i ts) t)
+    ∙ ap (λ (us : List Table). is_defined name.now us) (sym (take_item ts i t within item))
+
+pub was_there : (there added : Bool) → added ≡ not there → added ≡ false → there ≡ true
+was_there true added is old = refl
+was_there false added is old = absurd (cc)
+
+pub was_new : (there added : Bool) → added ≡ not there → added ≡ true → there ≡ false
+was_new true added is new = absurd (cc)
+was_new false added is new = refl
 
 -- the tables from this one on, given those before it
 abbrev pub From : List Table → ℕ → Type 0

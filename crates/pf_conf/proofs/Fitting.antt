@@ -1,6 +1,6 @@
 -- What a file means is no more than one commit can have.
-use Rattle.std.proofs.Common.{◌≡◌, ℕ, zero, suc, ◌+◌, ◌==◌, ◌<◌, ◌≤◌, ◌||◌, Bool, true, false, List, [], ◌∷◌, ◌++◌, map, length, nat_le, Option, Some, None, Result, Ok, Err, refl, lit≤, sym, ap, ◌∙◌, subst, arith, if◌then◌else◌, length-append}
-use Rattle.std.specs.{Prelude.All, List.{IsDistinct, list_any, slice_get}, Ordering.nat_cmp, Cmp.eq_by_cmp_equiv, Cmp.Lexicographic.nat_list_cmp_total}
+use Rattle.std.proofs.Common.{◌≡◌, ℕ, zero, suc, ◌+◌, ◌==◌, ◌<◌, ◌≤◌, ◌||◌, Bool, true, false, List, [], ◌∷◌, ◌++◌, map, length, nat_le, Option, Some, None, Ok, Err, refl, lit≤, sym, ap, ◌∙◌, subst, arith, if◌then◌else◌, length-append}
+use Rattle.std.specs.{Prelude.All, List.{IsDistinct, list_any, slice_get}, Cmp.eq_by_cmp_equiv, Cmp.Lexicographic.nat_list_cmp_total}
 use Rattle.std.proofs.lemmas.{Bool.{leb-true, leb-false}, List.{map-append, length-map, length_push}, List.Elements.{All-nil, All-push}, Map.Keys.IsDistinct-push}
 use Rattle.pf_form.specs.Form.Forms.{◌>>=◌}
 use Rattle.pf_addr.specs.Path.Paths.{path_text, same_path}
@@ -12,14 +12,14 @@ use Rattle.pf_tokens.specs.declared.{place.Place.Place, files.File.File, files.T
 use Rattle.pf_parse.specs.declared.{fault.Stop.Stop, parser.Mode.Mode, statements.Parsed.Parsed, tree.Braces.Braces, tree.Entry.Entry, tree.Product.Product, tree.Table.Table, tree.Tree.Tree}
 use Rattle.pf_parse.specs.declared.fault.Mistake.TheVariants as mistakes
 use Rattle.pf_parse.specs.{Stops.fault_at, Reading.Word, Lines.parsed}
-use Rattle.pf_conf.specs.declared.{fault.Spot.Spot, fault.Unread.Unread, filling.Gathered.Gathered, found.Conf.Conf, found.FilledTable.FilledTable, found.Found.Found, found.Mention.Mention, found.Ruleset.Ruleset, found.Waiting.Waiting}
+use Rattle.pf_conf.specs.declared.{fault.Spot.Spot, filling.Gathered.Gathered, found.Conf.Conf, found.FilledTable.FilledTable, found.Found.Found, found.Mention.Mention, found.Ruleset.Ruleset, found.Waiting.Waiting}
 use Rattle.pf_conf.specs.declared.found.TheConstants.{RULE_LIMIT, RULESET_LIMIT, LINE_LIMIT}
 use Rattle.pf_conf.specs.{Tables.{plain, filled_unless, filled}, Steps.each, Found.{nothing_found, is_full, has_rules, has_tables}, Laws.FitsCommit}
 use Rattle.pf_conf.specs.Rulesets.{PlacedRule, rule_at, rules_at, with_more, with_product, written_in, skips_in, rules_in, with_ruleset, with_rules, free_path, path_of_braces, Opened, with_braces, with_rulesets}
 use Rattle.pf_conf.specs.Filling.{Defined, gathered, with_filled, is_defined, with_table_path, with_table, with_sources, with_definition, with_tables}
 use Rattle.pf_conf.specs.Telling.{telling, told_at, first_spot}
 use Rattle.pf_conf.specs.Resolving.{is_main, room_for, free_for, with_notes, with_loads, with_tree, flat_of, after_flat, main_file, commit_length, with_flat, with_file, with_load, with_waiting, load_numbered, loads_from, committed, resolved}
-use Rattle.pf_conf.proofs.Kept.{both, each_keeps, if_so, if_not, if_room, if_free, if_fits, telling_so}
+use Rattle.pf_conf.proofs.Kept.{both, each_keeps, if_not, if_room, if_free, if_fits, telling_so}
 
 -- so far one commit can have it
 record Fits (s : Found) : Type 0 where

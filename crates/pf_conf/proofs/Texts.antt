@@ -1,9 +1,9 @@
 -- Texts that are written one after another.
-use Rattle.std.proofs.Common.{◌≡◌, ℕ, ◌+◌, ◌<◌, List, [], ◌∷◌, ◌++◌, length, take, get_or, Option, Some, Result, Ok, sym, ap, ◌∙◌, subst, arith, append_assoc, append-nil}
+use Rattle.std.proofs.Common.{◌≡◌, ℕ, ◌+◌, ◌<◌, List, [], ◌∷◌, ◌++◌, length, take, get_or, Option, Result, sym, ap, ◌∙◌, subst, arith, append_assoc, append-nil}
 use Rattle.std.proofs.lemmas.List.{length-take}
 use Rattle.std.proofs.lemmas.Grind.{flat_map-append}
 use Rattle.std.specs.{List.flat_map, declared.io.Error.Error}
-use Rattle.pf_addr.specs.Writing.{Wrote, Continues, Continues-then, behind_nothing}
+use Rattle.pf_addr.specs.Writing.{Wrote, Continues, Continues-then}
 use Rattle.pf_table.specs.Entries.{PlainEntry}
 use Rattle.pf_conf.specs.{Rulesets.PlacedRule, Tables.{entry_text, entries_text}, Shown.{rule_line, rule_lines}}
 use Rattle.pf_conf.proofs.Steps.{take_item}

@@ -38,7 +38,6 @@ pub fn rules_stand_at_their_words()
 }
 
 /// One commit can have what a file means: a path has rules once, and there are no more rulesets, rules and entries than it may have.
-#[tactic(auto, using(crate::proofs::Fitting::fits_commit))]
 pub fn a_commit_can_have_it()
     ensures { (files : List File) (mode : Mode) (base name : List ℕ) (c : Conf) → resolved files mode base name ≡ Ok c →
         FitsCommit c }
