@@ -21,7 +21,7 @@ use Rattle.pf_conf.specs.declared.found.TheConstants.{RULE_LIMIT, LINE_LIMIT}
 use Rattle.pf_parse.specs.{Stops.fault_at, Lines.parsed}
 use Rattle.pf_conf.specs.{Tables.filled, Steps.each, Found.{nothing_found, is_full, has_rules, has_tables}}
 use Rattle.pf_conf.specs.Rulesets.{PlacedRule, rule_at, rules_at, with_more, with_product, written_in, skips_in, rules_in, with_ruleset, with_rules, free_path, path_of_braces, Opened, with_braces, with_rulesets}
-use Rattle.pf_conf.specs.Filling.{Defined, gathered, fitting, with_filled, is_defined, with_table_path, with_table, with_sources, with_definition, with_tables}
+use Rattle.pf_conf.specs.Filling.{Defined, gathered, with_filled, is_defined, with_table_path, with_table, with_sources, with_definition, with_tables}
 use Rattle.pf_parse.specs.declared.fault.Mistake.TheVariants as mistakes
 use Rattle.pf_tokens.specs.declared.flat.Macro.{Macro}
 use Rattle.pf_conf.specs.Telling.{telling, told_at, first_spot}
@@ -34,7 +34,7 @@ pub both : {A B E : Type 0} (q : Result A E) (f : A → Result B E) (x : B) → 
 both (Ok a) f x is = (a, refl, is)
 both (Err e) f x is = absurd (cc)
 
-each_keeps : {A S E : Type 0} (P : S → Type 0) (step : A → S → Result S E) → ((a : A) (s t : S) → P s → step a s ≡ Ok t → P t) → (xs : List A) (s t : S) → P s → each step xs s ≡ Ok t → P t
+pub each_keeps : {A S E : Type 0} (P : S → Type 0) (step : A → S → Result S E) → ((a : A) (s t : S) → P s → step a s ≡ Ok t → P t) → (xs : List A) (s t : S) → P s → each step xs s ≡ Ok t → P t
 unfolding each
 each_keeps P step keeps [] s t known is = let same : s ≡ t = cc in subst P same known
 each_keeps P step keeps (x ∷ xs) s t known is =
@@ -165,9 +165,9 @@ path_by P path p s t false false e known from =
 table_so : (P : PlacedRule → Type 0) (files : List File) (path : Word) (table : Table) (s t : Found) → Ruled P s → with_table files path table s ≡ Ok t → Ruled P t
 unfolding with_table
 table_so P files path table s t known from =
-    let a = both (gathered files table.place table.sources s.files_read) (λ (g : Gathered). filled table.place g.entries >>= fitting path table >>= λ es. with_table_path path table.place s >>= λ u. Ok (with_filled path table.name es g.files_read u)) t from in
+    let a = both (gathered files table.place table.sources s.files_read) (λ (g : Gathered). filled table.place g.entries >>= λ es. with_table_path path table.place s >>= λ u. Ok (with_filled path table.name es g.files_read u)) t from in
     let g : Gathered = a.0 in
-    let b = both (filled table.place g.entries >>= fitting path table) (λ (es : List PlainEntry). with_table_path path table.place s >>= λ u. Ok (with_filled path table.name es g.files_read u)) t a.2 in
+    let b = both (filled table.place g.entries) (λ (es : List PlainEntry). with_table_path path table.place s >>= λ u. Ok (with_filled path table.name es g.files_read u)) t a.2 in
     let e = both (with_table_path path table.place s) (λ (u : Found). Ok (with_filled path table.name b.0 g.files_read u)) t b.2 in
     let same : with_filled path table.name b.0 g.files_read e.0 ≡ t = cc in
     subst (Ruled P) same (path_by P path table.place s e.0 (has_tables path s) (is_full s) (fault_at table.place mistakes.ManyRulesets) known e.1)
@@ -176,7 +176,7 @@ sources_so : (P : PlacedRule → Type 0) (files : List File) (path : Word) (tabl
 sources_so P files path table s t true known from = let same : s ≡ t = cc in subst (Ruled P) same known
 sources_so P files path table s t false known from = table_so P files path table s t known from
 
-if_not : {A E : Type 0} (b : Bool) (q : Result A E) (e : E) (x : A) → (if b then Err e else q) ≡ Ok x → q ≡ Ok x
+pub if_not : {A E : Type 0} (b : Bool) (q : Result A E) (e : E) (x : A) → (if b then Err e else q) ≡ Ok x → q ≡ Ok x
 if_not true q e x is = absurd (cc)
 if_not false q e x is = is
 
@@ -198,15 +198,15 @@ tables_so P files path ts s t known from =
 
 -- ---- files
 
-if_room : (spot : Spot) (s t : Found) (full : Bool) → (if full then Err (told_at spot mistakes.ManyRulesets) else Ok s) ≡ Ok t → s ≡ t
+pub if_room : (spot : Spot) (s t : Found) (full : Bool) → (if full then Err (told_at spot mistakes.ManyRulesets) else Ok s) ≡ Ok t → s ≡ t
 if_room spot s t true is = absurd (cc)
 if_room spot s t false is = cc
 
-if_free : (s t : Found) (has : Bool) (e : Unread) → (if has then Err e else Ok s) ≡ Ok t → s ≡ t
+pub if_free : (s t : Found) (has : Bool) (e : Unread) → (if has then Err e else Ok s) ≡ Ok t → s ≡ t
 if_free s t true e is = absurd (cc)
 if_free s t false e is = cc
 
-if_fits : (s : Found) (c : Conf) (fits : Bool) (e : Unread) → (if fits then Ok (record { rulesets = s.rulesets; tables = s.tables; notes = s.notes }) else Err e) ≡ Ok c → record { rulesets = s.rulesets; tables = s.tables; notes = s.notes } ≡ c
+pub if_fits : (s : Found) (c : Conf) (fits : Bool) (e : Unread) → (if fits then Ok (record { rulesets = s.rulesets; tables = s.tables; notes = s.notes }) else Err e) ≡ Ok c → record { rulesets = s.rulesets; tables = s.tables; notes = s.notes } ≡ c
 if_fits s c true e is = cc
 if_fits s c false e is = absurd (cc)
 
@@ -219,7 +219,7 @@ tree_so P files ms path tree so s t known from =
     let same : with_loads files ms path tree.loads a.0 ≡ t = cc in
     subst (Ruled P) same all
 
-telling_so : {A : Type 0} (files : List File) (ms : List Macro) (q : Result A Stop) (x : A) → telling files ms q ≡ Ok x → q ≡ Ok x
+pub telling_so : {A : Type 0} (files : List File) (ms : List Macro) (q : Result A Stop) (x : A) → telling files ms q ≡ Ok x → q ≡ Ok x
 telling_so files ms (Ok y) x is = let same : y ≡ x = cc in ap (λ z. Ok z) same
 telling_so files ms (Err e) x is = absurd (cc)
 

@@ -3,6 +3,8 @@ pub mod Written
 pub mod Defined
 pub mod Loads
 pub mod Texts
+pub mod Entries
 pub mod Leniently
 pub mod Kept
 pub mod Places
+pub mod Fitting

@@ -1,9 +1,9 @@
 -- Texts that are written one after another.
-use Rattle.std.proofs.Common.{◌≡◌, ℕ, ◌+◌, ◌<◌, List, [], ◌∷◌, ◌++◌, length, take, get_or, Option, Some, Result, Ok, sym, ap, ◌∙◌, subst, arith, append_assoc, append-nil}
+use Rattle.std.proofs.Common.{◌≡◌, ℕ, ◌+◌, ◌<◌, List, [], ◌∷◌, ◌++◌, length, take, get_or, Option, Result, sym, ap, ◌∙◌, subst, arith, append_assoc, append-nil}
 use Rattle.std.proofs.lemmas.List.{length-take}
 use Rattle.std.proofs.lemmas.Grind.{flat_map-append}
 use Rattle.std.specs.{List.flat_map, declared.io.Error.Error}
-use Rattle.pf_addr.specs.Writing.{Wrote, Continues, Continues-then, behind_nothing}
+use Rattle.pf_addr.specs.Writing.{Wrote, Continues, Continues-then}
 use Rattle.pf_table.specs.Entries.{PlainEntry}
 use Rattle.pf_conf.specs.{Rulesets.PlacedRule, Tables.{entry_text, entries_text}, Shown.{rule_line, rule_lines}}
 use Rattle.pf_conf.proofs.Steps.{take_item}
@@ -60,10 +60,3 @@ pub all_entries : (p q : Result (Unit {0}) Error) (old new : Option (List ℕ)) 
 all_entries p q old new all left none so_far =
     let whole : so_far.some ≡ all = sym (append-nil so_far.some) ∙ ap (λ (l : List PlainEntry). so_far.some ++ l) (sym none) ∙ so_far.whole in
     subst (λ (es : List PlainEntry). Continues p old q new (entries_text es)) whole so_far.written
-
--- what is written to a list without items has the text's length
-pub written_length : (r : Result (Unit {0}) Error) (done : Unit {0}) (old new text : List ℕ) (n : ℕ) → old ≡ [] → Continues {A = Unit {0}} (Ok tt) (Some old) r (Some new) text → r ≡ Ok done → n ≡ length new → n ≡ length text
-written_length r done old new text n none written is long =
-    let w : Wrote r (Some old) (Some new) text = behind_nothing tt written in
-    let all : Wrote {A = Unit {0}} (Ok done) (Some old) (Some new) text = subst (λ (q : Result (Unit {0}) Error). Wrote q (Some old) (Some new) text) is w in
-    long ∙ ap length (all.0 ∙ ap (λ (front : List ℕ). front ++ text) none)

@@ -11,6 +11,10 @@ use Rattle.pf_parse.specs.{Stops.fault_at, Reading.Word}
 abbrev pub plain : Entry → PlainEntry
 plain e = (e.net, e.is_negated)
 
+-- an entry of a table, as one that stands at this place
+abbrev pub entry_at : Place → PlainEntry → Entry
+entry_at p e = record { place = p; net = e.0; is_negated = e.1 }
+
 abbrev pub place_of : Place → Option Entry → Place
 place_of p None = p
 place_of p (Some e) = e.place

@@ -1,5 +1,6 @@
 //! What a user is told of a file, and where.
-ghost use Rattle.std.specs.Prelude.{◌≡◌, IfOk};
+ghost use Rattle.std.specs.Prelude.{◌≡◌, Some, IfOk};
+ghost use Rattle.pf_conf.specs.Spots.{spot_text};
 ghost use Rattle.pf_conf.specs.declared.fault.Unread.TheVariants.{Memory};
 
 use pf_parse::{Mistake, Remark};
@@ -43,7 +44,10 @@ impl Spot {
     }
 }
 
+/// `FILE:LINE:COLUMN`.
 impl Display for Spot {
+    ghost output = { λ spot. Some (spot_text spot) };
+
     fn fmt<W: Write>(&self, f: &mut Formatter<W>) -> fmt::Result {
         let (file, line, column) = (&self.file, self.line, self.column);
         write!(f, "{file}:{line}:{column}")

@@ -1,16 +1,17 @@
 //! The tables of a file that are filled.
-ghost use Rattle.std.specs.Prelude.{◌≡◌, ◌^◌, ◌++◌, ◌∷◌, ◌-◌, [], IfOk, OnOk, min};
+ghost use Rattle.std.specs.Prelude.{◌≡◌, ◌≤◌, ◌++◌, [], length, IfOk, OnOk};
 ghost use Rattle.pf_parse.specs.Stops.{Gives};
 ghost use Rattle.pf_conf.specs.Steps.{each, Leaves};
-ghost use Rattle.pf_conf.specs.Filling.{with_file_entries, with_source, before_sources, gathered, define_length, fitting, with_table_path, with_filled, with_table, with_sources, is_defined, with_definition, with_tables};
+ghost use Rattle.pf_conf.specs.Filling.{with_file_entries, with_source, before_sources, gathered, with_table_path, with_filled, with_table, with_sources, once_behind, with_tables};
 
-use crate::found::{FilledTable, Found, LINE_LIMIT, TICKET_BYTES, path_text};
-use crate::tables::{entries_length, filled};
+use crate::found::{FilledTable, Found};
+use crate::tables::{entries_at, filled};
 use pf_addr::path::Path;
 use pf_parse::{Entries, Entry, Mistake, Stop, Table as TableLine, read_entries, refusal};
 use pf_table::Table;
 use pf_tokens::{Files, Items, Place, Token, text_of_file};
 use std::alloc::{AllocError, Global};
+use std::collections::BTreeSet;
 
 /// The entries of a table's sources, as they come.
 #[derive(Drop)]
@@ -48,7 +49,8 @@ impl Gathered {
         read_entries(alloc, number, text, &mut self.entries)
     }
 
-    /// Adds the entries of a source of a table whose name stands at this place. A file is read only if those before it make a table.
+    /// Adds the entries of a source of a table whose name stands at this place. A file's come behind the table
+    /// that those before it make, so that no more are kept than a table and a file may have.
     #[tactic(auto, unfolding(crate::specs::Filling::with_source))]
     fn add_source(
         &mut self,
@@ -65,7 +67,8 @@ impl Gathered {
                 Ok(())
             }
             Entries::File(file) => {
-                let _before = filled(alloc, named, self.entries.as_slice())?;
+                let before = filled(alloc, named, self.entries.as_slice())?;
+                self.entries = entries_at(alloc, named, &before)?;
                 self.add_file(alloc, files, file)
             }
         }
@@ -93,40 +96,18 @@ fn gather(
     Ok(gathered)
 }
 
-/// How many bytes the line has that defines this table, with the longest ticket; or the greatest number if it has more.
-fn define_length(
-    alloc: Global,
-    path: &Path,
-    name: &[u8],
-    table: &Table,
-) -> Result<usize, AllocError>
-    ensures { IfOk result (λ n. n ≡ min (define_length path.now name.now table.now) (2 ^ 64 - 1)) }
+/// How many tables come before the first whose name one before it has.
+fn defined_once(alloc: Global, tables: &[TableLine]) -> Result<usize, AllocError>
+    ensures once { IfOk result (λ n. n ≡ once_behind [] tables.now) }
+    ensures within { IfOk result (λ n. n ≤ length tables.now) }
 {
-    let entries = entries_length(alloc, table)?;
-    let words = "define ".len() + path_text(path).len() + (1 + TICKET_BYTES + 1);
-    Ok(words.saturating_add(name.len()).saturating_add(entries))
-}
-
-/// Checks that a table's line isn't too long.
-fn check_length(alloc: Global, path: &Path, line: &TableLine, table: &Table) -> Result<(), Stop>
-    ensures { Leaves result table.now (fitting path.now line.now table.now) }
-{
-    let name = line.name.as_slice();
-    if define_length(alloc, path, name, table)? > LINE_LIMIT {
-        let mistake = Mistake::LongTable {
-            entries: table.len(),
-            name: Items::copied(alloc, name)?,
-        };
-        return Err(refusal(line.place, mistake));
+    let mut names = BTreeSet::new(alloc);
+    for (number, line) in tables.iter().enumerate() {
+        if !names.insert(line.name.as_slice())? {
+            return Ok(number);
+        }
     }
-    Ok(())
-}
-
-/// Whether one of these tables has this name.
-fn is_defined(name: &[u8], tables: &[TableLine]) -> bool
-    ensures { result ≡ is_defined name.now tables.now }
-{
-    tables.iter().any(|table| table.name.as_slice() == name)
+    Ok(tables.len())
 }
 
 impl Found {
@@ -180,7 +161,6 @@ impl Found {
             self.files_read,
         )?;
         let table = filled(alloc, line.place, gathered.entries.as_slice())?;
-        check_length(alloc, path, line, &table)?;
         self.add_table_path(path, line.place)?;
         self.keep_table(alloc, path, line, table, gathered.files_read)?;
         Ok(())
@@ -202,29 +182,23 @@ impl Found {
         self.add_table(alloc, files, path, line)
     }
 
-    /// Adds a table, given those that stand before it in its file.
-    #[tactic(auto, unfolding(crate::specs::Filling::with_definition))]
-    fn add_definition(
+    /// Adds tables with names of their own.
+    fn add_each_table(
         &mut self,
         alloc: Global,
         files: &Files,
         path: &Path,
-        before: &[TableLine],
-        line: &TableLine,
+        tables: &[TableLine],
     ) -> Result<(), Stop>
-        ensures { Leaves result (before.now ++ line.now ∷ [], self.new)
-            (with_definition files.now path.now line.now (before.now, self.old)) }
+        ensures { Leaves result self.new (each (with_sources files.now path.now) tables.now self.old) }
     {
-        let name = line.name.as_slice();
-        if is_defined(name, before) {
-            let name = Items::copied(alloc, name)?;
-            return Err(refusal(line.place, Mistake::TableTwice(name)));
+        for line in tables {
+            self.add_sources(alloc, files, path, line)?;
         }
-        self.add_sources(alloc, files, path, line)
+        Ok(())
     }
 
     /// Adds the tables of a file.
-    #[tactic(auto, unfolding(crate::specs::Filling::with_tables))]
     pub(crate) fn add_tables(
         &mut self,
         alloc: Global,
@@ -234,10 +208,12 @@ impl Found {
     ) -> Result<(), Stop>
         ensures { Leaves result self.new (with_tables files.now path.now tables.now self.old) }
     {
-        for (number, line) in tables.iter().enumerate() {
-            let before = &tables[..number];
-            self.add_definition(alloc, files, path, before, line)?;
-        }
-        Ok(())
+        let once = defined_once(alloc, tables)?;
+        self.add_each_table(alloc, files, path, &tables[..once])?;
+        let Some(again) = tables.get(once) else {
+            return Ok(());
+        };
+        let name = Items::copied(alloc, again.name.as_slice())?;
+        Err(refusal(again.place, Mistake::TableTwice(name)))
     }
 }

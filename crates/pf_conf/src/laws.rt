@@ -5,7 +5,7 @@ ghost use Rattle.pf_rule.specs.{RuleGrammar.rule, RuleText.rule_text};
 ghost use Rattle.pf_tokens.specs.declared.files.File.{File};
 ghost use Rattle.pf_parse.specs.declared.{parser.Mode.Mode, parser.Mode.TheVariants.{Strict, Lenient}};
 ghost use Rattle.pf_conf.specs.declared.{found.Conf.Conf, found.Ruleset.Ruleset};
-ghost use Rattle.pf_conf.specs.{Rulesets.PlacedRule, Resolving.resolved, Laws.IsRulePlace};
+ghost use Rattle.pf_conf.specs.{Rulesets.PlacedRule, Resolving.resolved, Laws.{IsRulePlace, FitsCommit}};
 
 use pf_rule::{
     rules_and_packets_are_read_as_spelled, what_is_spelled_is_kept, what_is_written_is_read_again,
@@ -36,3 +36,9 @@ pub fn rules_stand_at_their_words()
 {
     pf_parse::rules_stand_at_their_words();
 }
+
+/// One commit can have what a file means: a path has rules once, and there are no more rulesets, rules and entries than it may have.
+pub fn a_commit_can_have_it()
+    ensures { (files : List File) (mode : Mode) (base name : List ℕ) (c : Conf) → resolved files mode base name ≡ Ok c →
+        FitsCommit c }
+{}

@@ -13,7 +13,8 @@
 //! that are given. Proved: [`resolve`] gives what it says, or the first fault, unless memory runs out; [`write_conf`] prints what
 //! `specs/Shown.antt` says. Laws: what is taken strictly is taken leniently, with the same result (`lenient_takes_what_strict_takes`);
 //! rules stand where one begins in a file (`rules_stand_at_their_words`); pf_rule reads each rule that is printed as this rule
-//! (`printed_rules_are_read_again`). Only tested: that main's rules, as they are printed, are a file with the same rules (pf_conf_rows).
+//! (`printed_rules_are_read_again`); what a file means is no more than one commit can have (`a_commit_can_have_it`). Only tested: that
+//! main's rules, as they are printed, are a file with the same rules (pf_conf_rows).
 #![tactic(auto)]
 
 mod fault;
@@ -27,9 +28,10 @@ mod tables;
 mod telling;
 
 pub use fault::{Fault, Note, Spot, Unread};
-pub use found::{Conf, FilledTable, Ruleset};
+pub use found::{Conf, FilledTable, LINE_LIMIT, RULE_LIMIT, RULESET_LIMIT, Ruleset, TICKET_BYTES};
 pub use laws::{
-    lenient_takes_what_strict_takes, printed_rules_are_read_again, rules_stand_at_their_words,
+    a_commit_can_have_it, lenient_takes_what_strict_takes, printed_rules_are_read_again,
+    rules_stand_at_their_words,
 };
 pub use pf_parse::{At, LeftOut, Mistake, Mode, Reason, Remark};
 pub use resolving::resolve;

@@ -1,13 +1,13 @@
 //! Tables that are filled.
-ghost use Rattle.std.specs.Prelude.{◌≡◌, length, map, codes, IfOk, if◌then◌else◌, []};
+ghost use Rattle.std.specs.Prelude.{◌≡◌, map, codes, IfOk, if◌then◌else◌, []};
 ghost use Rattle.pf_addr.specs.Writing.{Continues};
 ghost use Rattle.pf_parse.specs.Stops.{Gives};
-ghost use Rattle.pf_conf.specs.Tables.{plain, filled, entry_text, entries_text};
+ghost use Rattle.pf_conf.specs.Tables.{plain, entry_at, filled, entry_text, entries_text};
 
 use pf_addr::{write_more, write_more_net};
 use pf_parse::{Entry, Mistake, Stop, refusal};
 use pf_table::{Entry as TableEntry, Table, TableRefusal};
-use pf_tokens::Place;
+use pf_tokens::{Items, Place};
 use std::alloc::{AllocError, Global};
 use std::io::{self, Write};
 
@@ -41,6 +41,32 @@ pub(crate) fn filled(alloc: Global, named: Place, entries: &[Entry]) -> Result<T
     }
 }
 
+/// An entry of a table, as one that stands at this place.
+fn entry_at(place: Place, entry: TableEntry) -> Entry
+    ensures { result ≡ entry_at place entry }
+{
+    Entry {
+        place,
+        net: entry.net(),
+        is_negated: entry.is_negated(),
+    }
+}
+
+/// The entries of a table, as some that stand at this place.
+pub(crate) fn entries_at(
+    alloc: Global,
+    place: Place,
+    table: &Table,
+) -> Result<Items<Entry>, AllocError>
+    ensures { IfOk result (λ es. es ≡ map (entry_at place) table.now) }
+{
+    let mut entries = Items::new(alloc);
+    for entry in table.entries() {
+        entries.push(entry_at(place, *entry))?;
+    }
+    Ok(entries)
+}
+
 fn sign(is_negated: bool) -> &'static [u8]
     ensures { result.now ≡ (if is_negated then codes "!" else []) }
 {
@@ -69,15 +95,4 @@ pub(crate) fn write_entries<W: Write>(
         so_far = write_entry(out, so_far, *entry);
     }
     so_far
-}
-
-/// How many bytes the texts of a table's entries have, each behind a space.
-pub(crate) fn entries_length(alloc: Global, table: &Table) -> Result<usize, AllocError>
-    ensures { IfOk result (λ n. n ≡ length (entries_text table.now)) }
-{
-    let mut text = Vec::new(alloc);
-    match write_entries(&mut text, Ok(()), table) {
-        Ok(()) => Ok(text.as_slice().len()),
-        Err(_) => Err(AllocError),
-    }
 }

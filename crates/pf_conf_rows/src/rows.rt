@@ -1,40 +1,80 @@
-//! How files and cases are written.
+//! How files and cases are spelled.
+ghost use Rattle.std.specs.Prelude.{◌<◌};
 
-use pf_tokens::{Bytes, Items};
+use pf_addr::path::Path;
+use pf_conf::Mode;
+use pf_tokens::{Bytes, Contents, File, Items};
 use std::alloc::{AllocError, Global};
 
+/// What a row is.
+#[derive(Clone, Copy, Debug, PartialEq, Eq)]
+pub(crate) enum Kind {
+    /// A file that any case may name.
+    File,
+    /// A file whose meaning is told.
+    Case,
+}
+
 /// A file that cases may name, or a case.
-#[derive(Drop)]
+#[derive(Clone, Copy)]
 pub(crate) struct Row<'a> {
-    pub(crate) is_file: bool,
+    pub(crate) kind: Kind,
     pub(crate) name: &'a str,
-    /// The words that a case is checked with.
-    pub(crate) words: &'a str,
-    /// The lines of the file.
-    pub(crate) text: &'a str,
-    /// The lines that are wanted.
-    pub(crate) wanted: &'a str,
+    /// The words that a case is read with.
+    words: &'a str,
+    /// The lines of the file, as they are spelled.
+    lines: &'a str,
 }
 
 impl<'a> Row<'a> {
     /// Reads a row behind its `== `.
-    pub(crate) fn read(_alloc: Global, section: &'a str) -> Result<Row<'a>, AllocError> {
-        let (head, lines) = section.split_once('\n').unwrap_or((section, ""));
+    pub(crate) fn read(text: &'a str) -> Row<'a> {
+        let (head, lines) = text.split_once('\n').unwrap_or((text, ""));
         let (kind, named) = head.split_once(' ').unwrap_or((head, ""));
         let (name, words) = named.split_once(' ').unwrap_or((named, ""));
-        let (text, wanted) = lines.split_once("--\n").unwrap_or((lines, ""));
-        Ok(Row {
-            is_file: kind == "file",
+        let kind = if kind == "file" {
+            Kind::File
+        } else {
+            Kind::Case
+        };
+        Row {
+            kind,
             name,
             words,
-            text,
-            wanted,
+            lines,
+        }
+    }
+
+    /// The file.
+    pub(crate) fn file(&self, alloc: Global) -> Result<File, AllocError> {
+        Ok(File {
+            name: Items::copied(alloc, self.name.as_bytes())?,
+            contents: Contents::Text(bytes_of(alloc, self.lines)?),
         })
+    }
+
+    /// How the file is read.
+    pub(crate) fn mode(&self) -> Mode {
+        if self.words.contains("--lenient") {
+            Mode::Lenient
+        } else {
+            Mode::Strict
+        }
+    }
+
+    /// The path whose rulesets the file has.
+    pub(crate) fn base(&self) -> Path {
+        match self.words.split_once("--anchor ") {
+            Some((_, path)) => Path::from_ascii(path.as_bytes()).unwrap_or(Path::main()),
+            None => Path::main(),
+        }
     }
 }
 
 /// The value of a hexadecimal digit; 0 of any other byte.
-fn digit(byte: u8) -> u8 {
+fn digit(byte: u8) -> u8
+    ensures { result < 16 }
+{
     match byte {
         b'0'..=b'9' => byte - b'0',
         b'a'..=b'f' => byte - b'a' + 10,
@@ -42,23 +82,48 @@ fn digit(byte: u8) -> u8 {
     }
 }
 
+/// Appends what stands behind a `%`: the byte that two digits spell, and the bytes behind them.
+fn push_spelled(bytes: &mut Bytes, spelled: &[u8]) -> Result<(), AllocError> {
+    match spelled {
+        [high, low, behind @ ..] => {
+            bytes.push(digit(*high) * 16 + digit(*low))?;
+            push_plain(bytes, behind)
+        }
+        _ => push_plain(bytes, spelled),
+    }
+}
+
+/// Appends bytes that stand for themselves.
+fn push_plain(bytes: &mut Bytes, plain: &[u8]) -> Result<(), AllocError> {
+    for byte in plain {
+        bytes.push(*byte)?;
+    }
+    Ok(())
+}
+
+/// Appends the bytes that a line spells behind its first.
+fn push_line(bytes: &mut Bytes, line: &[u8]) -> Result<(), AllocError> {
+    let mut parts = line.split(|byte| *byte == b'%');
+    if let Some(first) = parts.next() {
+        push_plain(bytes, first)?;
+    }
+    for part in parts {
+        push_spelled(bytes, part)?;
+    }
+    Ok(())
+}
+
 /// The bytes that lines spell.
-pub(crate) fn bytes_of(alloc: Global, lines: &str) -> Result<Bytes, AllocError> {
+fn bytes_of(alloc: Global, lines: &str) -> Result<Bytes, AllocError> {
     let mut bytes = Items::new(alloc);
     for line in lines.lines() {
-        let line = line.as_bytes();
-        let mut at = 1;
-        while at < line.len() {
-            if line[at] == b'%' && at + 2 < line.len() {
-                bytes.push(digit(line[at + 1]) * 16 + digit(line[at + 2]))?;
-                at += 3;
-            } else {
-                bytes.push(line[at])?;
-                at += 1;
+        match line.as_bytes() {
+            [b'|', line @ ..] => {
+                push_line(&mut bytes, line)?;
+                bytes.push(b'\n')?;
             }
-        }
-        if let [b'|', ..] = line {
-            bytes.push(b'\n')?;
+            [_, line @ ..] => push_line(&mut bytes, line)?,
+            [] => {}
         }
     }
     Ok(bytes)

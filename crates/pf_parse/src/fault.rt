@@ -85,27 +85,6 @@ impl Display for Effect<'_> {
     }
 }
 
-/// A number with a comma before each three digits.
-#[derive(Drop)]
-struct Grouped(usize);
-
-impl Display for Grouped {
-    fn fmt<W: Write>(&self, f: &mut Formatter<W>) -> fmt::Result {
-        let (millions, thousands, ones) = (
-            self.0 / 1_000_000,
-            self.0 / 1_000 % 1_000,
-            self.0 % 1_000,
-        );
-        if millions > 0 {
-            write!(f, "{millions},{thousands:03},{ones:03}")
-        } else if thousands > 0 {
-            write!(f, "{thousands},{ones:03}")
-        } else {
-            write!(f, "{ones}")
-        }
-    }
-}
-
 /// What is wrong. The text of each is what a user is told.
 #[derive(Debug, Drop, Error)]
 pub enum Mistake {
@@ -203,8 +182,6 @@ pub enum Mistake {
     OtherSign,
     #[error("a table has 65,536 entries at most")]
     ManyEntries,
-    #[error("the {count} entries of <{name}> don't fit a line of 4,096 bytes", count = Grouped(*.entries))]
-    LongTable { entries: usize, name: Bytes },
     #[error("the commit doesn't fit a line of 4,096 bytes")]
     LongCommit,
 }

@@ -1,18 +1,26 @@
-use Rattle.std.proofs.{Common.refl, lemmas.Result.err_from_is_err_and}
-use Rattle.pf_conf.proofs.Defined.{defined_on, defined_stops, defined_end}
+use Rattle.std.proofs.Common.{suc, ◌<◌, ◌≤◌, length, Some, None, Err, refl, sym, ap, ◌∙◌, arith}
+use Rattle.std.proofs.lemmas.{Bool.{leb-true, leb-false}, Option.{slice_get_past, slice_get_read}, Result.err_from_is_err_and}
+use Rattle.pf_parse.specs.declared.{fault.Mistake.TheVariants.TableTwice}
+use Rattle.pf_parse.specs.{Stops.fault_at, Reading.Word}
+use Rattle.pf_conf.proofs.Defined.{one_stops, then_again}
 use Rattle.pf_conf.proofs.found.Found.add_tables.Goals as goal
 
-pub loop-number-preserved : goal.loop-number-preserved
-loop-number-preserved c =
-    defined_on c.args.files.now c.args.path.now c.args.tables.now c.args.self.now c.loop-number.number c.loop-number.self c.add_definition.new.self _ c.index-tables-number.result
-    refl c.loop-number-test.true c.index-tables-number.is c.loop-number.invariant c.in_ok-add_definition.ensures
-
-pub returns-in_err-add_definition : goal.returns-in_err-add_definition
-returns-in_err-add_definition c =
-    let p = err_from_is_err_and c.from_residual.result c.from_residual.ensures.1 in
+pub returns-in_err-add_each_table : goal.returns-in_err-add_each_table
+returns-in_err-add_each_table c =
+    let p = err_from_is_err_and c.from_residual-in_err-add_each_table.result c.from_residual-in_err-add_each_table.ensures.1 in
     rw (p.1, p.2)
-    (defined_stops c.args.files.now c.args.path.now c.args.tables.now c.args.self.now c.loop-number.number c.loop-number.self c.add_definition.new.self _ _ _ c.index-tables-number.result c.in_err-add_definition.field-0.0
-    refl c.loop-number-test.true c.index-tables-number.is c.loop-number.invariant c.in_err-add_definition.ensures)
+    (one_stops c.args.files.now c.args.path.now c.args.tables.now c.args.self.now _ _ c.in_ok-once.once c.in_err-add_each_table.field-0.0 c.in_ok-once.ensures.once c.in_err-add_each_table.ensures)
+
+pub returns-in_default : goal.returns-in_default
+returns-in_default c =
+    let past : length c.args.tables.now ≤ c.in_ok-once.once = omega (arith, leb-false (suc c.in_ok-once.once) (length c.args.tables.now) (sym c.in_default.ensures.lookup.0)) in
+    then_again c.args.files.now c.args.path.now c.args.tables.now c.args.self.now c.add_each_table.new.self c.in_ok-once.once None c.in_ok-once.ensures.once c.in_ok-add_each_table.ensures
+    (slice_get_past c.args.tables.now c.in_ok-once.once past)
 
 pub returns : goal.returns
-returns c = defined_end c.args.files.now c.args.path.now c.args.tables.now c.args.self.now c.loop-number.number c.loop-number.self c.loop-number-test.false c.loop-number.invariant
+returns c =
+    let within : c.in_ok-once.once < length c.args.tables.now = omega (arith, leb-true (suc c.in_ok-once.once) (length c.args.tables.now) (sym c.in-Some.ensures.lookup.0)) in
+    rw c.refusal.ensures
+    (then_again c.args.files.now c.args.path.now c.args.tables.now c.args.self.now c.add_each_table.new.self c.in_ok-once.once (Some c.in-Some.again.now) c.in_ok-once.ensures.once c.in_ok-add_each_table.ensures
+    (slice_get_read c.args.tables.now (length c.args.tables.now) c.in_ok-once.once c.in-Some.again.now refl within c.in-Some.ensures.lookup.1)
+    ∙ ap (λ (name : Word). Err (fault_at c.in-Some.again.now.place (TableTwice name))) (sym (c.in_ok-name.ensures ∙ c.as_slice.ensures)))
