@@ -1,12 +1,12 @@
 -- What the program does with its words.
-use Rattle.std.specs.{Prelude.{◌≡◌, ◌⊎◌, ℕ, ◌+◌, ◌<◌, List, [], ◌∷◌, ◌++◌, length, flat_map, Option, Result, Ok, Err, codes}, Io.KnownBytes.Keeps}
+use Rattle.std.specs.{Prelude.{◌≡◌, ◌⊎◌, ℕ, ◌+◌, ◌<◌, List, [], ◌∷◌, ◌++◌, length, flat_map, Option, Result, Ok, Err, OnOk, codes, vec_len}, Io.KnownBytes.Keeps}
 use Rattle.std.specs.declared.{io.ErrorKind.ErrorKind, io.ErrorKind.TheVariants.OutOfMemory}
 use Rattle.pf_addr.specs.Writing.{Writes}
 use Rattle.pf_core.specs.{Durable.Changes.{PlainDurable, kept_nothing}, WorldBooks.{IsAt, StandsFor}, Worlds.{Event, begun, down, last_epoch, opened, raised, state_after, IsWorld}}
 use Rattle.pf_store.specs.{Banks.{IsSize, bank_size}, Openings.IsUnopened, Rooms.on_device, Stores.Holds}
 use Rattle.pf_store.specs.declared.store.fault.OpenFault.{OpenFault}
 use Rattle.pf_book.specs.Books.{IsUnshown, PlainBook, PlainOpening, world_book, setting_of}
-use Rattle.pfd_words.specs.declared.words.{Task.Task, Task.TheVariants.{Run, RunOn, Format, Show, Serve, Connect, Conf, Load}, TheConstants.MEMORY_SIZE}
+use Rattle.pfd_words.specs.declared.words.{Service.Service, Task.Task, Task.TheVariants.{Run, RunOn, Format, Show, Serve, Connect, Conf, Load}, TheConstants.MEMORY_SIZE}
 use Rattle.pf_session.specs.declared.line_engine.fault.EngineFault.{EngineFault}
 use Rattle.pf_session.specs.declared.line_engine.fault.EngineFault.TheVariants as session
 use Rattle.pf_session.specs.{LineEngine.Sessions.IsSession, Serving.Serves}
@@ -110,9 +110,14 @@ IsProgramRun faults history status unread still_unread held held' =
 abbrev pub listening_text : List ℕ → List ℕ
 listening_text address = codes "listening " ++ (address ++ 10 ∷ [])
 
--- These addresses are listened on, and a line is written for each.
-abbrev pub IsListening : Result (Unit {0}) Fault → Option (List ℕ) → Option (List ℕ) → Type 0
-IsListening result held held' = (bounds : List (List ℕ)) × Writes result held held' (flat_map listening_text bounds)
+-- how many addresses the words say
+abbrev pub address_count : Service → ℕ
+address_count service = vec_len service.addresses + vec_len service.askers + vec_len service.peers
+
+-- These addresses are listened on, and a line is written for each. Where all goes well they are as many as the words say.
+abbrev pub IsListening : {A : Type 0} → Service → Result A Fault → Option (List ℕ) → Option (List ℕ) → Type 0
+IsListening service result held held' =
+    (bounds : List (List ℕ)) × Writes result held held' (flat_map listening_text bounds) × OnOk result (length bounds ≡ address_count service)
 
 -- What was asked was done. Lines are read only for a session and to be sent to a server; formatting a disk writes nothing, and a server
 -- writes where it listens. What is asked of a pf.conf is answered as pfd_conf says, and one is loaded as pf_load says. The functions count the faults of disks in memory, give
@@ -124,7 +129,7 @@ IsDone memory seen file (RunOn path size history) result unread still_unread hel
 IsDone memory seen file (Format path size) result unread still_unread held held' = Keeps unread still_unread × Keeps held held'
 IsDone memory seen file (Show path) result unread still_unread held held' = Keeps unread still_unread × ShownOfFile seen result held held'
 IsDone memory seen file (Serve service) result unread still_unread held held' =
-    Keeps unread still_unread × IsListening result held held'
+    Keeps unread still_unread × IsListening service result held held'
 IsDone memory seen file (Connect address) result unread still_unread held held' = Unit {0}
 IsDone memory seen file (Conf task) result unread still_unread held held' = Keeps unread still_unread
 IsDone memory seen file (Load task) result unread still_unread held held' = Keeps unread still_unread

@@ -1,9 +1,9 @@
 //! The program's server. No clause can say what it listens on and serves, so this is only tested.
-ghost use Rattle.std.specs.Prelude.{◌≡◌, ℕ, List, IfOk, flat_map, string_bytes};
+ghost use Rattle.std.specs.Prelude.{◌≡◌, ◌+◌, IfOk, OnOk, flat_map, length, string_bytes, vec_len};
 ghost use Rattle.pf_addr.specs.Writing.{Writes};
 ghost use Rattle.pf_book.specs.{Books.{IsNamed, world_book}, Receipts.IsReached};
 ghost use Rattle.pfd_words.specs.Words.{CanServe};
-ghost use Rattle.pfd.specs.Program.{IsListening, listening_text};
+ghost use Rattle.pfd.specs.Program.{IsListening, address_count, listening_text};
 
 use crate::admitting::Admits;
 use crate::door::{Doors, Listener};
@@ -50,7 +50,7 @@ pub(crate) fn serve_file<
     faults: &mut F,
 ) -> Result<(), Fault>
     requires { CanServe service.now }
-    ensures { IsListening result (W.contents writer.old) (W.contents writer.new) }
+    ensures { IsListening service.now result (W.contents writer.old) (W.contents writer.new) }
 {
     let disk = open_file(alloc, files, service.path, Some(service.size))?;
     match Opening::open(alloc, disk) {
@@ -85,7 +85,7 @@ fn serve_opening<
     requires service { CanServe service.now }
     requires name { IsNamed J.base J.history J.setting opening service.now.history }
     requires calls { calls ≡ J.register }
-    ensures { IsListening result (W.contents writer.old) (W.contents writer.new) }
+    ensures { IsListening service.now result (W.contents writer.old) (W.contents writer.new) }
 {
     let mut gauge = Gauge::new(service.size as u64 / 2);
     tell_fullness(&mut gauge, opening.durable(), faults);
@@ -210,7 +210,7 @@ fn open_doors<
     service: &Service<'a>,
     writer: &mut W,
 ) -> Result<Listening<'a>, Fault>
-    ensures { (bounds : List (List ℕ)) × Writes result (W.contents writer.old) (W.contents writer.new) (flat_map listening_text bounds) }
+    ensures { IsListening service.now result (W.contents writer.old) (W.contents writer.new) }
 {
     let all = listen_to_all(net, alloc, files, service)?;
     match tell_all(writer, all.names.as_slice()) {
@@ -228,7 +228,9 @@ fn listen_to_all<'a, N: Net<Listener = TcpListener, Stream = TcpStream>, S: File
     alloc: Global,
     files: &S,
     service: &Service<'a>,
-) -> Result<Listening<'a>, Fault> {
+) -> Result<Listening<'a>, Fault>
+    ensures { IfOk result (λ all. vec_len all.names ≡ address_count service.now) }
+{
     let mut all = Listening {
         doors: Doors::new(alloc, service.idle, service.workers),
         names: Vec::new(alloc),
@@ -250,7 +252,9 @@ fn listen_to_kinds<'a, N: Net<Listener = TcpListener, Stream = TcpStream>, S: Fi
     files: &S,
     service: &Service<'a>,
     all: &mut Listening<'a>,
-) -> Result<(), Fault> {
+) -> Result<(), Fault>
+    ensures { OnOk result (vec_len all.new.names ≡ vec_len all.old.names + address_count service.now) }
+{
     let admits = if service.peers.is_empty() {
         Admits::Both
     } else {
@@ -294,7 +298,9 @@ fn listen_to_each<'a, N: Net<Listener = TcpListener, Stream = TcpStream>, S: Fil
     admits: Admits,
     mode: u32,
     all: &mut Listening<'a>,
-) -> Result<(), Fault> {
+) -> Result<(), Fault>
+    ensures { OnOk result (vec_len all.new.names ≡ vec_len all.old.names + length addresses.now) }
+{
     for address in addresses {
         let address = *address;
         let (listener, name) = if is_path(address) {
