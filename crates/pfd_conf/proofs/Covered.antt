@@ -1,13 +1,13 @@
 -- Rules that decide no case, by marks.
 use Rattle.std.proofs.Common.{◌≡◌, ◌≢◌, ℕ, zero, suc, ◌+◌, ◌<◌, ◌≤◌, ◌==◌, ◌||◌, ◌&&◌, Bool, true, false, List, [], ◌∷◌, ◌++◌, length, take, drop, get_or, set, Option, Some, None, refl, sym, ap, ◌∙◌, subst, arith, append_assoc, append-nil, length-set}
 use Rattle.std.proofs.lemmas.{Option.{slice_get-get_or}, List.{get_or-set_same, get_or-set_other, drop_all}, List.Folds.list_any_more, Bool.Decides.nat_tests, Grind.common_steps}
-use Rattle.std.specs.{Prelude.unwrap_or, List.{slice_get, list_any}}
+use Rattle.std.specs.{Prelude.{unwrap_or, not, if◌then◌else◌}, List.{slice_get, list_any}}
 use Rattle.pf_rule.specs.Rules.{PlainRule}
 use Rattle.pf_parse.specs.declared.fault.At.{At}
 use Rattle.pf_conf.specs.declared.found.Ruleset.{Ruleset}
 use Rattle.pf_conf.proofs.Steps.{drop_item}
 use Rattle.pfd_conf.specs.declared.{firewall.Decided.Decided, outcomes.Outcome.Outcome, outcomes.Tried.Tried}
-use Rattle.pfd_conf.specs.Covering.{is_of, decides_any, decides_some, AreMarks, unless_marked, unmarked_from, uncovered_in, uncovered_from}
+use Rattle.pfd_conf.specs.Covering.{is_of, is_deciding, decides_any, decides_some, AreMarks, unless_marked, unmarked_from, uncovered_in, uncovered_from}
 
 -- marks of the same
 pub marks_of : (P Q : ℕ → Bool) (count : ℕ) (marks : List Bool) → ((k : ℕ) → P k ≡ Q k) → AreMarks P count marks → AreMarks Q count marks
@@ -142,3 +142,23 @@ pub no_more_rulesets : (ts : List Tried) (rs : List Ruleset) (i : ℕ) (all befo
     length rs ≤ i → before ≡ all
 no_more_rulesets ts rs i all before so_far past =
     sym (so_far ∙ ap (λ (l : List Ruleset). before ++ uncovered_from ts i l) (drop_all i rs past) ∙ append-nil before)
+
+-- ---- one rule of several
+
+pub kept_rule : (within i : ℕ) (mark is_marked deciding : Bool) (r : PlainRule) (old now : List Decided) → is_marked ≡ mark → deciding ≡ is_deciding r →
+    deciding ≡ true → is_marked ≡ false → now ≡ old ++ record { within = within; number = i } ∷ [] → now ≡ old ++ unless_marked within i mark r
+kept_rule within i mark is_marked deciding r old now m d yes no is =
+    let both : (is_deciding r && not mark) ≡ true = ap (λ (b : Bool). b && not mark) (sym d ∙ yes) ∙ ap (λ (b : Bool). true && not b) (sym m ∙ no) in
+    is ∙ ap (λ (b : Bool). old ++ (if b then record { within = within; number = i } ∷ [] else [])) (sym both)
+
+pub anchor_rule : (within i : ℕ) (mark deciding : Bool) (r : PlainRule) (old now : List Decided) → deciding ≡ is_deciding r → deciding ≡ false → now ≡ old →
+    now ≡ old ++ unless_marked within i mark r
+anchor_rule within i mark deciding r old now d no is =
+    let not_both : (is_deciding r && not mark) ≡ false = ap (λ (b : Bool). b && not mark) (sym d ∙ no) in
+    is ∙ sym (append-nil old) ∙ ap (λ (b : Bool). old ++ (if b then record { within = within; number = i } ∷ [] else [])) (sym not_both)
+
+pub marked_rule : (within i : ℕ) (mark is_marked deciding : Bool) (r : PlainRule) (old now : List Decided) → is_marked ≡ mark → deciding ≡ is_deciding r →
+    deciding ≡ true → is_marked ≡ true → now ≡ old → now ≡ old ++ unless_marked within i mark r
+marked_rule within i mark is_marked deciding r old now m d yes marked is =
+    let not_both : (is_deciding r && not mark) ≡ false = ap (λ (b : Bool). b && not mark) (sym d ∙ yes) ∙ ap (λ (b : Bool). true && not b) (sym m ∙ marked) in
+    is ∙ sym (append-nil old) ∙ ap (λ (b : Bool). old ++ (if b then record { within = within; number = i } ∷ [] else [])) (sym not_both)
