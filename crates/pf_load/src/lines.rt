@@ -295,7 +295,6 @@ fn write_extend<W: Write>(
 }
 
 /// The first entries, as many as a line takes, and the others.
-#[tactic(auto, using(std::proofs::lemmas::List::take_all, std::proofs::lemmas::List::drop_all))]
 fn cut(entries: &[Entry]) -> (&[Entry], &[Entry])
     ensures part { result.0.now ≡ take PART entries.now }
     ensures rest { result.1.now ≡ drop PART entries.now }
