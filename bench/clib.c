@@ -5,7 +5,9 @@
  * clib lines < TEXTS: of each text, given in the same way, the sum of the main rules that its lines make, or the number of the line that
  *     isn't done, with its reply.
  * clib judge FILE < PACKETS: for each line, as way, interface, protocol's number, address, port, address, port, what pfd's judge
- *     replies, by what the file of a pfd holds.
+ *     replies, by what the file of a pfd holds, and whether state is kept. Each packet is judged alone, with other bytes behind its
+ *     interface's name, and in an array: no field may differ, and none that has no use be written. Then it is judged as no packet.
+ * clib test FILE < WORDS: for each line, as path, table's name, address, what pfd's test replies but for the entry's address.
  * clib judge-lines FILE < PACKETS: the same by a file of lines.
  * clib time FILE THREADS ROUNDS < PACKETS: judges the packets so many times in each of so many threads, and writes the nanoseconds of a
  *     processor that a packet took, one at a time and in arrays of 256.
@@ -15,11 +17,31 @@
 #include <arpa/inet.h>
 #include <inttypes.h>
 #include <pthread.h>
+#include <stddef.h>
 #include <stdio.h>
 #include <stdlib.h>
 #include <string.h>
 #include <time.h>
 #include <wirdalf.h>
+
+/* The structs lie as the library's own do, which have each field at the next place that its alignment allows. */
+_Static_assert(sizeof(struct wirdalf) == 8 && offsetof(struct wirdalf, held) == 0, "wirdalf");
+_Static_assert(sizeof(struct wirdalf_packet) == 56, "packet");
+_Static_assert(offsetof(struct wirdalf_packet, way) == 0 && offsetof(struct wirdalf_packet, family) == 1, "packet");
+_Static_assert(offsetof(struct wirdalf_packet, protocol) == 2 && offsetof(struct wirdalf_packet, source_port) == 4, "packet");
+_Static_assert(offsetof(struct wirdalf_packet, destination_port) == 6 && offsetof(struct wirdalf_packet, source) == 8, "packet");
+_Static_assert(offsetof(struct wirdalf_packet, destination) == 24 && offsetof(struct wirdalf_packet, interface) == 40, "packet");
+_Static_assert(sizeof(struct wirdalf_verdict) == 280, "verdict");
+_Static_assert(offsetof(struct wirdalf_verdict, state_id) == 0 && offsetof(struct wirdalf_verdict, state_creator) == 8, "verdict");
+_Static_assert(offsetof(struct wirdalf_verdict, rule) == 12 && offsetof(struct wirdalf_verdict, by) == 16, "verdict");
+_Static_assert(offsetof(struct wirdalf_verdict, action) == 17 && offsetof(struct wirdalf_verdict, keeps_state) == 18, "verdict");
+_Static_assert(offsetof(struct wirdalf_verdict, path_length) == 19 && offsetof(struct wirdalf_verdict, path) == 20, "verdict");
+_Static_assert(sizeof(struct wirdalf_counts) == 40 && offsetof(struct wirdalf_counts, tick) == 0, "counts");
+_Static_assert(offsetof(struct wirdalf_counts, rulesets) == 8 && offsetof(struct wirdalf_counts, tables) == 16, "counts");
+_Static_assert(offsetof(struct wirdalf_counts, states) == 24 && offsetof(struct wirdalf_counts, epoch) == 32, "counts");
+_Static_assert(sizeof(struct wirdalf_fault) == 80 && offsetof(struct wirdalf_fault, line) == 0, "fault");
+_Static_assert(offsetof(struct wirdalf_fault, reply_length) == 8 && offsetof(struct wirdalf_fault, reply) == 9, "fault");
+_Static_assert(WIRDALF_VERSION == WANTED_VERSION, "version");
 
 static void stop(const char *why)
 {
@@ -179,9 +201,66 @@ static void do_all(void (*what)(const uint8_t *, size_t))
     }
 }
 
+/* Each action is one of two, each zero is there, and what has no use is 0. */
+static void check(const struct wirdalf_verdict *verdict)
+{
+    int is_rule = verdict->by == WIRDALF_BY_RULE, passes = verdict->action == WIRDALF_PASS;
+
+    if (!passes && verdict->action != WIRDALF_BLOCK)
+        stop("an action");
+    if (verdict->keeps_state > 1 || (verdict->keeps_state == 1 && (!is_rule || !passes)))
+        stop("a state is kept, or not");
+    if (verdict->path[verdict->path_length] != 0 || strlen(verdict->path) != verdict->path_length)
+        stop("a path without its zero");
+    if (!is_rule && (verdict->rule != 0 || verdict->path_length != 0))
+        stop("a rule that decides nothing");
+    if (verdict->by != WIRDALF_BY_STATE && (verdict->state_id != 0 || verdict->state_creator != 0))
+        stop("a state that decides nothing");
+    if ((verdict->by == WIRDALF_BY_NOTHING && passes) || (!is_rule && verdict->by != WIRDALF_BY_NOTHING && !passes))
+        stop("what decides and what is done");
+}
+
+static int is_same(const struct wirdalf_verdict *one, const struct wirdalf_verdict *other)
+{
+    return one->by == other->by && one->action == other->action && one->keeps_state == other->keeps_state && one->rule == other->rule
+           && one->state_id == other->state_id && one->state_creator == other->state_creator && one->path_length == other->path_length
+           && memcmp(one->path, other->path, (size_t)one->path_length + 1) == 0;
+}
+
+/* Judges into a verdict of which no byte was 0 or 1. */
+static void judge_anew(struct wirdalf *config, const struct wirdalf_packet *packet, struct wirdalf_verdict *verdict)
+{
+    memset(verdict, 0xA5, sizeof *verdict);
+    wirdalf_judge(config, packet, verdict);
+    check(verdict);
+}
+
+/* A field is changed so that the packet is none: it is blocked, by nothing. */
+static void judge_none(struct wirdalf *config, struct wirdalf_packet packet, size_t way)
+{
+    static const char *const names[] = { "", "em/0", "em0 ", "e\xFF" };
+    struct wirdalf_verdict verdict;
+
+    if (way == 0)
+        packet.way = 3;
+    else if (way == 1)
+        packet.family = 5;
+    else if (way == 2)
+        packet.protocol = 0;
+    else if (way == 3)
+        packet.protocol = 50, packet.source_port = 1;
+    else if (way == 4)
+        memset(packet.interface, 'a', sizeof packet.interface);
+    else
+        strcpy(packet.interface, names[way - 5]);
+    judge_anew(config, &packet, &verdict);
+    if (verdict.by != WIRDALF_BY_NOTHING)
+        stop("what is no packet is judged");
+}
+
 static void tell(const struct wirdalf_verdict *verdict)
 {
-    const char *action = verdict->action == WIRDALF_PASS ? "pass" : "block";
+    const char *action = verdict->action == WIRDALF_BLOCK ? "block" : "pass", *keeps = verdict->keeps_state ? " keep state" : "";
 
     if (verdict->by == WIRDALF_BY_NOTHING)
         printf("no packet\n");
@@ -190,9 +269,9 @@ static void tell(const struct wirdalf_verdict *verdict)
     else if (verdict->by == WIRDALF_BY_DEFAULT)
         printf("%s default\n", action);
     else if (verdict->path_length == 0)
-        printf("%s rule %" PRIu32 "\n", action, verdict->rule);
+        printf("%s rule %" PRIu32 "%s\n", action, verdict->rule, keeps);
     else
-        printf("%s rule %" PRIu32 " at %s\n", action, verdict->rule, verdict->path);
+        printf("%s rule %" PRIu32 " at %s%s\n", action, verdict->rule, verdict->path, keeps);
 }
 
 static void judge_all(struct wirdalf *config)
@@ -201,18 +280,54 @@ static void judge_all(struct wirdalf *config)
     struct wirdalf_packet *packets = packets_of(stdin, &count);
     struct wirdalf_verdict *verdicts = room(count * sizeof *verdicts), one;
 
+    memset(verdicts, 0xA5, count * sizeof *verdicts);
     if (wirdalf_judge_many(config, packets, count, verdicts, count) != count)
         stop("fewer were judged");
     for (size_t i = 0; i < count; i++) {
-        memset(&one, 0xA5, sizeof one);
-        wirdalf_judge(config, &packets[i], &one);
-        if (one.by != verdicts[i].by || one.action != verdicts[i].action || one.rule != verdicts[i].rule
-            || one.state_id != verdicts[i].state_id || strcmp(one.path, verdicts[i].path) != 0)
+        struct wirdalf_packet packet = packets[i];
+        size_t length = strlen(packet.interface);
+
+        judge_none(config, packet, i % 9);
+        judge_anew(config, &packets[i], &one);
+        if (!is_same(&one, &verdicts[i]))
             stop("one and many differ");
+        memset(packet.interface + length + 1, (int)(i % 255 + 1), sizeof packet.interface - length - 1);
+        judge_anew(config, &packet, &one);
+        if (!is_same(&one, &verdicts[i]))
+            stop("bytes behind a name are judged by");
         tell(&one);
     }
     free(packets);
     free(verdicts);
+}
+
+/* The words of a test: which entry decides on an address. */
+static void test_all(struct wirdalf *config)
+{
+    char line[1024], path[512], table[512], address[48];
+    uint8_t bytes[16], bits;
+
+    while (fgets(line, sizeof line, stdin) != NULL) {
+        uint8_t family;
+        uint32_t found;
+
+        if (sscanf(line, "%511s %511s %47s", path, table, address) != 3)
+            stop("a line that is no test");
+        memset(bytes, 0xA5, sizeof bytes);
+        family = address_of(address, bytes);
+        bits = 0xA5;
+        found = wirdalf_test(config, path, strlen(path), table, strlen(table), family, bytes, &bits);
+        if (found != WIRDALF_IN_TABLE && found != WIRDALF_NEGATED && bits != 0xA5)
+            stop("a length without an entry");
+        if (wirdalf_test(config, path, strlen(path), table, strlen(table), 5, bytes, &bits) != WIRDALF_BAD_NAME)
+            stop("a family that is none");
+        if (found == WIRDALF_BAD_NAME)
+            printf("bad name\n");
+        else if (found == WIRDALF_NO_ENTRY)
+            printf("nomatch\n");
+        else
+            printf("%s /%u\n", found == WIRDALF_NEGATED ? "nomatch" : "match", bits);
+    }
 }
 
 struct run {
@@ -340,12 +455,14 @@ int main(int count, char **words)
         do_all(words[1][0] == 's' ? show : do_lines);
         return 0;
     }
-    if (count < 3)
-        stop("words");
+    if (count < 3 || wirdalf_version() != WIRDALF_VERSION)
+        stop("words, or a library of another version");
     is_lines = strcmp(words[1], "judge-lines") == 0 || strcmp(words[1], "stack") == 0;
     config = made_of(words[2], is_lines);
     if (count == 3 && strncmp(words[1], "judge", 5) == 0)
         judge_all(&config);
+    else if (count == 3 && strcmp(words[1], "test") == 0)
+        test_all(&config);
     else if (count == 5 && strcmp(words[1], "time") == 0)
         time_all(&config, (size_t)atol(words[3]), (size_t)atol(words[4]));
     else if (count == 3 && strcmp(words[1], "alone") == 0)

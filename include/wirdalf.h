@@ -1,18 +1,21 @@
 /*
  * wirdalf.h: what a Wirdalf control plane keeps, for a packet path in C.
  *
- * A configuration is read once, from the bytes of a file that pfd serves or from lines, and never changes. Judging takes no memory and no
- * lock, and can't fail. wirdalf(3) is the manual.
+ * A configuration is read once, from the bytes of a file that pfd serves or from lines, and what it holds never changes. Judging takes no
+ * memory and no lock, and can't fail. wirdalf(3) is the manual.
  *
  * What C has to keep to, since no proof looks at C:
- * - Pointers are not null (but for those of empty arrays), aligned as their types want, and point to live values. Arrays have as many
- *   elements as is said. No two arguments of a call overlap, one of which is written to.
+ * - Pointers are not null, not even those of empty arrays, aligned as their types want, and point to live values. Arrays have as many
+ *   elements as is said. No two arguments of a call overlap, one of which is written to, and nobody else writes to any during the call.
  * - A struct wirdalf is WIRDALF_NONE, or was written by wirdalf_read, wirdalf_lines or wirdalf_clone, which returned WIRDALF_OK. Only what
- *   these write may hold nothing; and one that holds something is freed before it is written to again, or its memory is lost.
- * - A struct wirdalf is in one call at a time, and isn't copied but moved: after it was assigned or handed to another thread, the old one
- *   isn't used. Each thread that judges has its own, made by wirdalf_clone, which shares what it holds. Handing it over is ordered by a
- *   lock, by the start or the join of a thread, or by a sequentially consistent atomic.
- * - malloc(3) and free(3) are one allocator for all threads. No function is called in a signal handler.
+ *   these three write to may hold nothing: wirdalf_free isn't called with WIRDALF_NONE, unlike free(3) with a null pointer. One that holds
+ *   something is freed before it is written to again, or its memory is lost.
+ * - A struct wirdalf is in one call at a time, whichever: each call may write to what the struct has of its own, so none takes a const one.
+ *   It isn't copied but moved: after it was assigned or handed to another thread, the old one isn't used. Each thread that judges has its
+ *   own, made by wirdalf_clone of one that no other call has. It is handed over by a lock, by the start or the join of a thread, or by a
+ *   sequentially consistent atomic, from which one thread takes it, by exchange: two that load it and judge are a race.
+ * - malloc(3), realloc(3) and free(3) are one allocator for all threads, as long as a configuration lives. They align a block to each power
+ *   of two up to 16 that divides its size. No function is called in a signal handler, or in the forked child of a process with threads.
  */
 #ifndef WIRDALF_H
 #define WIRDALF_H
@@ -24,7 +27,13 @@
 extern "C" {
 #endif
 
-/* A configuration: one pointer, which may be kept in an atomic; NULL holds nothing. */
+/* This header's version: 10,000 times the major number, 100 times the minor one and the third. */
+#define WIRDALF_VERSION 100
+
+/* The library's version, which should be that. */
+uint32_t wirdalf_version(void);
+
+/* A configuration: one pointer; NULL holds nothing. */
 struct wirdalf {
     void *held;
 };
@@ -70,14 +79,14 @@ struct wirdalf_packet {
     char interface[16];        /* 1 to 15 bytes and a zero; nothing but zeros behind it is fastest */
 };
 
-/* A verdict. A field that its kind has no use for is 0. */
+/* A verdict. Each field is written: one that its kind has no use for is 0, and then the path is empty. */
 struct wirdalf_verdict {
     uint64_t state_id;      /* by a state: its number */
     uint32_t state_creator; /* and the host that made it */
     uint32_t rule;          /* by a rule: its number in its ruleset, from 0 */
     uint8_t by;             /* WIRDALF_BY_* */
-    uint8_t action;         /* WIRDALF_PASS or WIRDALF_BLOCK */
-    uint8_t keeps_state;    /* by a rule that passes: 1 if it keeps state */
+    uint8_t action;         /* WIRDALF_PASS or WIRDALF_BLOCK, and nothing else */
+    uint8_t keeps_state;    /* by a rule that passes: 1 if it keeps state, else 0 */
     uint8_t path_length;    /* by a rule: how long the path of its ruleset is; 0 is the main ruleset */
     char path[256];         /* and the path, with a zero after it */
 };
@@ -98,8 +107,9 @@ struct wirdalf_fault {
     char reply[64];       /* what pfd replies to it, as "err word 4", with a zero after it */
 };
 
-/* What the bytes of a disk hold: a whole file that pfd formatted or serves, read or mapped. It may be any bytes. At WIRDALF_CORRUPT the
- * place is written, from 0. Unless it returns WIRDALF_OK, the configuration is as it was. */
+/* What the bytes of a disk hold: a whole file that pfd formatted or serves. They may be any bytes, but don't change during the call: a file
+ * that is served is read by read(2), not mapped. At WIRDALF_CORRUPT the place is written, from 0. Unless it returns WIRDALF_OK, the
+ * configuration is as it was. */
 uint32_t wirdalf_read(const uint8_t *bytes, size_t length, struct wirdalf *config, uint64_t *place);
 
 /* What lines make of nothing, each done in turn as pfd run does it: begin, add, define, extend, commit and tset, comments and empty
@@ -108,7 +118,7 @@ uint32_t wirdalf_read(const uint8_t *bytes, size_t length, struct wirdalf *confi
  * meaning. */
 uint32_t wirdalf_lines(const uint8_t *text, size_t length, struct wirdalf *config, struct wirdalf_fault *fault);
 
-/* The same once more, for another thread: what it holds is shared. WIRDALF_OK or WIRDALF_MEMORY. */
+/* The same once more, for another thread: what it holds is shared. WIRDALF_OK, or WIRDALF_MEMORY: then the copy is as it was. */
 uint32_t wirdalf_clone(struct wirdalf *config, struct wirdalf *copy);
 
 /* Lets it go. The last of those that share something frees it. */

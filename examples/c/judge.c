@@ -7,13 +7,11 @@
  * judge -l FILE: the same by a file of lines as pfd run takes them: begin, add, define, extend, commit and tset.
  */
 #include <arpa/inet.h>
-#include <fcntl.h>
 #include <inttypes.h>
 #include <stdio.h>
+#include <stdlib.h>
 #include <string.h>
-#include <sys/mman.h>
 #include <sys/stat.h>
-#include <unistd.h>
 #include <wirdalf.h>
 
 /* What the bytes of a file hold, which is named where they are refused. */
@@ -42,22 +40,23 @@ static int read_lines(const char *path, const uint8_t *text, size_t length, stru
     return result == WIRDALF_OK;
 }
 
-/* Reads a file's bytes by one of these two. Returns whether there is a configuration. */
+/* Reads a file's bytes by one of these two. Returns whether there is a configuration. It isn't mapped: a pfd that serves it may write. */
 static int read_file(const char *path, int is_lines, struct wirdalf *config)
 {
     struct stat about;
-    int file = open(path, O_RDONLY), is_read = 0;
-    void *bytes = MAP_FAILED;
+    FILE *file = fopen(path, "rb");
+    uint8_t *bytes = NULL;
+    int is_read = 0;
 
-    if (file >= 0 && fstat(file, &about) == 0 && about.st_size > 0)
-        bytes = mmap(NULL, (size_t)about.st_size, PROT_READ, MAP_PRIVATE, file, 0);
-    if (bytes != MAP_FAILED) {
+    if (file != NULL && fstat(fileno(file), &about) == 0 && about.st_size > 0)
+        bytes = malloc((size_t)about.st_size);
+    if (bytes != NULL && fread(bytes, 1, (size_t)about.st_size, file) == (size_t)about.st_size)
         is_read = (is_lines ? read_lines : read_image)(path, bytes, (size_t)about.st_size, config);
-        munmap(bytes, (size_t)about.st_size);
-    } else
-        fprintf(stderr, "judge: %s: can't be opened, or is empty\n", path);
-    if (file >= 0)
-        close(file);
+    else
+        fprintf(stderr, "judge: %s: can't be read, or is empty\n", path);
+    free(bytes);
+    if (file != NULL)
+        fclose(file);
     return is_read;
 }
 

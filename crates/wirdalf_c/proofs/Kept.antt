@@ -14,10 +14,10 @@ read_answered (Err e) bytes old new code place holds within unread (inl kept) = 
 read_answered made bytes old new code place holds within unread (inr kept) = inr (Memory, kept, tt)
 
 pub copied_answered : (made : Result PlainDurable ReadFault) (d : PlainDurable) (old new : Configuration) (code place : ℕ)
-    → IfOk made (λ x. x ≡ d) → IsKept made old new code place ⊎ IsKept (Err Memory) old new code place → IsCopied d old new code
-copied_answered (Ok x) d old new code place is (inl kept) = (place, inl (rw (← is) kept))
-copied_answered (Err e) d old new code place is (inl kept) = (place, inr (e, kept))
-copied_answered made d old new code place is (inr kept) = (place, inr (Memory, kept))
+    → IfOk made (λ x. x ≡ d) → IfErr made (λ e. e ≡ Memory) → IsKept made old new code place ⊎ IsKept (Err Memory) old new code place → IsCopied d old new code
+copied_answered (Ok x) d old new code place is out (inl kept) = inl (rw (← is) kept)
+copied_answered (Err e) d old new code place is out (inl kept) = let told : IsKept (Err Memory) old new code place = rw out at kept in inr (told.0, told.1)
+copied_answered made d old new code place is out (inr kept) = inr (kept.0, kept.1)
 
 pub unread_told : (e : OpenFault) (bytes : List ℕ) → IsUnopened e bytes → IsUnread (unread e) bytes
 unread_told opening.BadSize bytes is = is

@@ -2,7 +2,7 @@
 use Rattle.std.proofs.Common.{◌≡◌, ◌≢◌, ℕ, zero, suc, ◌+◌, ◌<◌, List, [], ◌∷◌, length, Option, Some, IfSome, arith, slice_get, slice_set, get_or, refl, ap, inl, inr}
 use Rattle.std.proofs.lemmas.{Bool.cases_lt, Option.slice_get-get_or}
 
-get_set_same : {A : Type 0} (ys : List A) (i : ℕ) (v : A) → i < length ys → slice_get (slice_set ys i v) i ≡ Some v
+pub get_set_same : {A : Type 0} (ys : List A) (i : ℕ) (v : A) → i < length ys → slice_get (slice_set ys i v) i ≡ Some v
 get_set_same [] i v h = absurd (omega arith)
 get_set_same (y ∷ ys) zero v h = refl
 get_set_same (y ∷ ys) (suc i) v h = get_set_same ys i v (omega arith)

@@ -1,12 +1,12 @@
 -- What calls answer.
-use Rattle.std.specs.{Prelude.{◌≡◌, ◌⊎◌, ℕ, true, false, List, length, take, Option, None, Some, Result, Ok, Err, if◌then◌else◌}, Option.option_map}
+use Rattle.std.specs.{Prelude.{◌≡◌, ◌⊎◌, ℕ, min, true, false, List, length, take, slice_get, Option, None, Some, Result, Ok, Err, if◌then◌else◌}, Option.option_map}
 use Rattle.pf_form.specs.declared.form.fault.Kind.{Kind}
 use Rattle.pf_addr.specs.{declared.addr.Addr.Addr, Path.{Names.table_name_of, Paths.path_of}}
 use Rattle.pf_table.specs.{Entries.PlainEntry, Tables.deciding}
 use Rattle.pf_core.specs.{Durable.Changes.{PlainDurable, entries_at, verdict}, Laws.Durable.IsWithin}
 use Rattle.pf_store.specs.Stores.{Holds}
 use Rattle.wirdalf_c.specs.{Codes.{code_of, line_code, place_of}, Images.IsUnread, Lines.{AreMade, reply_of}, Packets.{address_in, is_family, packet_in}, Verdicts.IsTold}
-use Rattle.wirdalf_c.specs.declared.{configuration.Configuration.Configuration, fault.ReadFault.ReadFault, fault.TheConstants.OK, judging.TheConstants.{NO_ENTRY, IN_TABLE, NEGATED, BAD_NAME}, lines.LineFault.LineFault, record.CountsRecord.CountsRecord, record.FaultRecord.FaultRecord, record.PacketRecord.PacketRecord, record.TheConstants.REPLY_LIMIT, record.VerdictRecord.VerdictRecord}
+use Rattle.wirdalf_c.specs.declared.{configuration.Configuration.Configuration, fault.ReadFault.ReadFault, fault.TheConstants.{OK, MEMORY}, judging.TheConstants.{NO_ENTRY, IN_TABLE, NEGATED, BAD_NAME}, lines.LineFault.LineFault, record.CountsRecord.CountsRecord, record.FaultRecord.FaultRecord, record.PacketRecord.PacketRecord, record.TheConstants.REPLY_LIMIT, record.VerdictRecord.VerdictRecord}
 
 -- The record of a verdict is that on the packet of another record; there is none if that says no packet.
 unfoldable pub IsJudged : PlainDurable → PacketRecord → VerdictRecord → Type 0
@@ -56,18 +56,19 @@ IsRead bytes old new code place =
     ((d : PlainDurable) × IsKept (Ok d) old new code place × Holds bytes d × IsWithin d)
     ⊎ ((fault : ReadFault) × IsKept (Err fault) old new code place × IsUnread fault bytes)
 
--- What another configuration holds is there once more, or the fault says why not.
+-- What another configuration holds is there once more, or memory ran out.
 abbrev pub IsCopied : PlainDurable → (old new : Configuration) → (code : ℕ) → Type 0
-IsCopied d old new code =
-    (place : ℕ) × (IsKept (Ok d) old new code place ⊎ ((fault : ReadFault) × IsKept (Err fault) old new code place))
+IsCopied d old new code = ((new.held ≡ Some d) × (code ≡ OK)) ⊎ ((new ≡ old) × (code ≡ MEMORY))
 
 -- ---- lines
 
--- C's record tells the fault: the number of the line, and what pfd replies to it, as far as there is room.
+-- C's record tells the fault: the number of the line, and what pfd replies to it, as far as there is room, with a zero behind it.
 pub record IsFaultTold (fault : LineFault) (returned : ℕ) (r : FaultRecord) : Type 0 where
   pub code : returned ≡ line_code fault.why
   pub line : r.line ≡ fault.line
+  pub reply_length : r.reply_length ≡ min REPLY_LIMIT (length (reply_of fault.why))
   pub reply : take r.reply_length r.reply ≡ take REPLY_LIMIT (reply_of fault.why)
+  pub zero : slice_get r.reply r.reply_length ≡ Some 0
 
 -- What lines make is there, or the fault tells the first that isn't done.
 abbrev pub IsLined : List ℕ → (old new : Configuration) → (code : ℕ) → FaultRecord → Type 0

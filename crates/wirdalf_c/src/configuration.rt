@@ -9,7 +9,7 @@ use std::alloc::Global;
 use std::marker::Model;
 
 /// A configuration, as C keeps it: `struct wirdalf`. It owns what it holds, so that C gives it to one call at a time and frees it once.
-/// `held` is what it holds; one that was never written to holds nothing, and its pointer may be null.
+/// `held` is what it holds; one that was never written to holds nothing, and its pointer may be null. It may go to another thread.
 ///
 /// A value that is overwritten or let go isn't freed: whoever has one that holds something frees it first.
 #[repr(C)]
@@ -22,6 +22,9 @@ pub struct Configuration {
 impl Model for Configuration {
     ghost also_owns = { λ c. holds c.at c.held };
 }
+
+// C may hand one over to another thread: what it owns may go to any thread, and be freed there.
+unsafe impl Send for Configuration {}
 
 impl Configuration {
     ghost use Rattle.std.specs.Borrow.{sem};

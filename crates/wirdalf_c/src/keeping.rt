@@ -51,7 +51,8 @@ fn boxed(alloc: Global, made: Result<Durable, ReadFault>) -> Result<Box<Holding>
 
 /// The same once more: the rulesets, tables and states are shared.
 pub fn shared(durable: &Durable) -> Result<Durable, ReadFault>
-    ensures { IfOk result (λ d. d ≡ durable.now) }
+    ensures ok { IfOk result (λ d. d ≡ durable.now) }
+    ensures err { IfErr result (λ e. e ≡ Memory) }
 {
     match durable.in_epoch(durable.epoch()) {
         Ok(durable) => Ok(durable),

@@ -16,9 +16,9 @@
 //!
 //! Proved: what is read is what the image holds (`pf_store`), and each fault tells what is true of the bytes; what lines make is what
 //! `pf_core` makes of the commands that they say (`pf_line`), and a fault tells the first that isn't done; a verdict is that of `pf_core` on
-//! the packet that the struct says, and a struct that says none blocks; an array is judged like each of it; a configuration stays as it was
-//! through each call, and a copy holds the same. Each export assumes that C keeps to the head of `include/wirdalf.h`. What is in C is only
-//! tested (`bench/clib`, `examples/try-all`).
+//! the packet that the struct says, in each of its fields, and a struct that says none blocks; an array is judged like each of it; a
+//! configuration stays as it was through each call, a copy holds the same, and either may go to another thread. Each export assumes that C
+//! keeps to the head of `include/wirdalf.h`. What is in C is only tested (`bench/clib`, `examples/try-all`).
 #![tactic(auto)]
 
 mod configuration;
@@ -45,8 +45,16 @@ use judging::{count, judge, judge_many, test};
 use keeping::{keep, keep_box, shared};
 use line_fault::tell_fault;
 use lines::read_lines;
-use record::{CountsRecord, FaultRecord, PacketRecord, VerdictRecord};
+use record::{CountsRecord, FaultRecord, PacketRecord, VERSION, VerdictRecord};
 use std::alloc::Global;
+
+/// The version of this library, as the header's `WIRDALF_VERSION` says that of the header.
+#[unsafe(no_mangle)]
+pub extern "C" fn wirdalf_version() -> u32
+    ensures { result ≡ VERSION }
+{
+    VERSION
+}
 
 /// What these bytes hold, in a configuration that held nothing. If it isn't `OK`, the configuration is as it was, and the place that the
 /// fault names is written, or 0.

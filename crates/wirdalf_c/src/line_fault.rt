@@ -1,5 +1,5 @@
 //! The line that isn't done, as C gets it.
-ghost use Rattle.std.specs.Prelude.{◌≡◌, ◌⊎◌, take, length, min, IfOk};
+ghost use Rattle.std.specs.Prelude.{◌≡◌, ◌⊎◌, take, length, min, slice_get, Some, IfOk};
 ghost use Rattle.wirdalf_c.specs.declared.lines.LineRefusal.TheVariants.{Memory};
 ghost use Rattle.wirdalf_c.specs.declared.lines.LineFault.{LineFault};
 ghost use Rattle.wirdalf_c.specs.{Answers.IsFaultTold, Codes.line_code, Lines.reply_of};
@@ -52,8 +52,11 @@ fn tell(fault: LineFault, text: &[u8], to: &mut FaultRecord) -> u32
 }
 
 // Writes what finds room of a text with a zero after it, and returns how many bytes it has.
+#[tactic(auto, using(crate::proofs::Many::get_set_same))]
 fn tell_text(text: &[u8], to: &mut [u8; 64]) -> u8
-    ensures { take result to.new ≡ take REPLY_LIMIT text.now }
+    ensures room { take result to.new ≡ take REPLY_LIMIT text.now }
+    ensures count { result ≡ min REPLY_LIMIT (length text.now) }
+    ensures zero { slice_get to.new result ≡ Some 0 }
 {
     let count = REPLY_LIMIT.min(text.len());
     to[..count].copy_from_slice(&text[..count]);

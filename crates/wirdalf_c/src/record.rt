@@ -1,5 +1,8 @@
 //! The structs that C gives and gets.
 
+/// The version: 10,000 times the major number, 100 times the minor one and the third.
+pub const VERSION: u32 = 100;
+
 /// `way` of a packet that comes in.
 pub const WAY_IN: u8 = 1;
 /// `way` of a packet that goes out.

@@ -1,8 +1,8 @@
 //! Verdicts, as C gets them.
-ghost use Rattle.std.specs.Prelude.{◌≡◌, ◌<◌, take, Option, None, Some, length};
+ghost use Rattle.std.specs.Prelude.{◌≡◌, take, slice_get, None, Some, length};
 ghost use Rattle.pf_core.specs.declared.durable.verdict.Verdict.TheVariants.{State as Stateful, Rules};
 ghost use Rattle.pf_anchor.specs.declared.verdict.RuleVerdict.TheVariants as ruled;
-ghost use Rattle.wirdalf_c.specs.Verdicts.{IsTold};
+ghost use Rattle.wirdalf_c.specs.Verdicts.{HasFields, IsTold, action_code, keeps_code, only};
 
 use crate::record::{BLOCK, BY_DEFAULT, BY_NOTHING, BY_RULE, BY_STATE, PASS, VerdictRecord};
 use pf_addr::path::Path;
@@ -11,6 +11,7 @@ use pf_rule::Action;
 use pf_state::StateName;
 
 /// Writes that there is no verdict, since no packet was said.
+#[tactic(auto, unfolding(crate::specs::Verdicts::IsTold))]
 pub fn tell_nothing(to: &mut VerdictRecord)
     ensures { IsTold to.new None }
 {
@@ -18,23 +19,25 @@ pub fn tell_nothing(to: &mut VerdictRecord)
 }
 
 /// Writes what the rules say.
+#[tactic(auto, unfolding(crate::specs::Verdicts::IsTold))]
 pub fn tell_rules(verdict: RuleVerdict, to: &mut VerdictRecord)
     ensures { IsTold to.new (Some (Rules verdict)) }
 {
-    match verdict {
+    // (by reference, so that the path isn't copied)
+    match &verdict {
         RuleVerdict::Default => tell_short(BY_DEFAULT, PASS, to),
         RuleVerdict::Rule {
             path,
             number,
             action,
-        } => tell_rule(&path, number, action, to),
+        } => tell_rule(path, *number, *action, to),
     }
 }
 
-// Writes all but what a state or a rule says.
+// Writes what decides and what is done, and nothing else.
+#[tactic(auto, using(crate::proofs::Many::get_set_same))]
 fn tell_short(by: u8, action: u8, to: &mut VerdictRecord)
-    ensures by { to.new.by ≡ by }
-    ensures action { to.new.action ≡ action }
+    ensures { HasFields to.new (only by action) }
 {
     to.state_id = 0;
     to.state_creator = 0;
@@ -47,6 +50,7 @@ fn tell_short(by: u8, action: u8, to: &mut VerdictRecord)
 }
 
 /// Writes that a state passes the packet.
+#[tactic(auto, unfolding(crate::specs::Verdicts::IsTold))]
 pub fn tell_state(name: StateName, to: &mut VerdictRecord)
     ensures { IsTold to.new (Some (Stateful name)) }
 {
@@ -55,28 +59,35 @@ pub fn tell_state(name: StateName, to: &mut VerdictRecord)
     to.state_creator = name.creator;
 }
 
+#[tactic(auto, unfolding(crate::specs::Verdicts::IsTold))]
 fn tell_rule(path: &Path, number: u32, action: Action, to: &mut VerdictRecord)
     ensures { IsTold to.new (Some (Rules (ruled.Rule path.now number action))) }
 {
-    let (does, keeps_state) = match action {
-        Action::Pass { keeps_state: true } => (PASS, 1),
-        Action::Pass { keeps_state: false } => (PASS, 0),
-        Action::Block => (BLOCK, 0),
-    };
-    to.state_id = 0;
-    to.state_creator = 0;
-    to.rule = number;
-    to.by = BY_RULE;
-    to.action = does;
+    let (does, keeps_state) = codes_of(action);
+    tell_short(BY_RULE, does, to);
     to.keeps_state = keeps_state;
+    to.rule = number;
     to.path_length = tell_path(path, &mut to.path);
 }
 
+// What is done, and whether state is kept.
+fn codes_of(action: Action) -> (u8, u8)
+    ensures does { result.0 ≡ action_code action }
+    ensures keeps { result.1 ≡ keeps_code action }
+{
+    match action {
+        Action::Pass { keeps_state: true } => (PASS, 1),
+        Action::Pass { keeps_state: false } => (PASS, 0),
+        Action::Block => (BLOCK, 0),
+    }
+}
+
 // Writes a path with a zero after it, and returns how many bytes it has.
-#[tactic(auto, using(crate::proofs::Verdicts::short_path))]
+#[tactic(auto, using(crate::proofs::Verdicts::short_path, crate::proofs::Many::get_set_same))]
 fn tell_path(path: &Path, to: &mut [u8; 256]) -> u8
     ensures path { take result to.new ≡ path.now }
     ensures whole { result ≡ length path.now }
+    ensures zero { slice_get to.new result ≡ Some 0 }
 {
     let bytes = path.as_bytes();
     // (most paths are the main ruleset's, and a copy of no bytes is a call too)
