@@ -191,8 +191,8 @@ def options_of(path):
 @functools.cache
 def options_of_pfd():
     # (the options that say modes have one function)
-    found = re.findall(r'(?:\.long\(|\bmode\(alloc, )"([\w-]+)"\)', text_of(f"{TOP}/crates/pfd_words/src/words.rt"))
-    return {f"--{it}" for it in found} | {"--help", "--version"}
+    sources = "".join(text_of(it) for it in sorted(glob.glob(f"{TOP}/crates/pfd_words/src/*.rt")))
+    return {f"--{it}" for it in re.findall(r'(?:\.long\(|\bmode\(alloc, )"([\w-]+)"\)', sources)} | {"--help", "--version"}
 
 
 @functools.cache

@@ -25,8 +25,9 @@ import typing
 HERE = os.path.dirname(os.path.realpath(__file__))
 TOP = os.path.dirname(os.path.dirname(HERE))
 CONF, TABLES = "fleet/conf", "fleet/tables"
-# The most bytes of a line, how many lines are sent before their replies are read, and the most seconds for a reply.
-LONGEST, AT_ONCE, ANSWERS = 4096, 50, 20
+# The most bytes of a line, how many entries of a file's table go into one, how many lines are sent before their replies are read, and the
+# most seconds for a reply.
+LONGEST, ENTRIES, AT_ONCE, ANSWERS = 4096, 64, 50, 20
 OF_FILE, OF_ENTRIES = 0xFD01, 0xFD02
 
 
@@ -92,7 +93,7 @@ def is_name(text):
 
 
 class File(typing.NamedTuple):
-    """What a file says: each offer as its word (`add` or `define`) and what stands behind the ticket, and the checksum of its rules."""
+    """What a file says: each offer as its word (`add`, `define` or `extend`) and what stands behind the ticket, and the checksum of its rules."""
 
     offers: list
     sum: str
@@ -103,30 +104,47 @@ class File(typing.NamedTuple):
 
 
 def program():
-    """The pfd that tries files, as examples/pfctl finds it."""
+    """The pfd that reads files, as examples/pfctl finds it."""
     built = os.path.join(TOP, "pfd")
     return os.environ.get("PFD_PROGRAM") or (built if os.access(built, os.X_OK) and os.path.isfile(built) else "pfd")
 
 
+def offers_in(shown, path):
+    """The offers of a file whose meaning `pfd check` shows so. Fault, if it has rules or tables elsewhere: a group has one ruleset."""
+    for line in shown:
+        word, _, rest = line.partition(" ")
+        if word.startswith("@"):
+            yield "add", rest
+        elif word == "table" and rest.startswith(f"{path} "):
+            name, *entries = rest.split(" ")[1:]
+            yield "define", " ".join([name, *entries[:ENTRIES]])
+            for start in range(ENTRIES, len(entries), ENTRIES):
+                yield "extend", " ".join([name, *entries[start : start + ENTRIES]])
+        elif line != f"anchor {path}":
+            raise Fault(f"a group's file has one ruleset, and this one has more: {line[:80]}")
+
+
 def read_file(text, name, path):
-    """The file, as `examples/pfctl -n` takes it for the ruleset at this path. Fault, with the file's line and word, if it doesn't."""
-    tried_by = shutil.which(program())
-    if not tried_by:
-        raise Fault(f"files are tried by a pfd, and there is none at {program()}; PFD_PROGRAM may name another")
+    """What the file means, as `pfd check` reads it for the ruleset at this path. Fault, with the file's line and column, if it isn't taken."""
+    reader = shutil.which(program())
+    if not reader:
+        raise Fault(f"files are read by a pfd, and there is none at {program()}; PFD_PROGRAM may name another")
+    reader = os.path.abspath(reader)
     with tempfile.TemporaryDirectory() as folder:
         place = os.path.join(folder, name)
         os.makedirs(os.path.dirname(place), exist_ok=True)
         with open(place, "w", encoding="utf-8") as it:
             it.write(text)
-        env = {**os.environ, "PFD_PROGRAM": os.path.join(HERE, "as-pfd"), "FLEET_PFD": os.path.abspath(tried_by), "FLEET_WORK": folder}
-        words = [os.path.join(HERE, "..", "pfctl"), "-n", "-a", path, "-f", name]
-        ran = subprocess.run(words, cwd=folder, env=env, capture_output=True, text=True, errors="replace")
-        if ran.returncode:
-            raise Fault((ran.stderr.strip().splitlines() or ["pfctl failed"])[-1].removeprefix("pfctl: "))
-        with open(os.path.join(folder, "lines"), encoding="utf-8") as it:
-            lines = [line.rstrip("\n").split(" ", 3) for line in it]
-        with open(os.path.join(folder, "sum"), encoding="utf-8") as it:
-            return File([(line[0], line[3]) for line in lines if line[0] in ("add", "define")], it.read().strip())
+        read = subprocess.run([reader, "check", name, "--anchor", path], cwd=folder, capture_output=True, text=True, errors="replace")
+    if read.returncode:
+        raise Fault((read.stderr.strip().splitlines() or ["pfd check failed"])[-1])
+    offers = list(offers_in(read.stdout.splitlines(), path))
+    rules = [f"add - 1.1 {rule}" for word, rule in offers if word == "add"]
+    lines = "\n".join(["begin filter -", *rules, "commit filter - 1.1", "sum"])
+    summed = subprocess.run([reader, "run"], input=lines, capture_output=True, text=True)
+    if summed.returncode:
+        raise Fault((summed.stderr.strip().splitlines() or ["pfd run failed"])[-1])
+    return File(offers, summed.stdout.splitlines()[-1])
 
 
 # ---- a session with pfd

@@ -6,7 +6,7 @@ use Rattle.pf_core.specs.{Durable.Changes.{PlainDurable, kept_nothing}, WorldBoo
 use Rattle.pf_store.specs.{Banks.{IsSize, bank_size}, Openings.IsUnopened, Rooms.on_device, Stores.Holds}
 use Rattle.pf_store.specs.declared.store.fault.OpenFault.{OpenFault}
 use Rattle.pf_book.specs.Books.{IsUnshown, PlainBook, PlainOpening, world_book, setting_of}
-use Rattle.pfd_words.specs.declared.words.{Service.Service, Task.Task, Task.TheVariants.{Run, RunOn, Format, Show, Serve, Connect}, TheConstants.MEMORY_SIZE}
+use Rattle.pfd_words.specs.declared.words.{Service.Service, Task.Task, Task.TheVariants.{Run, RunOn, Format, Show, Serve, Connect, Conf, Load}, TheConstants.MEMORY_SIZE}
 use Rattle.pf_session.specs.declared.line_engine.fault.EngineFault.{EngineFault}
 use Rattle.pf_session.specs.declared.line_engine.fault.EngineFault.TheVariants as session
 use Rattle.pf_session.specs.{LineEngine.Sessions.IsSession, Serving.Serves}
@@ -120,8 +120,8 @@ IsListening service result held held' =
     (bounds : List (List ℕ)) × Writes result held held' (flat_map listening_text bounds) × OnOk result (length bounds ≡ address_count service)
 
 -- What was asked was done. Lines are read only for a session and to be sent to a server; formatting a disk writes nothing, and a server
--- writes where it listens. The functions count the faults of disks in memory, give what a disk on a file reads as, and count the faults
--- of such disks.
+-- writes where it listens. What is asked of a pf.conf is answered as pfd_conf says, and one is loaded as pf_load says. The functions count the faults of disks in memory, give
+-- what a disk on a file reads as, and count the faults of such disks.
 abbrev pub IsDone : {M F : Type 0} → (M → ℕ) → (F → List ℕ) → (F → ℕ) → Task → Result (Unit {0}) Fault
     → Option (List ℕ) → Option (List ℕ) → Option (List ℕ) → Option (List ℕ) → Type 0
 IsDone memory seen file (Run size history) result unread still_unread held held' = IsMemoryRun memory size history result unread still_unread held held'
@@ -131,6 +131,8 @@ IsDone memory seen file (Show path) result unread still_unread held held' = Keep
 IsDone memory seen file (Serve service) result unread still_unread held held' =
     Keeps unread still_unread × IsListening service result held held'
 IsDone memory seen file (Connect address) result unread still_unread held held' = Unit {0}
+IsDone memory seen file (Conf task) result unread still_unread held held' = Keeps unread still_unread
+IsDone memory seen file (Load task) result unread still_unread held held' = Keeps unread still_unread
 
 -- The status if the words couldn't be had: 1 when out of memory, else 2.
 abbrev pub status_without_words : ErrorKind → ℕ

@@ -3,6 +3,8 @@
 //! - `fresh`: disks that hold nothing, opened.
 //! - `serving`: a server over the disk on a file.
 //! - `ended`: what the program says of a session.
+//! - `conf`: what is asked of a pf.conf.
+//! - `load`: loads of one into a server.
 ghost use Rattle.std.specs.{Prelude.{◌≡◌, ◌≢◌, ◌≤◌, ◌<◌, ◌^◌, ◌⊎◌, IfErr, IfOk, Result, map, string_bytes}, Io.KnownBytes.Keeps, IoError.error_kind};
 ghost use Rattle.clap.specs.Words.{kind_of, subcommand_of};
 ghost use Rattle.pfd_files.specs.declared.fault.Fault.{Fault};
@@ -11,15 +13,19 @@ ghost use Rattle.pf_book.specs.Books.{IsNamed};
 ghost use Rattle.pfd_words.specs.Words.{IsPlainRun, HasHistory, IsAsked, IsHistory, program_words};
 ghost use Rattle.pfd.specs.Program.{IsDone, IsDeviceRun, IsMemoryRun, IsProgramRun, ServesFrom, status_of, status_without_words};
 
+mod conf;
 mod ended;
 mod fresh;
+mod load;
 mod serving;
 mod streams;
 
 use crate::client::connect;
 use crate::fullness::gauge::{Gauge, tell_fullness};
+use crate::program::conf::answer;
 use crate::program::ended::told;
 use crate::program::fresh::open_memory;
+use crate::program::load::load_file;
 use crate::program::serving::serve_file;
 use crate::program::streams::hold_streams;
 use clap::Error;
@@ -136,14 +142,18 @@ fn perform<
         Task::Show { path } => show_file(alloc, files, path, writer),
         Task::Serve(service) => serve_file(machine, alloc, files, &service, writer, faults),
         Task::Connect { address } => told(connect(machine, alloc, address, reader, writer)),
+        Task::Conf(task) => answer(alloc, files, &task, writer, faults),
+        Task::Load(task) => load_file(machine, alloc, files, &task, writer, faults),
     }
 }
 
-// Says in one line what failed. Where that can't be written there is nowhere else to say it.
+// Says in one line what failed, unless that was told. Where it can't be written there is nowhere else to say it.
 fn fail<F: Write>(fault: Fault, faults: &mut F) -> u8
     ensures { result ≡ 1 }
 {
-    let _ = writeln!(faults, "pfd: {fault}");
+    if fault != Fault::Told {
+        let _ = writeln!(faults, "pfd: {fault}");
+    }
     let _ = faults.flush();
     1
 }
@@ -211,6 +221,16 @@ fn explain<W: Write, F: Write>(error: &Error, writer: &mut W, faults: &mut F) ->
 /// there are any, no other address takes one. A connection on which nothing came for so many seconds is closed behind its last reply, and
 /// so is one that took nothing of its replies for so long; with 0, or without the word, none is.
 /// `pfd connect ADDR` sends what the reader gives to such a server, and writes what it answers.
+///
+/// `pfd check FILE [--lenient] [--anchor PATH]` writes what the pf.conf in the file means: the rules of each ruleset and the tables that are
+/// filled. `pfd test FILE CASES .. [--lenient] [--tap] [--junit FILE]` judges the packets of the cases in these files by it, and writes each
+/// that has another verdict than is wanted. `pfd cover FILE CASES .. [--lenient]` writes the rules that decide no case, `pfd explain FILE
+/// PACKET [--lenient]` those that match the packet. What is wrong with a file, and what is noted of it, goes to the faults. The status is 1
+/// also if a case has another verdict, or a rule decides none.
+///
+/// `pfd load FILE [--to ADDR] [--anchor PATH] [--lenient] [--dry-run] [--retry N]` loads such a file into a server: all that it means in one
+/// commit, or nothing of it, and writes the server's reply, or with `--dry-run` what would change. A line that the server refuses goes to the
+/// faults with the reply, and the status is then 1. If somebody else began on one of its rulesets meanwhile it begins anew, N times at most.
 ///
 /// A session on a file and a server say on the faults how full the disk is, in a line, once more than seven eighths of its half are used:
 /// as they begin, and a server again as that rises. They say it once for each hundredth, until no more than three quarters were used.

@@ -40,6 +40,9 @@ pub enum Fault {
     /// A write or a flush of the output failed.
     #[error("output")]
     Output,
+    /// What is wrong was told already, in lines of its own.
+    #[error("told")]
+    Told,
 }
 
 impl From<OpenFault> for Fault {

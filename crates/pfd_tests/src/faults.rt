@@ -14,6 +14,7 @@ const TEXTS: &[(Fault, &str)] = &[
     (Fault::Places, "places"),
     (Fault::Input, "input"),
     (Fault::Output, "output"),
+    (Fault::Told, "told"),
 ];
 
 #[test]

@@ -4,7 +4,9 @@ use Rattle.std.specs.{Prelude.{option_map, unwrap_or}, Str.Parse.ParsesUnsigned}
 use Rattle.clap.specs.Words.{ReadsOne, Row, Text, is_simple, subcommand_of, takes}
 use Rattle.clap.proofs.OnLiterals.{clap_on_literals}
 use Rattle.clap.specs.declared.error.kind.ErrorKind.{ErrorKind, TheVariants.OutOfMemory}
-use Rattle.pfd_words.specs.declared.words.{Task.Task, Task.TheVariants.{Run, RunOn, Format, Show, Serve, Connect}, TheConstants.{MEMORY_SIZE, HISTORY_LIMIT}}
+use Rattle.pfd_words.specs.declared.words.{Task.Task, Task.TheVariants.{Run, RunOn, Format, Show, Serve, Connect, Conf, Load}, TheConstants.{MEMORY_SIZE, HISTORY_LIMIT}}
+use Rattle.pfd_words.specs.declared.conf.{Question.Question, Question.TheVariants.{Meaning, Outcomes, Coverage, Matches}}
+use Rattle.pfd_words.specs.Conf.{AsksQuestion}
 use Rattle.pfd_words.specs.Words.{IsAsked, IsPlainRun, IsRefused, IsRefusedMode, MaySayNumber, SaysNumber, plain_run, program_words}
 
 -- ---- `pfd run`
@@ -34,6 +36,13 @@ apart m n less same = omega arith
 no_some : (text : Text) → None ≡ Some text → ⊥
 no_some text is = cc (is)
 
+-- nothing is asked of a pf.conf
+no_question : (q : Question) → AsksQuestion (Some (codes "run", [])) q → ⊥
+no_question (Meaning anchor) asked = apart 99 114 (lit< tt) (first_bytes (codes "check") asked.0)
+no_question (Outcomes cases tap junit) asked = apart 114 116 (lit< tt) (sym (first_bytes (codes "test") asked.0))
+no_question (Coverage cases) asked = apart 99 114 (lit< tt) (first_bytes (codes "cover") asked.0)
+no_question (Matches packet) asked = apart 101 114 (lit< tt) (first_bytes (codes "explain") asked.0)
+
 pub is_run : (task : Task) → IsAsked (Some (codes "run", [])) task → task ≡ Run MEMORY_SIZE HISTORY_LIMIT
 is_run (Run size history) asked = ap₂ Run asked.1 asked.2
 is_run (RunOn path size history) asked = absurd (no_some path.now asked.0)
@@ -41,6 +50,8 @@ is_run (Format path size) asked = absurd (apart 102 114 (lit< tt) (first_bytes (
 is_run (Show path) asked = absurd (apart 114 115 (lit< tt) (sym (first_bytes (codes "show") asked.0)))
 is_run (Serve service) asked = absurd (apart 114 115 (lit< tt) (sym (first_bytes (codes "serve") asked.0)))
 is_run (Connect address) asked = absurd (apart 99 114 (lit< tt) (first_bytes (codes "connect") asked.0))
+is_run (Conf task) asked = absurd (no_question task.question asked.question)
+is_run (Load task) asked = absurd (apart 108 114 (lit< tt) (first_bytes (codes "load") asked.word))
 
 pub alone : (words : List Text) (task : Task) → IsPlainRun words → IsAsked (subcommand_of program_words words) task → task ≡ plain_run
 alone words task is asked =

@@ -1,10 +1,11 @@
 -- The program's command line, as clap reads it, and what it asks for.
 use Rattle.std.specs.{Prelude.{◌≡◌, ◌≤◌, ℕ, true, ◌⊎◌, List, [], ◌∷◌, IsSomeAnd, MatchOption, Option, Some, None, codes, map, option_and_then, option_map, pos, unwrap_or}, Str.Parse.{IsNumeral, digits_value, without_leading_plus}}
-use Rattle.clap.specs.{Simple.on_top, Words.{App, Row, Rule, Text, new_app, all_of, new_rule, one_of, first_of, with_rule, with_subcommand}}
+use Rattle.clap.specs.{Simple.on_top, Words.{App, Row, Rule, Text, new_app, new_rule, one_of, with_rule, with_subcommand}}
 use Rattle.clap.specs.declared.builder.action.ArgAction.TheVariants.{Append}
 use Rattle.clap.specs.declared.builder.value_parser.ValueParser.TheVariants.{Signed}
 use Rattle.clap.specs.declared.error.kind.ErrorKind.{ErrorKind, TheVariants.{OutOfMemory, ValueValidation}}
-use Rattle.pfd_words.specs.declared.words.{Service.Service, Task.Task, Task.TheVariants.{Run, RunOn, Format, Show, Serve, Connect}, TheConstants.{MEMORY_SIZE, HISTORY_LIMIT, MOST_HISTORY, WORKERS, MOST_WORKERS, OWNER_MODE, MOST_MODE}}
+use Rattle.pfd_words.specs.{Options.{text_in, SaysText, MaySayText, SaysTexts, SaysFlag}, Conf.{IsWord, AsksConf, flag_rule, text_rule, conf_words, check_words, test_words, cover_words, explain_words}}
+use Rattle.pfd_words.specs.declared.words.{Service.Service, Task.Task, LoadTask.LoadTask, Task.TheVariants.{Run, RunOn, Format, Show, Serve, Connect, Conf, Load}, TheConstants.{MEMORY_SIZE, HISTORY_LIMIT, MOST_HISTORY, WORKERS, MOST_WORKERS, OWNER_MODE, MOST_MODE}}
 
 -- ---- the subcommands and their options
 
@@ -77,18 +78,35 @@ serve_words = with_rule (with_rule asking_words peers_rule) (mode_rule (codes "p
 abbrev pub connect_words : App
 connect_words = with_rule (new_app (codes "connect")) (record (new_rule (codes "address")) { value_names = 1; required = true })
 
--- One of the five subcommands must be there. Help and the version may be asked for.
-abbrev pub program_words : App
-program_words =
+-- the subcommands of sessions, disks and servers
+abbrev pub to_rule : Rule
+to_rule = text_rule (codes "to")
+
+abbrev pub retry_rule : Rule
+retry_rule = number_rule (codes "retry") 0 4294967295
+
+abbrev pub placed_words : App
+placed_words = with_rule (with_rule (conf_words (codes "load")) to_rule) (text_rule (codes "anchor"))
+
+abbrev pub load_words : App
+load_words = with_rule (with_rule placed_words (flag_rule (codes "dry-run"))) retry_rule
+
+abbrev pub engine_words : App
+engine_words =
     with_subcommand (with_subcommand (with_subcommand (with_subcommand (with_subcommand
     (on_top (λ s. record s { has_version = true; subcommand_required = true }) (new_app (codes "pfd")))
     run_words.top) format_words.top) show_words.top) serve_words.top) connect_words.top
 
--- ---- what a command line asks for. `met` is the subcommand that clap found, with its options
+-- with those that ask something of a pf.conf
+abbrev pub reading_words : App
+reading_words =
+    with_subcommand (with_subcommand (with_subcommand (with_subcommand engine_words check_words.top) test_words.top) cover_words.top) explain_words.top
 
--- the text of an option of the subcommand
-abbrev pub text_in : Text → Option (Text × List Row) → Option Text
-text_in id met = option_and_then (λ m. first_of id m.1) met
+-- One of these must be there. Help and the version may be asked for.
+abbrev pub program_words : App
+program_words = with_subcommand reading_words load_words.top
+
+-- ---- what a command line asks for. `met` is the subcommand that clap found, with its options
 
 -- the text that an option's number is read from
 abbrev pub digits_in : Text → Option (Text × List Row) → Option Text
@@ -117,10 +135,6 @@ MaySaySize met n = MaySayNumber 0 4294967295 (digits_in (codes "size") met) n
 abbrev pub SaysHistory : Option (Text × List Row) → ℕ → Type 0
 SaysHistory met n = SaysNumber 1 MOST_HISTORY HISTORY_LIMIT (digits_in (codes "history") met) n
 
--- the text of an option that must be there
-abbrev pub SaysText : Text → Option (Text × List Row) → Text → Type 0
-SaysText id met text = text ≡ unwrap_or (text_in id met) []
-
 abbrev pub SaysPath : Option (Text × List Row) → Text → Type 0
 SaysPath met path = SaysText (codes "disk") met path
 
@@ -132,10 +146,6 @@ SaysSessions met n = SaysNumber 0 4294967295 0 (digits_in (codes "sessions") met
 
 abbrev pub SaysIdle : Option (Text × List Row) → ℕ → Type 0
 SaysIdle met n = SaysNumber 0 4294967295 0 (digits_in (codes "idle") met) n
-
--- the texts of an option that may be said again, in their order
-abbrev pub SaysTexts : Text → Option (Text × List Row) → List Text → Type 0
-SaysTexts id met texts = texts ≡ unwrap_or (option_and_then (λ m. all_of id m.1) met) []
 
 -- a text is the mode of a file in octal digits, as chmod(1) has it, and says no more than who may read, write and search
 pub record IsMode (text : Text) (mode : ℕ) : Type 0 where
@@ -173,6 +183,23 @@ pub record AsksService (met : Option (Text × List Row)) (service : Service) : T
   pub sessions : SaysSessions met service.sessions
   pub idle : SaysIdle met service.idle
 
+abbrev pub SaysRetries : Option (Text × List Row) → ℕ → Type 0
+SaysRetries met n = SaysNumber 0 4294967295 0 (digits_in (codes "retry") met) n
+
+-- the address of the server that a file is loaded into: where the unit and the script for rc(8) have it, if nothing else is said
+abbrev pub SaysServer : Option (Text × List Row) → Text → Type 0
+SaysServer met to = to ≡ unwrap_or (text_in (codes "to") met) (codes "/var/run/pfd/pfd.sock")
+
+-- what `load` asks for
+pub record AsksLoad (met : Option (Text × List Row)) (task : LoadTask) : Type 0 where
+  pub word : IsWord (codes "load") met
+  pub path : SaysText (codes "file") met task.path.now
+  pub lenient : SaysFlag (codes "lenient") met task.is_lenient
+  pub anchor : MaySayText (codes "anchor") met task.anchor
+  pub to : SaysServer met task.to.now
+  pub retries : SaysRetries met task.retries
+  pub dry : SaysFlag (codes "dry-run") met task.is_dry
+
 -- The task is what the subcommand and its options ask for. Without `--disk` a session is in memory.
 abbrev pub IsAsked : Option (Text × List Row) → Task → Type 0
 IsAsked met (Run size history) = (text_in (codes "disk") met ≡ None) × SaysSize met MEMORY_SIZE size × SaysHistory met history
@@ -181,6 +208,8 @@ IsAsked met (Format path size) = (option_map (λ m. m.0) met ≡ Some (codes "fo
 IsAsked met (Show path) = (option_map (λ m. m.0) met ≡ Some (codes "show")) × SaysPath met path.now
 IsAsked met (Serve service) = (option_map (λ m. m.0) met ≡ Some (codes "serve")) × AsksService met service
 IsAsked met (Connect address) = (option_map (λ m. m.0) met ≡ Some (codes "connect")) × SaysText (codes "address") met address.now
+IsAsked met (Conf task) = AsksConf met task
+IsAsked met (Load task) = AsksLoad met task
 
 -- the words are the program's name, whatever it is, and `run`
 abbrev pub IsPlainRun : List Text → Type 0
@@ -213,3 +242,5 @@ HasHistory (Format path size) = Unit {0}
 HasHistory (Show path) = Unit {0}
 HasHistory (Serve service) = CanServe service
 HasHistory (Connect address) = Unit {0}
+HasHistory (Conf task) = Unit {0}
+HasHistory (Load task) = Unit {0}

@@ -1,9 +1,14 @@
 //! The subcommands with their options, as clap's commands, and the task that a command line asks for.
 ghost use Rattle.std.specs.Prelude.{◌≡◌, ◌≤◌, IfErr, IfOk, List, MatchOption, ℕ, Some, [], codes, false, map, option_map, string_bytes, true, unwrap_or};
-ghost use Rattle.clap.specs.Words.{all_of, app_of, found_of, kind_of, one_of, first_of, rows_of, rule_of, subcommand_of, subcommand_rows_of, takes};
+ghost use Rattle.clap.specs.Words.{app_of, found_of, kind_of, one_of, first_of, rows_of, rule_of, subcommand_of, subcommand_rows_of, takes};
 ghost use Rattle.clap.specs.declared.builder.command.Command.TheViews.{out-Command};
-ghost use Rattle.pfd_words.specs.Words.{IsPlainRun, plain_run, HasHistory, IsAsked, IsMode, IsNoMode, IsRefused, IsRefusedMode, MaySayNumber, SaysMode, SaysNumber, disk_rule, history_rule, size_rule, listen_rule, workers_rule, sessions_rule, idle_rule, mode_rule, peers_rule, ask_rule, run_words, format_words, show_words, place_words, server_words, bounded_words, limited_words, asking_words, serve_words, connect_words, program_words};
+ghost use Rattle.pfd_words.specs.Words.{IsPlainRun, plain_run, HasHistory, IsAsked, IsMode, IsNoMode, IsRefused, IsRefusedMode, MaySayNumber, SaysMode, SaysNumber, disk_rule, history_rule, size_rule, listen_rule, workers_rule, sessions_rule, idle_rule, mode_rule, peers_rule, ask_rule, run_words, format_words, show_words, place_words, server_words, bounded_words, limited_words, asking_words, serve_words, connect_words, engine_words, to_rule, retry_rule, placed_words, load_words, AsksLoad, reading_words, program_words};
 
+use crate::conf::{
+    ConfTask, check_words, conf_words, cover_words, coverage_in, explain_words, matches_in,
+    meaning_in, outcomes_in, test_words,
+};
+use crate::options::{is_said, text_if_any, text_in, texts_in};
 use clap::error::ErrorKind;
 use clap::{Arg, ArgAction, ArgMatches, Command, Error, value_parser};
 use std::alloc::{AllocError, Global};
@@ -33,6 +38,9 @@ const OWNER_MODE: u32 = 0o600;
 
 // The greatest mode of a socket's file. Definitions cite it.
 const MOST_MODE: u32 = 0o777;
+
+// The greatest number that `--retry` can say.
+const MOST_RETRIES: usize = 4_294_967_295;
 
 /// The program's version, which `pfd --version` writes after its name.
 const VERSION: &str = "0.1.0";
@@ -66,6 +74,23 @@ pub struct Service<'a> {
     pub idle: u32,
 }
 
+/// What `load` asks for: a pf.conf, and a server that it is loaded into.
+#[derive(Debug, PartialEq, Eq, Drop)]
+pub struct LoadTask<'a> {
+    /// The path of the file; `-` is standard input.
+    pub path: &'a str,
+    /// Whether what isn't there is left out of it with a note.
+    pub is_lenient: bool,
+    /// The path from which on its rulesets are, if one is named. It is as it was typed: it may not be one.
+    pub anchor: Option<&'a str>,
+    /// The server's address, as it was typed.
+    pub to: &'a str,
+    /// How often it is begun anew if somebody else began meanwhile.
+    pub retries: u32,
+    /// Whether it is only shown what would change.
+    pub is_dry: bool,
+}
+
 /// What a command line asks for. A `history` is 1 to 1,048,576 changes; a `size` is in bytes, any number up to 4,294,967,295.
 #[derive(Debug, PartialEq, Eq, Drop)]
 pub enum Task<'a> {
@@ -95,6 +120,10 @@ pub enum Task<'a> {
     Connect {
         address: &'a str,
     },
+    /// Answers something of a pf.conf.
+    Conf(ConfTask<'a>),
+    /// Loads a pf.conf into a server, in one commit.
+    Load(LoadTask<'a>),
 }
 
 fn disk<'a>(alloc: Global) -> Arg<'a>
@@ -310,8 +339,56 @@ fn connect_words<'a>(alloc: Global) -> Result<Command<'a>, AllocError>
         .arg(address)
 }
 
-fn program_words<'a>(alloc: Global) -> Result<Command<'a>, AllocError>
-    ensures { IfOk result (λ c. app_of c ≡ program_words) }
+fn to<'a>(alloc: Global) -> Arg<'a>
+    ensures rule { rule_of result ≡ to_rule }
+    ensures local { result.global ≡ false }
+{
+    Arg::new(alloc, "to").long("to").value_name("ADDR").help(
+        "The server's address and port, or the path of its socket [default: /var/run/pfd/pfd.sock]",
+    )
+}
+
+fn retry<'a>(alloc: Global) -> Arg<'a>
+    ensures rule { rule_of result ≡ retry_rule }
+    ensures local { result.global ≡ false }
+{
+    Arg::new(alloc, "retry")
+        .long("retry")
+        .value_name("N")
+        .value_parser(value_parser!(u32))
+        .help("Begins anew so many times if somebody else began meanwhile [default: 0]")
+}
+
+// The options of `load`, added two at a time.
+
+fn placed_words<'a>(alloc: Global) -> Result<Command<'a>, AllocError>
+    ensures app { IfOk result (λ c. app_of c ≡ placed_words) }
+    ensures local { IfOk result (λ c. (out-Command c).has_globals ≡ false) }
+{
+    let anchor = Arg::new(alloc, "anchor")
+        .long("anchor")
+        .value_name("PATH")
+        .help("Loads it as the rules of the anchor at this path");
+    conf_words(alloc, "load")?.arg(to(alloc))?.arg(anchor)
+}
+
+fn load_words<'a>(alloc: Global) -> Result<Command<'a>, AllocError>
+    ensures app { IfOk result (λ c. app_of c ≡ load_words) }
+    ensures local { IfOk result (λ c. (out-Command c).has_globals ≡ false) }
+{
+    let dry_run = Arg::new(alloc, "dry-run")
+        .long("dry-run")
+        .action(ArgAction::SetTrue)
+        .help("Shows what would change, and changes nothing");
+    let words = placed_words(alloc)?;
+    words
+        .about("Loads a pf.conf into a server: all of it in one commit, or nothing")
+        .arg(dry_run)?
+        .arg(retry(alloc))
+}
+
+fn engine_words<'a>(alloc: Global) -> Result<Command<'a>, AllocError>
+    ensures { IfOk result (λ c. app_of c ≡ engine_words) }
 {
     Command::new(alloc, "pfd")
         .about("A control plane for rulesets of pf")
@@ -322,6 +399,22 @@ fn program_words<'a>(alloc: Global) -> Result<Command<'a>, AllocError>
         .subcommand(show_words(alloc)?)?
         .subcommand(serve_words(alloc)?)?
         .subcommand(connect_words(alloc)?)
+}
+
+fn reading_words<'a>(alloc: Global) -> Result<Command<'a>, AllocError>
+    ensures { IfOk result (λ c. app_of c ≡ reading_words) }
+{
+    engine_words(alloc)?
+        .subcommand(check_words(alloc)?)?
+        .subcommand(test_words(alloc)?)?
+        .subcommand(cover_words(alloc)?)?
+        .subcommand(explain_words(alloc)?)
+}
+
+fn program_words<'a>(alloc: Global) -> Result<Command<'a>, AllocError>
+    ensures { IfOk result (λ c. app_of c ≡ program_words) }
+{
+    reading_words(alloc)?.subcommand(load_words(alloc)?)
 }
 
 /// Reads a command line, which begins with the program's own name. The error has the text for the user: help, the version, what is wrong
@@ -341,7 +434,7 @@ pub fn read_words<'a>(alloc: Global, words: &'a [String]) -> Result<Task<'a>, Er
     }
 }
 
-// The task of the subcommand that clap found. There always is one, with its required options. Only the addresses of `serve` take memory.
+// The task of the subcommand that clap found. There always is one, with its required options. Only lists of words take memory.
 fn task_of<'a>(alloc: Global, matches: &ArgMatches<'a>) -> Result<Task<'a>, Error>
     ensures asked { IfOk result (λ task. IsAsked (subcommand_rows_of matches.now) task) }
     ensures history { IfOk result HasHistory }
@@ -359,6 +452,11 @@ fn task_of<'a>(alloc: Global, matches: &ArgMatches<'a>) -> Result<Task<'a>, Erro
         Some(("connect", found)) => Ok(Task::Connect {
             address: text_in(found, "address"),
         }),
+        Some(("check", found)) => Ok(Task::Conf(meaning_in(found))),
+        Some(("test", found)) => Ok(Task::Conf(outcomes_in(alloc, found)?)),
+        Some(("cover", found)) => Ok(Task::Conf(coverage_in(alloc, found)?)),
+        Some(("explain", found)) => Ok(Task::Conf(matches_in(alloc, found)?)),
+        Some(("load", found)) => Ok(Task::Load(load_in(found))),
         Some((_, found)) => Ok(session_in(found)),
         None => Ok(Task::Run {
             size: MEMORY_SIZE,
@@ -373,7 +471,7 @@ fn session_in<'a>(found: &ArgMatches<'a>) -> Task<'a>
     ensures history { HasHistory result }
 {
     let history = number_in(found, "history", HISTORY_LIMIT).clamp(1, MOST_HISTORY);
-    match disk_in(found) {
+    match text_if_any(found, "disk") {
         Some(path) => Task::RunOn {
             path,
             size: number_if_any(found, "size"),
@@ -416,18 +514,26 @@ fn server_in<'a>(alloc: Global, found: &ArgMatches<'a>) -> Result<Task<'a>, Erro
     }))
 }
 
-// The texts of an option that may be said again, in their order.
-fn texts_in<'a>(
-    alloc: Global,
-    found: &ArgMatches<'a>,
-    option: &str,
-) -> Result<Vec<&'a str>, AllocError>
-    ensures { IfOk result (λ texts. map (λ s. s.now) texts.items ≡ unwrap_or (all_of option.now (rows_of (found_of found.now))) []) }
+// The task of `load`.
+fn load_in<'a>(found: &ArgMatches<'a>) -> LoadTask<'a>
+    ensures { AsksLoad (Some (codes "load", rows_of (found_of found.now))) result }
 {
-    match found.get_strs(option) {
-        Some(texts) => texts.to_vec(alloc),
-        None => Ok(Vec::new(alloc)),
+    let retries = number_in(found, "retry", 0).min(MOST_RETRIES);
+    LoadTask {
+        path: text_in(found, "file"),
+        is_lenient: is_said(found, "lenient"),
+        anchor: text_if_any(found, "anchor"),
+        to: to_in(found),
+        retries: retries as u32,
+        is_dry: is_said(found, "dry-run"),
     }
+}
+
+// The address that is said, or the one at which the unit and the script for rc(8) have a server.
+fn to_in<'a>(found: &ArgMatches<'a>) -> &'a str
+    ensures { result.now ≡ unwrap_or (first_of (codes "to") (rows_of (found_of found.now))) (codes "/var/run/pfd/pfd.sock") }
+{
+    found.get_str("to").unwrap_or("/var/run/pfd/pfd.sock")
 }
 
 // The mode that an option of `serve` says, or without it the one by which only the owner may connect.
@@ -467,19 +573,6 @@ fn wrong_mode(alloc: Global, option: &str, text: &str) -> Result<Error, AllocErr
     )?;
     let mut command = serve_words(alloc)?.bin_name("pfd serve")?;
     command.error(ErrorKind::ValueValidation, message.as_str())
-}
-
-// The text of an option that must be there.
-fn text_in<'a>(found: &ArgMatches<'a>, option: &str) -> &'a str
-    ensures { result.now ≡ unwrap_or (first_of option.now (rows_of (found_of found.now))) [] }
-{
-    found.get_str(option).unwrap_or("")
-}
-
-fn disk_in<'a>(found: &ArgMatches<'a>) -> Option<&'a str>
-    ensures { option_map (λ s. s.now) result ≡ first_of (codes "disk") (rows_of (found_of found.now)) }
-{
-    found.get_str("disk")
 }
 
 // An option's number, or none if the option isn't there.

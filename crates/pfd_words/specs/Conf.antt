@@ -1,0 +1,68 @@
+-- The subcommands that ask something of a pf.conf, as clap reads them, and what they ask.
+use Rattle.std.specs.Prelude.{◌≡◌, true, List, Option, Some, codes, map, option_map}
+use Rattle.clap.specs.Words.{App, Row, Rule, Text, new_app, new_rule, with_rule}
+use Rattle.clap.specs.declared.builder.action.ArgAction.TheVariants.{SetTrue, Append}
+use Rattle.pfd_words.specs.declared.conf.{ConfTask.ConfTask, Question.Question, Question.TheVariants.{Meaning, Outcomes, Coverage, Matches}}
+use Rattle.pfd_words.specs.Options.{SaysText, MaySayText, SaysTexts, SaysFlag}
+
+-- ---- the subcommands and their options
+
+abbrev pub file_rule : Rule
+file_rule = record (new_rule (codes "file")) { value_names = 1; required = true }
+
+-- an option without a value
+abbrev pub flag_rule : Text → Rule
+flag_rule name = record (new_rule name) { long = Some name; action = Some SetTrue }
+
+abbrev pub lenient_rule : Rule
+lenient_rule = flag_rule (codes "lenient")
+
+-- an option with a text
+abbrev pub text_rule : Text → Rule
+text_rule name = record (new_rule name) { long = Some name; value_names = 1 }
+
+-- one word or more
+abbrev pub several_rule : Text → Rule
+several_rule name = record (new_rule name) { value_names = 1; required = true; action = Some Append }
+
+abbrev pub cases_rule : Rule
+cases_rule = several_rule (codes "cases")
+
+-- a subcommand for a pf.conf, and one for its cases
+abbrev pub conf_words : Text → App
+conf_words name = with_rule (with_rule (new_app name) file_rule) lenient_rule
+
+abbrev pub case_words : Text → App
+case_words name = with_rule (conf_words name) cases_rule
+
+abbrev pub check_words : App
+check_words = with_rule (conf_words (codes "check")) (text_rule (codes "anchor"))
+
+abbrev pub test_words : App
+test_words = with_rule (with_rule (case_words (codes "test")) (flag_rule (codes "tap"))) (text_rule (codes "junit"))
+
+abbrev pub cover_words : App
+cover_words = case_words (codes "cover")
+
+abbrev pub explain_words : App
+explain_words = with_rule (conf_words (codes "explain")) (several_rule (codes "packet"))
+
+-- ---- what they ask. `met` is the subcommand that clap found, with its options
+
+-- the subcommand is this one
+abbrev pub IsWord : Text → Option (Text × List Row) → Type 0
+IsWord name met = option_map (λ m. m.0) met ≡ Some name
+
+abbrev pub AsksQuestion : Option (Text × List Row) → Question → Type 0
+AsksQuestion met (Meaning anchor) = IsWord (codes "check") met × MaySayText (codes "anchor") met anchor
+AsksQuestion met (Outcomes cases tap junit) =
+    IsWord (codes "test") met × SaysTexts (codes "cases") met (map (λ s. s.now) cases.items) × SaysFlag (codes "tap") met tap
+    × MaySayText (codes "junit") met junit
+AsksQuestion met (Coverage cases) = IsWord (codes "cover") met × SaysTexts (codes "cases") met (map (λ s. s.now) cases.items)
+AsksQuestion met (Matches packet) = IsWord (codes "explain") met × SaysTexts (codes "packet") met (map (λ s. s.now) packet.items)
+
+-- what a subcommand asks of a pf.conf
+pub record AsksConf (met : Option (Text × List Row)) (task : ConfTask) : Type 0 where
+  pub path : SaysText (codes "file") met task.path.now
+  pub lenient : SaysFlag (codes "lenient") met task.is_lenient
+  pub question : AsksQuestion met task.question

@@ -1,0 +1,205 @@
+//! The subcommands that ask something of a pf.conf, as clap's commands, and what they ask.
+ghost use Rattle.std.specs.Prelude.{◌≡◌, ℕ, IfOk, List, Some, codes, false};
+ghost use Rattle.clap.specs.Words.{app_of, found_of, rows_of, rule_of};
+ghost use Rattle.clap.specs.declared.builder.command.Command.TheViews.{out-Command};
+ghost use Rattle.pfd_words.specs.{Conf.{file_rule, lenient_rule, cases_rule, conf_words, case_words, check_words, test_words, cover_words, explain_words, AsksConf}, Options.{SaysText, SaysFlag}};
+
+use crate::options::{is_said, text_if_any, text_in, texts_in};
+use clap::{Arg, ArgAction, ArgMatches, Command};
+use std::alloc::{AllocError, Global};
+
+/// What is asked of a pf.conf.
+#[derive(Debug, PartialEq, Eq, Drop)]
+pub enum Question<'a> {
+    /// What it means, read for the rulesets from a path on if one is named. The path is as it was typed: it may not be one.
+    Meaning {
+        anchor: Option<&'a str>,
+    },
+    /// What the cases of these files come to, in TAP if that is asked for; and in JUnit's XML in this file, if one is named.
+    Outcomes {
+        cases: Vec<&'a str>,
+        tap: bool,
+        junit: Option<&'a str>,
+    },
+    /// Which rules decide no case of these files.
+    Coverage {
+        cases: Vec<&'a str>,
+    },
+    /// Which rules match the packet with these words.
+    Matches {
+        packet: Vec<&'a str>,
+    },
+}
+
+/// A pf.conf, and what is asked of it.
+#[derive(Debug, PartialEq, Eq, Drop)]
+pub struct ConfTask<'a> {
+    /// The path of the file; `-` is standard input.
+    pub path: &'a str,
+    /// Whether what isn't there is left out of it with a note.
+    pub is_lenient: bool,
+    pub question: Question<'a>,
+}
+
+fn file<'a>(alloc: Global) -> Arg<'a>
+    ensures rule { rule_of result ≡ file_rule }
+    ensures local { result.global ≡ false }
+{
+    Arg::new(alloc, "file")
+        .value_name("FILE")
+        .required(true)
+        .help("The pf.conf; - is standard input")
+}
+
+fn lenient<'a>(alloc: Global) -> Arg<'a>
+    ensures rule { rule_of result ≡ lenient_rule }
+    ensures local { result.global ≡ false }
+{
+    Arg::new(alloc, "lenient")
+        .long("lenient")
+        .action(ArgAction::SetTrue)
+        .help("Leaves out what isn't there and changes no verdict, with a note")
+}
+
+fn cases<'a>(alloc: Global) -> Arg<'a>
+    ensures rule { rule_of result ≡ cases_rule }
+    ensures local { result.global ≡ false }
+{
+    Arg::new(alloc, "cases")
+        .value_name("CASES")
+        .required(true)
+        .action(ArgAction::Append)
+        .help("Files of cases, each a line PACKET -> VERDICT")
+}
+
+// The options of a subcommand, added two at a time.
+
+/// A subcommand of this name that asks something of a pf.conf.
+pub(crate) fn conf_words<'a>(alloc: Global, name: &'a str) -> Result<Command<'a>, AllocError>
+    ensures app { IfOk result (λ c. app_of c ≡ conf_words name.now) }
+    ensures local { IfOk result (λ c. (out-Command c).has_globals ≡ false) }
+{
+    Command::new(alloc, name)
+        .arg(file(alloc))?
+        .arg(lenient(alloc))
+}
+
+/// The same of what its cases come to.
+fn case_words<'a>(alloc: Global, name: &'a str) -> Result<Command<'a>, AllocError>
+    ensures app { IfOk result (λ c. app_of c ≡ case_words name.now) }
+    ensures local { IfOk result (λ c. (out-Command c).has_globals ≡ false) }
+{
+    conf_words(alloc, name)?.arg(cases(alloc))
+}
+
+pub(crate) fn check_words<'a>(alloc: Global) -> Result<Command<'a>, AllocError>
+    ensures app { IfOk result (λ c. app_of c ≡ check_words) }
+    ensures local { IfOk result (λ c. (out-Command c).has_globals ≡ false) }
+{
+    let anchor = Arg::new(alloc, "anchor")
+        .long("anchor")
+        .value_name("PATH")
+        .help("Reads it as the rules of the anchor at this path");
+    let words = conf_words(alloc, "check")?;
+    words
+        .about("Shows what a pf.conf means, or what is wrong with it")
+        .arg(anchor)
+}
+
+pub(crate) fn test_words<'a>(alloc: Global) -> Result<Command<'a>, AllocError>
+    ensures app { IfOk result (λ c. app_of c ≡ test_words) }
+    ensures local { IfOk result (λ c. (out-Command c).has_globals ≡ false) }
+{
+    let tap = Arg::new(alloc, "tap")
+        .long("tap")
+        .action(ArgAction::SetTrue)
+        .help("Writes the outcomes in TAP");
+    let junit = Arg::new(alloc, "junit")
+        .long("junit")
+        .value_name("FILE")
+        .help("Writes the outcomes to this file too, in JUnit's XML");
+    let words = case_words(alloc, "test")?;
+    words
+        .about("Judges the packets of cases by a pf.conf, and shows each verdict that differs")
+        .arg(tap)?
+        .arg(junit)
+}
+
+pub(crate) fn cover_words<'a>(alloc: Global) -> Result<Command<'a>, AllocError>
+    ensures app { IfOk result (λ c. app_of c ≡ cover_words) }
+    ensures local { IfOk result (λ c. (out-Command c).has_globals ≡ false) }
+{
+    let words = case_words(alloc, "cover")?;
+    Ok(words.about("Shows the rules of a pf.conf that decide no case"))
+}
+
+pub(crate) fn explain_words<'a>(alloc: Global) -> Result<Command<'a>, AllocError>
+    ensures app { IfOk result (λ c. app_of c ≡ explain_words) }
+    ensures local { IfOk result (λ c. (out-Command c).has_globals ≡ false) }
+{
+    let packet = Arg::new(alloc, "packet")
+        .value_name("PACKET")
+        .required(true)
+        .action(ArgAction::Append)
+        .help("As in em0 tcp 198.51.100.9 40000 192.0.2.1 80");
+    let words = conf_words(alloc, "explain")?;
+    words
+        .about("Shows the rules of a pf.conf that match a packet, and the verdict")
+        .arg(packet)
+}
+
+/// The pf.conf that a subcommand names, and this question of it.
+fn asked<'a>(found: &ArgMatches<'a>, question: Question<'a>) -> ConfTask<'a>
+    ensures path { (name : List ℕ) → SaysText (codes "file") (Some (name, rows_of (found_of found.now))) result.path.now }
+    ensures lenient { (name : List ℕ) → SaysFlag (codes "lenient") (Some (name, rows_of (found_of found.now))) result.is_lenient }
+    ensures question { result.question ≡ question.entry }
+{
+    ConfTask {
+        path: text_in(found, "file"),
+        is_lenient: is_said(found, "lenient"),
+        question,
+    }
+}
+
+/// The task of `check`.
+pub(crate) fn meaning_in<'a>(found: &ArgMatches<'a>) -> ConfTask<'a>
+    ensures { AsksConf (Some (codes "check", rows_of (found_of found.now))) result }
+{
+    let anchor = text_if_any(found, "anchor");
+    asked(found, Question::Meaning { anchor })
+}
+
+/// The task of `test`.
+pub(crate) fn outcomes_in<'a>(
+    alloc: Global,
+    found: &ArgMatches<'a>,
+) -> Result<ConfTask<'a>, AllocError>
+    ensures { IfOk result (AsksConf (Some (codes "test", rows_of (found_of found.now)))) }
+{
+    let cases = texts_in(alloc, found, "cases")?;
+    let tap = is_said(found, "tap");
+    let junit = text_if_any(found, "junit");
+    Ok(asked(found, Question::Outcomes { cases, tap, junit }))
+}
+
+/// The task of `cover`.
+pub(crate) fn coverage_in<'a>(
+    alloc: Global,
+    found: &ArgMatches<'a>,
+) -> Result<ConfTask<'a>, AllocError>
+    ensures { IfOk result (AsksConf (Some (codes "cover", rows_of (found_of found.now)))) }
+{
+    let cases = texts_in(alloc, found, "cases")?;
+    Ok(asked(found, Question::Coverage { cases }))
+}
+
+/// The task of `explain`.
+pub(crate) fn matches_in<'a>(
+    alloc: Global,
+    found: &ArgMatches<'a>,
+) -> Result<ConfTask<'a>, AllocError>
+    ensures { IfOk result (AsksConf (Some (codes "explain", rows_of (found_of found.now)))) }
+{
+    let packet = texts_in(alloc, found, "packet")?;
+    Ok(asked(found, Question::Matches { packet }))
+}
