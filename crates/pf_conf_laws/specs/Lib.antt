@@ -1,0 +1,5 @@
+pub mod Types
+pub mod Lists
+pub mod Commits
+pub mod Loads
+pub mod Turns

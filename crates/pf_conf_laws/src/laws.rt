@@ -1,0 +1,61 @@
+//! Laws of a pf.conf. Each function does nothing; its contract is what is proved.
+ghost use Rattle.std.specs.Prelude.{◌≡◌, ◌+◌, List, ℕ, Ok, length, count_by};
+ghost use Rattle.pf_rule.specs.Rules.{PlainRule};
+ghost use Rattle.pf_lists.specs.{Product.{Word, spelled, count}, Multiplied.{is_left_out, multiplied}};
+ghost use Rattle.pf_tokens.specs.declared.files.File.{File};
+ghost use Rattle.pf_parse.specs.declared.parser.Mode.{Mode};
+ghost use Rattle.pf_parse.specs.{Lists.{interface, protocol, port, listed_item, listed_hosts, hosts_in, item_more}, Options.options_more, Lines.{parts_more, lines_more}};
+ghost use Rattle.pf_conf.specs.declared.found.Conf.{Conf};
+ghost use Rattle.pf_conf.specs.Resolving.{resolved};
+ghost use Rattle.pf_conf_laws.specs.{Types.{Start, Tests}, Lists.{left_of, AreReadAs, HaveOneItem, IsOne}, Commits.{AreOnce, HasRoom}, Loads.{MoreLoadsChangeNothing, NoLoadWaits}, Turns.TurnsSuffice};
+
+use pf_lists::{rules_are_counted, ways_have_numbers};
+
+/// Lists stand for the rules that pf_rule reads of their ways, in order, but for the ways that are left out since their families differ. So
+/// there are as many rules as the lists' lengths multiplied, less those ways.
+pub fn rules_are_the_ways_that_are_left()
+    ensures read { (lists : List (List (List Word))) (rules : List PlainRule) → multiplied lists ≡ Ok rules →
+        AreReadAs (left_of (spelled lists)) rules }
+    ensures counted { (lists : List (List (List Word))) (rules : List PlainRule) → multiplied lists ≡ Ok rules →
+        length rules + count_by is_left_out (spelled lists) ≡ count lists }
+{
+    rules_are_counted();
+    ways_have_numbers();
+}
+
+/// A rule that is written without lists is one rule, if it isn't refused.
+pub fn a_rule_without_lists_is_one_rule()
+    ensures { (lists : List (List (List Word))) (rules : List PlainRule) → HaveOneItem lists → multiplied lists ≡ Ok rules → IsOne rules }
+{
+    rules_are_counted();
+    ways_have_numbers();
+}
+
+/// Of what a file means, with all that it loads, no table is filled twice.
+pub fn tables_are_filled_once()
+    ensures { (files : List File) (mode : Mode) (base name : List ℕ) (c : Conf) → resolved files mode base name ≡ Ok c → AreOnce c.tables }
+{}
+
+/// One commit has room for all that a file means: the rules of each path and the tables of each path are 64 rulesets at most, and one line
+/// of 4,096 bytes names them with any tickets.
+pub fn one_commit_has_room()
+    ensures { (files : List File) (mode : Mode) (base name : List ℕ) (c : Conf) → resolved files mode base name ≡ Ok c → HasRoom c }
+{}
+
+/// All files that are mentioned by `load anchor` are read, if no fault is told: there are fewer of them than files that may be read.
+pub fn all_loads_are_read()
+    ensures more { MoreLoadsChangeNothing }
+    ensures none { NoLoadWaits }
+{}
+
+/// The turns that a reader is given suffice, whatever it reads: of the lines of a file, of a table's parts, of a rule's options, and of lists of
+/// interfaces, of protocols, of ports and of hosts.
+pub fn more_turns_change_nothing()
+    ensures lines { TurnsSuffice lines_more }
+    ensures parts { TurnsSuffice parts_more }
+    ensures options { (start : Start) (tests : Tests) → TurnsSuffice (options_more start tests) }
+    ensures interfaces { TurnsSuffice (item_more (listed_item interface)) }
+    ensures protocols { TurnsSuffice (item_more (listed_item protocol)) }
+    ensures ports { TurnsSuffice (item_more (listed_item port)) }
+    ensures hosts { (deep : ℕ) → TurnsSuffice (item_more (listed_hosts (hosts_in deep))) }
+{}

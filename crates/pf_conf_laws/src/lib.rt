@@ -1,0 +1,15 @@
+//! What follows from the definitions of a pf.conf: functions that do nothing, whose contracts are the laws.
+//!
+//! What a file means is defined in pf_tokens, pf_lists, pf_parse and pf_conf, whose functions are proved to give it. The laws here say what a
+//! user may count on, whatever a file has: which rules lists stand for, that a table is filled once and that one commit has room for all, that
+//! each file is read that is loaded, and that no reader runs out of turns.
+//!
+//! Read `src/laws.rt` first, then `specs/Lists.antt`, `specs/Commits.antt`, `specs/Loads.antt` and `specs/Turns.antt`.
+#![tactic(auto)]
+
+mod laws;
+
+pub use laws::{
+    a_rule_without_lists_is_one_rule, all_loads_are_read, more_turns_change_nothing,
+    one_commit_has_room, rules_are_the_ways_that_are_left, tables_are_filled_once,
+};
