@@ -4,3 +4,6 @@ pub mod Readings
 pub mod Loads
 pub mod Walks
 pub mod Turns
+pub mod Spelled
+pub mod Yields
+pub mod Words

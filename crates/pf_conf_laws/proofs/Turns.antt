@@ -15,10 +15,10 @@ use Rattle.pf_parse.specs.Reading.{Word, Reads, giving, ◌>=>◌, refusing, loo
 use Rattle.pf_parse.specs.Lists.{looking_at, begin_list, list_goes_on, item_more, list, one, no_list, listed_item, table_name, not_negated, interface, protocol, operator, compared, ranged, port_by, port, named_host, net_host, other_host, host, not_any, listed_hosts, hosts_in, host_list}
 use Rattle.pf_parse.specs.Options.{is_anchor, state, label, flags, queue, tag, priority, unexpected_option, left_out_option, option, is_state, ends_options, options_more}
 use Rattle.pf_parse.specs.Openings.{block_policy}
-use Rattle.pf_parse.specs.Anchors.{enter, keep_rule, named_anchor, anchor, close_braces}
-use Rattle.pf_parse.specs.Lines.{is_left_out_of_table, is_rule, rule_of, keep_table, keep_load, keep_skip, skip_one, order_matters, rule, listed, table_part, parts_more, table, load, set_line, is_left_out_line, left_out_line, no_line, rule_or_anchor, filtering, line, line_in_braces, any_line, lines_more}
+use Rattle.pf_parse.specs.Anchors.{enter, shallow, own_name, keep_rule, named_anchor, anchor, close_braces}
+use Rattle.pf_parse.specs.Lines.{is_left_out_of_table, is_rule, rule_of, keep_table, keep_load, keep_skip, skip_one, skip_each, skip, order_matters, rule, listed, table_part, parts_more, table, load, set_line, is_left_out_line, left_out_line, no_line, rule_or_anchor, filtering, line, line_in_braces, any_line, lines_more}
 use Rattle.pf_conf_laws.specs.{Types.{Start, Tests, Options, Rank, Operator, Host}, Turns.TurnsSuffice}
-use Rattle.pf_conf_laws.proofs.Walks.{Walk, Walks, After, Basics, Rules, steps, walks_address, walks_anchor_behind, walks_begin_list, walks_between, walks_block_policy, walks_braces_or_line, walks_direction, walks_end_line, walks_expect_symbol, walks_expect_word, walks_from, walks_giving, walks_if, walks_keep_load, walks_keep_table, walks_kept, walks_label_of, walks_leave_braces, walks_leave_out, walks_left_out_line, walks_list_goes_on, walks_loaded_file, walks_loaded_path, walks_log_and_quick, walks_look, walks_name_in_angles, walks_named_priority, walks_newlines, walks_no_list, walks_no_range, walks_not_any, walks_not_negated, walks_noted_group, walks_once, walks_operator, walks_priority_value, walks_queue_name, walks_refusing, walks_repeating, walks_set_option, walks_setting, walks_skip_string, walks_string, walks_table_parts, walks_takes_symbol, walks_takes_word, walks_tests_and_options, walks_then, walks_token, walks_unexpected, walks_written_flags}
+use Rattle.pf_conf_laws.proofs.Walks.{Walk, Walks, After, Basics, Rules, steps, walks_address, walks_begin_list, walks_between, walks_block_policy, walks_braces_or_line, walks_direction, walks_end_line, walks_expect_symbol, walks_expect_word, walks_from, walks_giving, walks_if, walks_in_main, walks_interfaces, walks_keep_load, walks_keep_table, walks_kept, walks_label_of, walks_leave_braces, walks_leave_out, walks_left_out_line, walks_list_goes_on, walks_loaded_file, walks_loaded_path, walks_log_and_quick, walks_look, walks_name_in_angles, walks_named_priority, walks_newlines, walks_no_list, walks_no_range, walks_not_any, walks_not_negated, walks_noted_group, walks_once, walks_operator, walks_own_name, walks_priority_value, walks_queue_name, walks_refusing, walks_repeating, walks_set_option, walks_setting, walks_shallow, walks_skip_string, walks_string, walks_table_parts, walks_takes_symbol, walks_takes_word, walks_tests_and_options, walks_then, walks_token, walks_unexpected, walks_written_flags}
 
 -- ---- no token is given back
 
@@ -83,26 +83,47 @@ skip_kept : (p : Product) → Walks shorter (keep_skip p)
 unfolding keep_skip
 skip_kept p = record { walks = λ s. same_left (length s.left) }
 
-rule_shorter : (start : Start) (first : Word) (p : Place) → Walks shorter (rule_of start first p)
+rule_of_shorter : (start : Start) (first : Word) (p : Place) → Walks shorter (rule_of start first p)
 unfolding rule_of
-rule_shorter start first p = search (steps, basics, walks_direction, walks_log_and_quick, walks_tests_and_options, rule_kept) depth 12
+rule_of_shorter start first p = search (steps, basics, walks_direction, walks_log_and_quick, walks_tests_and_options, rule_kept) depth 12
 
-anchor_shorter : (p : Place) (depth : ℕ) (name : Option Token) → Walks shorter (named_anchor p depth name)
+named_anchor_shorter : (p : Place) (depth : ℕ) (name : Option Token) → Walks shorter (named_anchor p depth name)
 unfolding named_anchor
-anchor_shorter p depth name = search (steps, basics, walks_direction, walks_tests_and_options, walks_braces_or_line, rule_kept) depth 12
-
-skip_shorter : (t : Token) → Walks shorter (skip_one t)
-unfolding skip_one
-skip_shorter t = search (steps, basics, skip_kept)
-
-rules : Rules shorter
-rules = record { rule_read = rule_shorter; anchor_read = anchor_shorter; skip_read = skip_shorter }
+named_anchor_shorter p depth name = search (steps, basics, walks_direction, walks_tests_and_options, walks_braces_or_line, rule_kept) depth 12
 
 on : {A B : Type 0} → (read : Reads A) (then : A → Reads B) → Walks shorter read → ((x : A) → Walks shorter (then x)) → Walks shorter (read >=> then)
 on read then first all = walks_then shorter basics read then first all
 
 gives : {A : Type 0} → (x : A) → Walks shorter (giving x)
 gives x = walks_giving shorter basics x
+
+rule_shorter : Walks shorter rule
+unfolding rule
+rule_shorter = on token _ (walks_token shorter basics) (λ t. walks_if shorter basics (is_word (codes "block") t) _ _
+    (on block_policy _ (walks_block_policy shorter basics) (λ _. rule_of_shorter _ _ t.place)) (rule_of_shorter _ _ t.place))
+
+behind_anchor : (t : Token) → Walks shorter (shallow t.place >=> λ depth. own_name >=> named_anchor t.place depth)
+behind_anchor t = on _ _ (walks_shallow shorter basics t.place) (λ depth. on own_name _ (walks_own_name shorter basics) (named_anchor_shorter t.place depth))
+
+anchor_shorter : Walks shorter anchor
+unfolding anchor
+anchor_shorter = on token _ (walks_token shorter basics) behind_anchor
+
+skip_one_shorter : (t : Token) → Walks shorter (skip_one t)
+unfolding skip_one
+skip_one_shorter t = search (steps, basics, skip_kept)
+
+skip_each_shorter : (ts : List Token) → Walks shorter (skip_each ts)
+unfolding skip_each
+skip_each_shorter [] = gives tt
+skip_each_shorter (t ∷ ts) = on (skip_one t) _ (skip_one_shorter t) (λ _. skip_each_shorter ts)
+
+skip_shorter : (t : Token) → Walks shorter (skip t)
+unfolding skip
+skip_shorter t = search (steps, basics, walks_in_main, walks_interfaces, skip_each_shorter) depth 10
+
+rules : Rules shorter
+rules = record { rule_read = rule_shorter; anchor_read = anchor_shorter; skip_read = skip_shorter }
 
 -- ---- a token is taken
 
@@ -533,11 +554,11 @@ takes_load = takes_first _ (λ t. on _ _ (walks_loaded_path shorter basics)
 takes_rule : Takes goes_on rule
 unfolding rule
 takes_rule = takes_first _ (λ t. walks_if shorter basics (is_word (codes "block") t) _ _
-    (walks_then shorter basics block_policy _ (walks_block_policy shorter basics) (λ _. rules.rule_read _ _ t.place)) (rules.rule_read _ _ t.place))
+    (on block_policy _ (walks_block_policy shorter basics) (λ _. rule_of_shorter _ _ t.place)) (rule_of_shorter _ _ t.place))
 
 takes_anchor : Takes goes_on anchor
 unfolding anchor
-takes_anchor = takes_first _ (walks_anchor_behind shorter basics rules)
+takes_anchor = takes_first _ behind_anchor
 
 takes_rule_or_anchor : Takes goes_on rule_or_anchor
 unfolding rule_or_anchor

@@ -1,5 +1,5 @@
 -- What holds between the beginning and the end of all that is read, if it holds of each step.
-use Rattle.std.proofs.Common.{ℕ, zero, suc, ◌+◌, ◌||◌, cond, Bool, true, false, List, [], ◌∷◌, length, codes, Option, Some, None, Result, Ok, Err}
+use Rattle.std.proofs.Common.{ℕ, zero, suc, ◌+◌, ◌||◌, cond, Bool, true, false, List, [], length, codes, Option, Some, None, Result, Ok, Err}
 use Rattle.pf_form.specs.Form.Forms.{◌>>=◌}
 use Rattle.pf_tokens.specs.declared.{place.Place.Place, token.Token.Token}
 use Rattle.pf_tokens.specs.Words.{is_word, is_symbol, is_newline, is_number, is_string}
@@ -10,8 +10,8 @@ use Rattle.pf_parse.specs.Lists.{looking_at, from, begin_list, behind_comma, beh
 use Rattle.pf_parse.specs.Criteria.{behind_word, tested_interfaces, family, protocols, side_hosts, side, sides, tests}
 use Rattle.pf_parse.specs.Options.{once, state_options, kept, state, label_of, label, letters, flags_of, set_flags, written_flags, flags, skip_string, queue_name, queue, tag, named_priority, priority_value, priority, unexpected_option, left_out_option, option, options_more, said, closing, tests_and_options}
 use Rattle.pf_parse.specs.Openings.{skip_drop, block_policy, direction, log, log_and_quick}
-use Rattle.pf_parse.specs.Anchors.{quoted_path, anchor_name, own_name, name_alone, newline_behind_brace, next_number, enter, open_braces, braces_or_line, shallow, named_anchor, anchor, leave_braces, close_braces}
-use Rattle.pf_parse.specs.Lines.{rule_of, rule, listed, table_part, parts_more, table_parts, keep_table, name_in_angles, table, keep_load, loaded_path, loaded_file, load, skip_one, skip_each, in_main, skip, order_matters, set_order, require_order, set_option, is_setting, setting, set_line, left_out_line, no_line, rule_or_anchor, filtering, line, line_in_braces, any_line, all_closed, line_more, lines_more, lines}
+use Rattle.pf_parse.specs.Anchors.{quoted_path, anchor_name, own_name, name_alone, newline_behind_brace, next_number, enter, open_braces, braces_or_line, shallow, anchor, leave_braces, close_braces}
+use Rattle.pf_parse.specs.Lines.{rule, listed, table_part, parts_more, table_parts, keep_table, name_in_angles, table, keep_load, loaded_path, loaded_file, load, in_main, skip, order_matters, set_order, require_order, set_option, is_setting, setting, set_line, left_out_line, no_line, rule_or_anchor, filtering, line, line_in_braces, any_line, all_closed, line_more, lines_more, lines}
 use Rattle.pf_conf_laws.specs.Types.{Start, Tests, Options, Rank, Operator, Named, Host}
 
 -- what may lie between two states
@@ -42,15 +42,15 @@ pub record Basics (k : Walk) : Type 0 where
   pub table_kept : (t : Table) → Walks k (keep_table t)
   pub load_kept : (l : Load) → Walks k (keep_load l)
 
--- the steps that keep a rule
+-- what keeps a rule
 pub record Rules (k : Walk) : Type 0 where
-  pub rule_read : (start : Start) (first : Word) (p : Place) → Walks k (rule_of start first p)
-  pub anchor_read : (p : Place) (depth : ℕ) (name : Option Token) → Walks k (named_anchor p depth name)
-  pub skip_read : (t : Token) → Walks k (skip_one t)
+  pub rule_read : Walks k rule
+  pub anchor_read : Walks k anchor
+  pub skip_read : (option : Token) → Walks k (skip option)
 
 -- ---- how readers are made
 
-walks_on : {A : Type 0} → (k : Walk) → Basics k → (s t : State) (r : Result (A × State) Stop) → k.Leads s t → After k t r → After k s r
+pub walks_on : {A : Type 0} → (k : Walk) → Basics k → (s t : State) (r : Result (A × State) Stop) → k.Leads s t → After k t r → After k s r
 walks_on k basics s t (Ok (x, u)) first then = basics.joins s t u first then
 walks_on k basics s t (Err e) first then = tt
 
@@ -548,13 +548,8 @@ pub walks_shallow : (k : Walk) → Basics k → (p : Place) → Walks k (shallow
 unfolding shallow
 walks_shallow k basics p = record { walks = λ s. known_or_not k basics _ _ s.depth s }
 
-pub walks_anchor_behind : (k : Walk) → Basics k → Rules k → (t : Token) → Walks k (shallow t.place >=> λ depth. own_name >=> named_anchor t.place depth)
-walks_anchor_behind k basics rules t =
-    walks_then k basics _ _ (walks_shallow k basics t.place) (λ depth. walks_then k basics own_name _ (walks_own_name k basics) (λ name. rules.anchor_read t.place depth name))
-
 pub walks_anchor : (k : Walk) → Basics k → Rules k → Walks k anchor
-unfolding anchor
-walks_anchor k basics rules = walks_then k basics token _ (walks_token k basics) (walks_anchor_behind k basics rules)
+walks_anchor k basics rules = rules.anchor_read
 
 pub walks_leave_braces : (k : Walk) → Basics k → Walks k leave_braces
 walks_leave_braces k basics = basics.braces_left
@@ -566,11 +561,7 @@ walks_close_braces k basics = search (steps, walks_leave_braces)
 -- ---- lines
 
 pub walks_rule : (k : Walk) → Basics k → Rules k → Walks k rule
-unfolding rule
-walks_rule k basics rules =
-    walks_then k basics token _ (walks_token k basics)
-    (λ t. walks_if k basics (is_word (codes "block") t) _ _
-    (walks_then k basics block_policy _ (walks_block_policy k basics) (λ _. rules.rule_read _ _ t.place)) (rules.rule_read _ _ t.place))
+walks_rule k basics rules = rules.rule_read
 
 pub walks_listed : (k : Walk) → Basics k → Walks k listed
 unfolding listed
@@ -613,18 +604,12 @@ pub walks_load : (k : Walk) → Basics k → Walks k load
 unfolding load
 walks_load k basics = search (steps, walks_loaded_path, walks_loaded_file, walks_keep_load)
 
-pub walks_skip_each : (k : Walk) → Basics k → Rules k → (ts : List Token) → Walks k (skip_each ts)
-unfolding skip_each
-walks_skip_each k basics rules [] = walks_giving k basics tt
-walks_skip_each k basics rules (t ∷ ts) = walks_then k basics (skip_one t) _ (rules.skip_read t) (λ _. walks_skip_each k basics rules ts)
-
 pub walks_in_main : (k : Walk) → Basics k → (t : Token) → Walks k (in_main t)
 unfolding in_main
 walks_in_main k basics t = record { walks = λ s. known_or_not k basics s.is_main _ tt s }
 
-pub walks_skip : (k : Walk) → Basics k → Rules k → (t : Token) → Walks k (skip t)
-unfolding skip
-walks_skip k basics rules t = search (steps, walks_in_main, walks_interfaces, walks_skip_each)
+pub walks_skip : (k : Walk) → Basics k → Rules k → (option : Token) → Walks k (skip option)
+walks_skip k basics rules option = rules.skip_read option
 
 pub walks_order_matters : (k : Walk) → Basics k → (b : Bool) → Walks k (order_matters b)
 walks_order_matters k basics b = basics.order_set b

@@ -3,3 +3,4 @@ pub mod Lists
 pub mod Commits
 pub mod Loads
 pub mod Turns
+pub mod Words

@@ -1,18 +1,19 @@
 //! Laws of a pf.conf. Each function does nothing; its contract is what is proved.
-ghost use Rattle.std.specs.Prelude.{◌≡◌, ◌+◌, List, ℕ, Ok, length, count_by};
+ghost use Rattle.std.specs.Prelude.{◌≡◌, ◌+◌, ◌<◌, ◌^◌, Bool, List, ℕ, Ok, length, count_by};
 ghost use Rattle.pf_rule.specs.Rules.{PlainRule};
 ghost use Rattle.pf_lists.specs.{Product.{Word, spelled, count}, Multiplied.{is_left_out, multiplied}};
-ghost use Rattle.pf_tokens.specs.declared.files.File.{File};
-ghost use Rattle.pf_parse.specs.declared.parser.Mode.{Mode};
-ghost use Rattle.pf_parse.specs.{Lists.{interface, protocol, port, listed_item, listed_hosts, hosts_in, item_more}, Options.options_more, Lines.{parts_more, lines_more}};
+ghost use Rattle.pf_tokens.specs.declared.{files.File.File, token.Token.Token};
+ghost use Rattle.pf_parse.specs.declared.{parser.Mode.Mode, statements.Parsed.Parsed};
+ghost use Rattle.pf_parse.specs.{Lists.{interface, protocol, port, listed_item, listed_hosts, hosts_in, item_more}, Options.options_more, Lines.{parts_more, lines_more, parsed}};
 ghost use Rattle.pf_conf.specs.declared.found.Conf.{Conf};
 ghost use Rattle.pf_conf.specs.Resolving.{resolved};
-ghost use Rattle.pf_conf_laws.specs.{Types.{Start, Tests}, Lists.{left_of, AreReadAs, HaveOneItem, IsOne}, Commits.{AreOnce, HasRoom}, Loads.{MoreLoadsChangeNothing, NoLoadWaits}, Turns.TurnsSuffice};
+ghost use Rattle.pf_conf_laws.specs.{Types.{Start, Tests}, Lists.{left_of, AreReadAs, HaveOneItem, IsOne}, Commits.{AreOnce, HasRoom}, Loads.{MoreLoadsChangeNothing, NoLoadWaits}, Turns.TurnsSuffice, Words.HasRulesAlone};
 
 use pf_lists::{rules_are_counted, ways_have_numbers};
+use pf_rule::rules_and_packets_are_read_as_spelled;
 
-/// Lists stand for the rules that pf_rule reads of their ways, in order, but for the ways that are left out since their families differ. So
-/// there are as many rules as the lists' lengths multiplied, less those ways.
+/// Lists stand for the rules that pf_rule reads of their ways, in order, but for the ways that are left out since their families differ.
+/// So there are as many rules as the lists' lengths multiplied, less those ways.
 pub fn rules_are_the_ways_that_are_left()
     ensures read { (lists : List (List (List Word))) (rules : List PlainRule) → multiplied lists ≡ Ok rules →
         AreReadAs (left_of (spelled lists)) rules }
@@ -48,8 +49,8 @@ pub fn all_loads_are_read()
     ensures none { NoLoadWaits }
 {}
 
-/// The turns that a reader is given suffice, whatever it reads: of the lines of a file, of a table's parts, of a rule's options, and of lists of
-/// interfaces, of protocols, of ports and of hosts.
+/// The turns that a reader is given suffice, whatever it reads: of the lines of a file, of a table's parts, of a rule's options, and of lists
+/// of interfaces, of protocols, of ports and of hosts.
 pub fn more_turns_change_nothing()
     ensures lines { TurnsSuffice lines_more }
     ensures parts { TurnsSuffice parts_more }
@@ -59,3 +60,11 @@ pub fn more_turns_change_nothing()
     ensures ports { TurnsSuffice (item_more (listed_item port)) }
     ensures hosts { (deep : ℕ) → TurnsSuffice (item_more (listed_hosts (hosts_in deep))) }
 {}
+
+/// The words of each way of a rule that is read are a rule's: no file is refused since they are none. A file has fewer than 2^64 braces.
+pub fn words_of_rules_are_rules()
+    ensures { (ts : List Token) (mode : Mode) (is_main : Bool) (p : Parsed) → parsed ts mode is_main ≡ Ok p →
+        length p.tree.braces < 2 ^ 64 → HasRulesAlone p.tree }
+{
+    rules_and_packets_are_read_as_spelled();
+}
