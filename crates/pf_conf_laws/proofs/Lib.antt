@@ -7,3 +7,4 @@ pub mod Turns
 pub mod Spelled
 pub mod Yields
 pub mod Words
+pub mod Standing

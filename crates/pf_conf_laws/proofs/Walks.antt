@@ -11,7 +11,7 @@ use Rattle.pf_parse.specs.Criteria.{behind_word, tested_interfaces, family, prot
 use Rattle.pf_parse.specs.Options.{once, state_options, kept, state, label_of, label, letters, flags_of, set_flags, written_flags, flags, skip_string, queue_name, queue, tag, named_priority, priority_value, priority, unexpected_option, left_out_option, option, options_more, said, closing, tests_and_options}
 use Rattle.pf_parse.specs.Openings.{skip_drop, block_policy, direction, log, log_and_quick}
 use Rattle.pf_parse.specs.Anchors.{quoted_path, anchor_name, own_name, name_alone, newline_behind_brace, next_number, enter, open_braces, braces_or_line, shallow, anchor, leave_braces, close_braces}
-use Rattle.pf_parse.specs.Lines.{rule, listed, table_part, parts_more, table_parts, keep_table, name_in_angles, table, keep_load, loaded_path, loaded_file, load, in_main, skip, order_matters, set_order, require_order, set_option, is_setting, setting, set_line, left_out_line, no_line, rule_or_anchor, filtering, line, line_in_braces, any_line, all_closed, line_more, lines_more, lines}
+use Rattle.pf_parse.specs.Lines.{is_rule, rule, listed, table_part, parts_more, table_parts, keep_table, name_in_angles, table, keep_load, loaded_path, loaded_file, load, in_main, skip, order_matters, set_order, require_order, set_option, is_setting, setting, set_line, left_out_line, no_line, rule_or_anchor, filtering, line, line_in_braces, any_line, all_closed, line_more, lines_more, lines}
 use Rattle.pf_conf_laws.specs.Types.{Start, Tests, Options, Rank, Operator, Named, Host}
 
 -- what may lie between two states
@@ -44,8 +44,7 @@ pub record Basics (k : Walk) : Type 0 where
 
 -- what keeps a rule
 pub record Rules (k : Walk) : Type 0 where
-  pub rule_read : Walks k rule
-  pub anchor_read : Walks k anchor
+  pub rules_read : Walks k rule_or_anchor
   pub skip_read : (option : Token) → Walks k (skip option)
 
 -- ---- how readers are made
@@ -548,9 +547,6 @@ pub walks_shallow : (k : Walk) → Basics k → (p : Place) → Walks k (shallow
 unfolding shallow
 walks_shallow k basics p = record { walks = λ s. known_or_not k basics _ _ s.depth s }
 
-pub walks_anchor : (k : Walk) → Basics k → Rules k → Walks k anchor
-walks_anchor k basics rules = rules.anchor_read
-
 pub walks_leave_braces : (k : Walk) → Basics k → Walks k leave_braces
 walks_leave_braces k basics = basics.braces_left
 
@@ -559,9 +555,6 @@ unfolding close_braces
 walks_close_braces k basics = search (steps, walks_leave_braces)
 
 -- ---- lines
-
-pub walks_rule : (k : Walk) → Basics k → Rules k → Walks k rule
-walks_rule k basics rules = rules.rule_read
 
 pub walks_listed : (k : Walk) → Basics k → Walks k listed
 unfolding listed
@@ -643,8 +636,13 @@ unfolding no_line
 walks_no_line k basics = search (steps, walks_left_out_line) depth 10
 
 pub walks_rule_or_anchor : (k : Walk) → Basics k → Rules k → Walks k rule_or_anchor
+walks_rule_or_anchor k basics rules = rules.rules_read
+
+-- by each of the two
+pub either_walks : (k : Walk) → Basics k → Walks k rule → Walks k anchor → Walks k rule_or_anchor
 unfolding rule_or_anchor
-walks_rule_or_anchor k basics rules = search (steps, walks_rule, walks_anchor)
+either_walks k basics first other =
+    walks_look k basics _ (λ t. walks_if k basics (is_rule t) rule (cond (is_word (codes "anchor") t) anchor unexpected) first (walks_if k basics (is_word (codes "anchor") t) anchor unexpected other (walks_unexpected k basics)))
 
 pub walks_filtering : (k : Walk) → Basics k → Walks k filtering
 unfolding filtering

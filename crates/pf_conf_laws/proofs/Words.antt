@@ -24,7 +24,7 @@ use Rattle.pf_parse.specs.Lists.{from, interfaces}
 use Rattle.pf_parse.specs.Anchors.{in_quotes, has_slash, no_fault, own_name, name_alone, name_in_braces, newline_behind_brace, next_number, enter, open_braces, braces_or_line, shallow, keep_rule, anchor_opening, named_anchor, anchor}
 use Rattle.pf_parse.specs.Lines.{rule_opening, keep_table, keep_load, order_matters, rule_of, rule, skip_rule, keep_skip, skip_one, skip_each, in_main, skip, lines, parsed_of, parsed}
 use Rattle.pf_conf_laws.specs.{Types.{first_of, Start, Tests}, Words.HasRulesAlone}
-use Rattle.pf_conf_laws.proofs.Walks.{Walk, Walks, After, Basics, Rules, walks_on, walks_then, walks_if, walks_within, walks_token, walks_end_line, walks_direction, walks_log_and_quick, walks_tests_and_options, walks_block_policy, walks_takes_word, walks_shallow, walks_own_name, walks_braces_or_line, walks_leave_out, walks_giving, walks_in_main, walks_expect_word, walks_interfaces, walks_lines}
+use Rattle.pf_conf_laws.proofs.Walks.{Walk, Walks, After, Basics, Rules, either_walks, walks_on, walks_then, walks_if, walks_within, walks_token, walks_end_line, walks_direction, walks_log_and_quick, walks_tests_and_options, walks_block_policy, walks_takes_word, walks_shallow, walks_own_name, walks_braces_or_line, walks_leave_out, walks_giving, walks_in_main, walks_expect_word, walks_interfaces, walks_lines}
 use Rattle.pf_conf_laws.proofs.Spelled.{ReadsSpelled, lists_are_rules, Spelled, Opens, AllSpelled, rule_spelled, in_front, no_lists, pass_opens, block_opens, anchor_opens, way_spelled, quick_spelled, not_quick_spelled, no_family_spelled, no_protocol_spelled, keep_spelled, no_state_spelled, stateless_spelled, label_spelled, unlabelled_spelled}
 use Rattle.pf_conf_laws.proofs.Yields.{Yields, yields_behind, yields_giving, yields_if, OnInterface, LabelIs, AreTests, any_is_side, AreClosing, AreBoth, IsNamedAnchor, MayBeNamed, yields_tests_and_options, yields_own_name, yields_interfaces}
 
@@ -449,7 +449,7 @@ kept_skip option =
 -- ---- a whole file
 
 rules : Rules keeping
-rules = record { rule_read = kept_rule; anchor_read = kept_anchor; skip_read = kept_skip }
+rules = record { rules_read = either_walks keeping basics kept_rule kept_anchor; skip_read = kept_skip }
 
 nothing_kept : (ts : List Token) (mode : Mode) (is_main : Bool) → Well (beginning ts mode is_main).tree
 nothing_kept ts mode is_main = (All-nil (λ (w : Written). AllSpelled w.product.lists), All-nil (λ (w : Product). AllSpelled w.lists))

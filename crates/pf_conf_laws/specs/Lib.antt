@@ -4,3 +4,4 @@ pub mod Commits
 pub mod Loads
 pub mod Turns
 pub mod Words
+pub mod Places

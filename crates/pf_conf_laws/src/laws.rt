@@ -7,7 +7,7 @@ ghost use Rattle.pf_parse.specs.declared.{parser.Mode.Mode, statements.Parsed.Pa
 ghost use Rattle.pf_parse.specs.{Lists.{interface, protocol, port, listed_item, listed_hosts, hosts_in, item_more}, Options.options_more, Lines.{parts_more, lines_more, parsed}};
 ghost use Rattle.pf_conf.specs.declared.found.Conf.{Conf};
 ghost use Rattle.pf_conf.specs.Resolving.{resolved};
-ghost use Rattle.pf_conf_laws.specs.{Types.{Start, Tests}, Lists.{left_of, AreReadAs, HaveOneItem, IsOne}, Commits.{AreOnce, HasRoom}, Loads.{MoreLoadsChangeNothing, NoLoadWaits}, Turns.TurnsSuffice, Words.HasRulesAlone};
+ghost use Rattle.pf_conf_laws.specs.{Types.{Start, Tests}, Lists.{left_of, AreReadAs, HaveOneItem, IsOne}, Commits.{AreOnce, HasRoom}, Loads.{MoreLoadsChangeNothing, NoLoadWaits}, Turns.TurnsSuffice, Words.HasRulesAlone, Places.{beginnings, places_of, AreSome}};
 
 use pf_lists::{rules_are_counted, ways_have_numbers};
 use pf_rule::rules_and_packets_are_read_as_spelled;
@@ -68,3 +68,10 @@ pub fn words_of_rules_are_rules()
 {
     rules_and_packets_are_read_as_spelled();
 }
+
+/// Each rule that is written has the place of its own word: the places of rules are, in order, those of some of the words `pass`, `block`
+/// and `anchor`, and no two rules have one word.
+pub fn rules_come_in_the_order_of_their_words()
+    ensures { (ts : List Token) (mode : Mode) (is_main : Bool) (p : Parsed) → parsed ts mode is_main ≡ Ok p →
+        AreSome (beginnings ts) (places_of p.tree.rules) }
+{}
