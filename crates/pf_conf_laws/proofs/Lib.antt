@@ -8,3 +8,4 @@ pub mod Spelled
 pub mod Yields
 pub mod Words
 pub mod Standing
+pub mod Pieces

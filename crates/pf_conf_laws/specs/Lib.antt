@@ -5,3 +5,4 @@ pub mod Loads
 pub mod Turns
 pub mod Words
 pub mod Places
+pub mod Pieces

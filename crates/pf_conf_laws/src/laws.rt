@@ -2,12 +2,13 @@
 ghost use Rattle.std.specs.Prelude.{◌≡◌, ◌+◌, ◌<◌, ◌^◌, Bool, List, ℕ, Ok, length, count_by};
 ghost use Rattle.pf_rule.specs.Rules.{PlainRule};
 ghost use Rattle.pf_lists.specs.{Product.{Word, spelled, count}, Multiplied.{is_left_out, multiplied}};
-ghost use Rattle.pf_tokens.specs.declared.{files.File.File, token.Token.Token};
+ghost use Rattle.pf_tokens.specs.declared.{files.File.File, place.Placed.Placed, token.Token.Token, lexing.Source.Source};
+ghost use Rattle.pf_tokens.specs.{Lexing.lex, Laws.bytes_of};
 ghost use Rattle.pf_parse.specs.declared.{parser.Mode.Mode, statements.Parsed.Parsed};
 ghost use Rattle.pf_parse.specs.{Lists.{interface, protocol, port, listed_item, listed_hosts, hosts_in, item_more}, Options.options_more, Lines.{parts_more, lines_more, parsed}};
 ghost use Rattle.pf_conf.specs.declared.found.Conf.{Conf};
 ghost use Rattle.pf_conf.specs.Resolving.{resolved};
-ghost use Rattle.pf_conf_laws.specs.{Types.{Start, Tests}, Lists.{left_of, AreReadAs, HaveOneItem, IsOne}, Commits.{AreOnce, HasRoom}, Loads.{MoreLoadsChangeNothing, NoLoadWaits}, Turns.TurnsSuffice, Words.HasRulesAlone, Places.{beginnings, places_of, AreSome}};
+ghost use Rattle.pf_conf_laws.specs.{Types.{Start, Tests}, Lists.{left_of, AreReadAs, HaveOneItem, IsOne}, Commits.{AreOnce, HasRoom}, Loads.{MoreLoadsChangeNothing, NoLoadWaits}, Turns.TurnsSuffice, Words.HasRulesAlone, Places.{beginnings, places_of, AreSome}, Pieces.IsCut};
 
 use pf_lists::{rules_are_counted, ways_have_numbers};
 use pf_rule::rules_and_packets_are_read_as_spelled;
@@ -74,4 +75,9 @@ pub fn words_of_rules_are_rules()
 pub fn rules_come_in_the_order_of_their_words()
     ensures { (ts : List Token) (mode : Mode) (is_main : Bool) (p : Parsed) → parsed ts mode is_main ≡ Ok p →
         AreSome (beginnings ts) (places_of p.tree.rules) }
+{}
+
+/// No byte of a text is lost: what isn't in a token is a space, a tab, a newline, a quote, a `$`, or stands in a comment.
+pub fn no_byte_is_lost()
+    ensures { (source : Source) (n : ℕ) (text : List Placed) (ts : List Token) → lex source n 0 text ≡ Ok ts → IsCut text (bytes_of ts) }
 {}
