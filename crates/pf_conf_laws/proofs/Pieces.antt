@@ -1,5 +1,5 @@
 -- Of a text nothing is passed over but blanks, newlines, quotes, "$" and comments.
-use Rattle.std.proofs.Common.{◌≡◌, ℕ, zero, suc, ◌+◌, ◌==◌, ◌&&◌, ◌||◌, not, cond, Bool, true, false, List, [], ◌∷◌, ◌++◌, length, take, drop, Option, Some, None, Result, Ok, Err, refl, sym, ap, ◌∙◌, subst, append-nil, arith, if◌then◌else◌}
+use Rattle.std.proofs.Common.{◌≡◌, ℕ, zero, suc, ◌+◌, ◌==◌, ◌||◌, not, cond, Bool, true, false, List, [], ◌∷◌, ◌++◌, length, take, drop, Result, Ok, refl, sym, ap, ◌∙◌, subst, append-nil, arith, if◌then◌else◌}
 use Rattle.std.specs.{Prelude.All, List.{flat_map, list_all, prefix_len, take_while}, Option.option_to_list}
 use Rattle.std.proofs.lemmas.{Bool.{eqb-true, or_left, or_right}, List.take-append-drop, List.Concat.flat_map-append, List.Folds.length-prefix_len, List.Elements.{All-nil, All-append, All-push}}
 use Rattle.pf_form.specs.Form.Forms.{◌>>=◌}
