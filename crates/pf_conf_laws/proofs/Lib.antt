@@ -9,3 +9,4 @@ pub mod Yields
 pub mod Words
 pub mod Standing
 pub mod Pieces
+pub mod Rulesets

@@ -6,3 +6,4 @@ pub mod Turns
 pub mod Words
 pub mod Places
 pub mod Pieces
+pub mod Rulesets

@@ -1,14 +1,14 @@
 //! Laws of a pf.conf. Each function does nothing; its contract is what is proved.
-ghost use Rattle.std.specs.Prelude.{◌≡◌, ◌+◌, ◌<◌, ◌^◌, Bool, List, ℕ, Ok, length, count_by};
+ghost use Rattle.std.specs.Prelude.{◌≡◌, ◌++◌, ◌+◌, ◌<◌, ◌^◌, Bool, List, ℕ, Ok, length, count_by};
 ghost use Rattle.pf_rule.specs.Rules.{PlainRule};
 ghost use Rattle.pf_lists.specs.{Product.{Word, spelled, count}, Multiplied.{is_left_out, multiplied}};
 ghost use Rattle.pf_tokens.specs.declared.{files.File.File, place.Placed.Placed, token.Token.Token, lexing.Source.Source};
 ghost use Rattle.pf_tokens.specs.{Lexing.lex, Laws.bytes_of};
-ghost use Rattle.pf_parse.specs.declared.{parser.Mode.Mode, statements.Parsed.Parsed};
+ghost use Rattle.pf_parse.specs.declared.{parser.Mode.Mode, statements.Parsed.Parsed, tree.Tree.Tree};
 ghost use Rattle.pf_parse.specs.{Lists.{interface, protocol, port, listed_item, listed_hosts, hosts_in, item_more}, Options.options_more, Lines.{parts_more, lines_more, parsed}};
 ghost use Rattle.pf_conf.specs.declared.found.Conf.{Conf};
-ghost use Rattle.pf_conf.specs.Resolving.{resolved};
-ghost use Rattle.pf_conf_laws.specs.{Types.{Start, Tests}, Lists.{left_of, AreReadAs, HaveOneItem, IsOne}, Commits.{AreOnce, HasRoom}, Loads.{MoreLoadsChangeNothing, NoLoadWaits}, Turns.TurnsSuffice, Words.HasRulesAlone, Places.{beginnings, places_of, AreSome}, Pieces.IsCut};
+ghost use Rattle.pf_conf.specs.{Resolving.resolved, Rulesets.{PlacedRule, skips_in, written_in, rules_in}};
+ghost use Rattle.pf_conf_laws.specs.{Types.{Start, Tests}, Lists.{left_of, AreReadAs, HaveOneItem, IsOne}, Commits.{AreOnce, HasRoom}, Loads.{MoreLoadsChangeNothing, NoLoadWaits}, Turns.TurnsSuffice, Words.HasRulesAlone, Places.{beginnings, places_of, AreSome}, Pieces.IsCut, Rulesets.AreRulesOf};
 
 use pf_lists::{rules_are_counted, ways_have_numbers};
 use pf_rule::rules_and_packets_are_read_as_spelled;
@@ -80,4 +80,11 @@ pub fn rules_come_in_the_order_of_their_words()
 /// No byte of a text is lost: what isn't in a token is a space, a tab, a newline, a quote, a `$`, or stands in a comment.
 pub fn no_byte_is_lost()
     ensures { (source : Source) (n : ℕ) (text : List Placed) (ts : List Token) → lex source n 0 text ≡ Ok ts → IsCut text (bytes_of ts) }
+{}
+
+/// A ruleset has, one after another, the rules that each written one in its braces stands for, where its first word stands. A file's own
+/// come behind those of the interfaces that it skips.
+pub fn rulesets_have_the_rules_that_are_written()
+    ensures { (number : ℕ) (tree : Tree) (rules : List PlacedRule) → rules_in number tree ≡ Ok rules →
+        AreRulesOf (skips_in number tree ++ written_in number tree.rules) rules }
 {}

@@ -6,7 +6,7 @@
 //! each rule stands at its own word. Of a text no byte is lost.
 //!
 //! Read `src/laws.rt` first, then the definitions: `specs/Lists.antt`, `specs/Commits.antt`, `specs/Loads.antt`, `specs/Turns.antt`,
-//! `specs/Words.antt`, `specs/Places.antt` and `specs/Pieces.antt`.
+//! `specs/Words.antt`, `specs/Places.antt`, `specs/Pieces.antt` and `specs/Rulesets.antt`.
 #![tactic(auto)]
 
 mod laws;
@@ -14,5 +14,6 @@ mod laws;
 pub use laws::{
     a_rule_without_lists_is_one_rule, all_loads_are_read, more_turns_change_nothing,
     no_byte_is_lost, one_commit_has_room, rules_are_the_ways_that_are_left,
-    rules_come_in_the_order_of_their_words, tables_are_filled_once, words_of_rules_are_rules,
+    rules_come_in_the_order_of_their_words, rulesets_have_the_rules_that_are_written,
+    tables_are_filled_once, words_of_rules_are_rules,
 };
