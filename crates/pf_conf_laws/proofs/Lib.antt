@@ -10,3 +10,4 @@ pub mod Words
 pub mod Standing
 pub mod Pieces
 pub mod Rulesets
+pub mod Spaces

@@ -7,3 +7,4 @@ pub mod Words
 pub mod Places
 pub mod Pieces
 pub mod Rulesets
+pub mod Spaces

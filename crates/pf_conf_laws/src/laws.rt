@@ -1,14 +1,16 @@
 //! Laws of a pf.conf. Each function does nothing; its contract is what is proved.
-ghost use Rattle.std.specs.Prelude.{◌≡◌, ◌++◌, ◌+◌, ◌<◌, ◌^◌, Bool, List, ℕ, Ok, length, count_by};
+ghost use Rattle.std.specs.List.{join_with_byte, list_all};
+ghost use Rattle.std.specs.Prelude.{map, true, ◌≡◌, ◌++◌, ◌+◌, ◌<◌, ◌^◌, Bool, List, ℕ, Ok, length, count_by};
 ghost use Rattle.pf_rule.specs.Rules.{PlainRule};
 ghost use Rattle.pf_lists.specs.{Product.{Word, spelled, count}, Multiplied.{is_left_out, multiplied}};
 ghost use Rattle.pf_tokens.specs.declared.{files.File.File, place.Placed.Placed, token.Token.Token, lexing.Source.Source};
-ghost use Rattle.pf_tokens.specs.{Lexing.lex, Laws.bytes_of};
+ghost use Rattle.pf_tokens.specs.declared.lexing.Source.TheVariants as sources;
+ghost use Rattle.pf_tokens.specs.{Lexing.lex, Places.text_of, Laws.bytes_of};
 ghost use Rattle.pf_parse.specs.declared.{parser.Mode.Mode, statements.Parsed.Parsed, tree.Tree.Tree};
 ghost use Rattle.pf_parse.specs.{Lists.{interface, protocol, port, listed_item, listed_hosts, hosts_in, item_more}, Options.options_more, Lines.{parts_more, lines_more, parsed}};
 ghost use Rattle.pf_conf.specs.declared.found.Conf.{Conf};
 ghost use Rattle.pf_conf.specs.{Resolving.resolved, Rulesets.{PlacedRule, skips_in, written_in, rules_in}};
-ghost use Rattle.pf_conf_laws.specs.{Types.{Start, Tests}, Lists.{left_of, AreReadAs, HaveOneItem, IsOne}, Commits.{AreOnce, HasRoom}, Loads.{MoreLoadsChangeNothing, NoLoadWaits}, Turns.TurnsSuffice, Words.HasRulesAlone, Places.{beginnings, places_of, AreSome}, Pieces.IsCut, Rulesets.AreRulesOf};
+ghost use Rattle.pf_conf_laws.specs.{Types.{Start, Tests}, Lists.{left_of, AreReadAs, HaveOneItem, IsOne}, Commits.{AreOnce, HasRoom}, Loads.{MoreLoadsChangeNothing, NoLoadWaits}, Turns.TurnsSuffice, Words.HasRulesAlone, Places.{beginnings, places_of, AreSome}, Pieces.IsCut, Rulesets.AreRulesOf, Spaces.{is_plain_word, read_as, as_word}};
 
 use pf_lists::{rules_are_counted, ways_have_numbers};
 use pf_rule::rules_and_packets_are_read_as_spelled;
@@ -87,4 +89,10 @@ pub fn no_byte_is_lost()
 pub fn rulesets_have_the_rules_that_are_written()
     ensures { (number : ℕ) (tree : Tree) (rules : List PlacedRule) → rules_in number tree ≡ Ok rules →
         AreRulesOf (skips_in number tree ++ written_in number tree.rules) rules }
+{}
+
+/// Words with a space between each two are read as these words, if nothing else is wrong with them: a quote in one, or too many words.
+pub fn words_with_spaces_are_these_words()
+    ensures { (n : ℕ) (words : List (List ℕ)) (text : List Placed) (ts : List Token) → list_all is_plain_word words ≡ true →
+        text_of text ≡ join_with_byte 32 words → lex sources.File n 0 text ≡ Ok ts → map read_as ts ≡ map as_word words }
 {}

@@ -5,8 +5,9 @@
 //! that each file is read that is loaded, that no reader runs out of turns, that pf_rule takes the words of each rule for a rule's, and that
 //! each rule stands at its own word. Of a text no byte is lost.
 //!
-//! Read `src/laws.rt` first, then the definitions: `specs/Lists.antt`, `specs/Commits.antt`, `specs/Loads.antt`, `specs/Turns.antt`,
-//! `specs/Words.antt`, `specs/Places.antt`, `specs/Pieces.antt` and `specs/Rulesets.antt`.
+//! Read `src/laws.rt` first, then the definitions, those of texts before those of lines and of rulesets: `specs/Pieces.antt`,
+//! `specs/Spaces.antt`; `specs/Places.antt`, `specs/Turns.antt`, `specs/Words.antt`; `specs/Lists.antt`, `specs/Rulesets.antt`,
+//! `specs/Commits.antt` and `specs/Loads.antt`.
 #![tactic(auto)]
 
 mod laws;
@@ -15,5 +16,5 @@ pub use laws::{
     a_rule_without_lists_is_one_rule, all_loads_are_read, more_turns_change_nothing,
     no_byte_is_lost, one_commit_has_room, rules_are_the_ways_that_are_left,
     rules_come_in_the_order_of_their_words, rulesets_have_the_rules_that_are_written,
-    tables_are_filled_once, words_of_rules_are_rules,
+    tables_are_filled_once, words_of_rules_are_rules, words_with_spaces_are_these_words,
 };
