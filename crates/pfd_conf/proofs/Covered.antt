@@ -46,6 +46,7 @@ past_marked P within count d marks past m = record {
   and_false : (b : Bool) → (b && false) ≡ false
   and_false true = refl
   and_false false = refl
+
   by : (k : ℕ) → k < count → P k ≡ (P k || is_of within k (Some d))
   by k less =
       let all = m.all in
@@ -76,6 +77,7 @@ one_marked P within count d marks same there m = record {
       ∙ ap Some (get_or-set_other marks d.number k true false apart)
       ∙ sym (slice_get-get_or marks k false short) ∙ m.each k less
       ∙ ap Some (sym (ap (λ (b : Bool). P k || (b && false)) same ∙ or_false (P k)))
+
   each : (k : ℕ) → k < count → slice_get (set marks d.number true) k ≡ Some (P k || is_of within k (Some d))
   each k less = here k (d.number == k) less refl
 
@@ -84,14 +86,13 @@ one_marked P within count d marks same there m = record {
 pub outcomes_begun : (P : ℕ → Bool) (within count : ℕ) (marks : List Bool) → AreMarks P count marks → AreMarks (λ k. P k || decides_any within k []) count marks
 outcomes_begun P within count marks m = marks_of P (λ k. P k || false) count marks (λ k. sym (or_false (P k))) m
 
-pub one_more_outcome : (P : ℕ → Bool) (within count : ℕ) (os : List Outcome) (i : ℕ) (o : Outcome) (marks : List Bool) → i < length os → o ≡ get_or os i o →
-    AreMarks (λ k. (P k || decides_any within k (take i os)) || is_of within k o.decided) count marks →
+pub one_more_outcome : (P : ℕ → Bool) (within count : ℕ) (os : List Outcome) (i : ℕ) (d : Outcome) (marks : List Bool) → i < length os →
+    AreMarks (λ k. (P k || decides_any within k (take i os)) || is_of within k (get_or os i d).decided) count marks →
     AreMarks (λ k. P k || decides_any within k (take (i + 1) os)) count marks
-one_more_outcome P within count os i o marks there here m =
-    marks_of (λ k. (P k || decides_any within k (take i os)) || is_of within k o.decided) (λ k. P k || decides_any within k (take (i + 1) os)) count marks
-    (λ k. or_or (P k) (decides_any within k (take i os)) (is_of within k o.decided)
-    ∙ ap (λ (q : Outcome). P k || (decides_any within k (take i os) || is_of within k q.decided)) here
-    ∙ ap (λ (b : Bool). P k || b) (sym (list_any_more (λ (q : Outcome). is_of within k q.decided) os i o there))) m
+one_more_outcome P within count os i d marks there m =
+    marks_of (λ k. (P k || decides_any within k (take i os)) || is_of within k (get_or os i d).decided) (λ k. P k || decides_any within k (take (i + 1) os)) count marks
+    (λ k. or_or (P k) (decides_any within k (take i os)) (is_of within k (get_or os i d).decided)
+    ∙ ap (λ (b : Bool). P k || b) (sym (list_any_more (λ (q : Outcome). is_of within k q.decided) os i d there))) m
 
 pub one_more_file : (within count : ℕ) (ts : List Tried) (i : ℕ) (t : Tried) (marks : List Bool) → i < length ts → t ≡ get_or ts i t →
     AreMarks (λ k. decides_some within k (take i ts) || decides_any within k t.outcomes) count marks →
@@ -125,7 +126,7 @@ by_marks ts within number marks (r ∷ rs) m =
     let less : number < number + length (r ∷ rs) = omega arith in
     ap (λ (o : Option Bool). unless_marked within number (unwrap_or o false) r.is ++ unmarked_from within (number + 1) marks rs) (m.each number less)
     ∙ ap (λ (l : List Decided). unless_marked within number (decides_some within number ts) r.is ++ l)
-      (by_marks ts within (number + 1) marks rs (subst (λ (n : ℕ). AreMarks (λ k. decides_some within k ts) n marks) shorter m))
+    (by_marks ts within (number + 1) marks rs (subst (λ (n : ℕ). AreMarks (λ k. decides_some within k ts) n marks) shorter m))
 
 pub one_more_ruleset : (ts : List Tried) (rs : List Ruleset) (i : ℕ) (r : Ruleset) (marks : List Bool) (all before now : List Decided) →
     all ≡ before ++ uncovered_from ts i (drop i rs) → i < length rs → r ≡ get_or rs i r → AreMarks (λ k. decides_some i k ts) (length r.rules) marks →
@@ -135,7 +136,7 @@ one_more_ruleset ts rs i r marks all before now so_far there here m is =
     so_far ∙ ap (λ (l : List Ruleset). before ++ uncovered_from ts i l) (drop_item rs i r there here)
     ∙ sym (append_assoc before (uncovered_in ts i 0 r.rules) (uncovered_from ts (i + 1) (drop (i + 1) rs)))
     ∙ ap (λ (l : List Decided). (before ++ l) ++ uncovered_from ts (i + 1) (drop (i + 1) rs))
-      (sym (by_marks ts i 0 marks r.rules (subst (λ (n : ℕ). AreMarks (λ k. decides_some i k ts) n marks) at m)))
+    (sym (by_marks ts i 0 marks r.rules (subst (λ (n : ℕ). AreMarks (λ k. decides_some i k ts) n marks) at m)))
     ∙ ap (λ (l : List Decided). l ++ uncovered_from ts (i + 1) (drop (i + 1) rs)) (sym is)
 
 pub no_more_rulesets : (ts : List Tried) (rs : List Ruleset) (i : ℕ) (all before : List Decided) → all ≡ before ++ uncovered_from ts i (drop i rs) →
@@ -147,18 +148,18 @@ no_more_rulesets ts rs i all before so_far past =
 
 pub kept_rule : (within i : ℕ) (mark is_marked deciding : Bool) (r : PlainRule) (old now : List Decided) → is_marked ≡ mark → deciding ≡ is_deciding r →
     deciding ≡ true → is_marked ≡ false → now ≡ old ++ record { within = within; number = i } ∷ [] → now ≡ old ++ unless_marked within i mark r
-kept_rule within i mark is_marked deciding r old now m d yes no is =
-    let both : (is_deciding r && not mark) ≡ true = ap (λ (b : Bool). b && not mark) (sym d ∙ yes) ∙ ap (λ (b : Bool). true && not b) (sym m ∙ no) in
+kept_rule within i mark is_marked deciding r old now m d decides unset is =
+    let both : (is_deciding r && not mark) ≡ true = ap (λ (b : Bool). b && not mark) (sym d ∙ decides) ∙ ap (λ (b : Bool). true && not b) (sym m ∙ unset) in
     is ∙ ap (λ (b : Bool). old ++ (if b then record { within = within; number = i } ∷ [] else [])) (sym both)
 
 pub anchor_rule : (within i : ℕ) (mark deciding : Bool) (r : PlainRule) (old now : List Decided) → deciding ≡ is_deciding r → deciding ≡ false → now ≡ old →
     now ≡ old ++ unless_marked within i mark r
-anchor_rule within i mark deciding r old now d no is =
-    let not_both : (is_deciding r && not mark) ≡ false = ap (λ (b : Bool). b && not mark) (sym d ∙ no) in
+anchor_rule within i mark deciding r old now d leads is =
+    let not_both : (is_deciding r && not mark) ≡ false = ap (λ (b : Bool). b && not mark) (sym d ∙ leads) in
     is ∙ sym (append-nil old) ∙ ap (λ (b : Bool). old ++ (if b then record { within = within; number = i } ∷ [] else [])) (sym not_both)
 
 pub marked_rule : (within i : ℕ) (mark is_marked deciding : Bool) (r : PlainRule) (old now : List Decided) → is_marked ≡ mark → deciding ≡ is_deciding r →
     deciding ≡ true → is_marked ≡ true → now ≡ old → now ≡ old ++ unless_marked within i mark r
-marked_rule within i mark is_marked deciding r old now m d yes marked is =
-    let not_both : (is_deciding r && not mark) ≡ false = ap (λ (b : Bool). b && not mark) (sym d ∙ yes) ∙ ap (λ (b : Bool). true && not b) (sym m ∙ marked) in
+marked_rule within i mark is_marked deciding r old now m d decides marked is =
+    let not_both : (is_deciding r && not mark) ≡ false = ap (λ (b : Bool). b && not mark) (sym d ∙ decides) ∙ ap (λ (b : Bool). true && not b) (sym m ∙ marked) in
     is ∙ sym (append-nil old) ∙ ap (λ (b : Bool). old ++ (if b then record { within = within; number = i } ∷ [] else [])) (sym not_both)

@@ -86,7 +86,7 @@ abbrev pub lines_of_rules : List File → List Ruleset → List Decided → List
 lines_of_rules files rs ds = flat_map (line_of_rule files rs) ds
 
 abbrev pub count_text : ℕ → ℕ → List ℕ
-count_text uncovered deciding = decimal (deciding - uncovered) ++ codes " of " ++ decimal deciding ++ codes " rules decide a case" ++ newline
+count_text uncovered deciding = decimal (deciding - uncovered) ++ codes " of " ++ decimal deciding ++ codes " rules decide a case\n"
 
 -- those that decide none, and how many decide one
 abbrev pub cover_text : Firewall → List Tried → List ℕ

@@ -56,9 +56,12 @@ rule_at rs d = option_and_then (λ (r : Ruleset). slice_get r.rules d.number) (s
 abbrev pub place_text : List File → Place → List ℕ
 place_text files p = name_of_file (slice_get files p.file) ++ (codes ":" ++ decimal p.line)
 
+abbrev pub parenthesized : List File → Place → List ℕ
+parenthesized files p = codes " (" ++ (place_text files p ++ codes ")")
+
 abbrev pub in_parentheses : List File → Option (At PlainRule) → List ℕ
 in_parentheses files None = []
-in_parentheses files (Some r) = codes " (" ++ (place_text files r.place ++ codes ")")
+in_parentheses files (Some r) = parenthesized files r.place
 
 abbrev pub behind_text : List File → List Ruleset → Option Decided → List ℕ
 behind_text files rs d = in_parentheses files (option_and_then (rule_at rs) d)
