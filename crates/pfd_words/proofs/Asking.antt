@@ -1,12 +1,12 @@
 -- Lemmas on what the words ask for.
-use Rattle.std.proofs.Common.{◌≡◌, ◌∙◌, ◌<◌, ap, ap₂, arith, lit<, refl, sym, ℕ, true, List, [], ◌∷◌, Option, Some, None, Result, Ok, Err, codes, inl, inr, slice_index, subst, Bor}
+use Rattle.std.proofs.Common.{◌≡◌, ◌∙◌, ◌<◌, ap, ap₂, arith, lit<, refl, sym, ℕ, Bool, true, false, List, [], ◌∷◌, Option, Some, None, Result, Ok, Err, codes, inl, inr, slice_index, subst, Bor}
 use Rattle.std.specs.{Prelude.{option_map, unwrap_or}, Str.Parse.ParsesUnsigned}
 use Rattle.clap.specs.Words.{ReadsOne, Row, Text, is_simple, subcommand_of, takes}
 use Rattle.clap.proofs.OnLiterals.{clap_on_literals}
 use Rattle.clap.specs.declared.error.kind.ErrorKind.{ErrorKind, TheVariants.OutOfMemory}
 use Rattle.pfd_words.specs.declared.words.{Task.Task, Task.TheVariants.{Run, RunOn, Format, Show, Serve, Connect, Conf, Load}, TheConstants.{MEMORY_SIZE, HISTORY_LIMIT}}
 use Rattle.pfd_words.specs.declared.conf.{Question.Question, Question.TheVariants.{Meaning, Outcomes, Coverage, Matches}}
-use Rattle.pfd_words.specs.Conf.{AsksQuestion}
+use Rattle.pfd_words.specs.{Conf.{AsksQuestion}, Options.{IsFlag}}
 use Rattle.pfd_words.specs.Words.{IsAsked, IsPlainRun, IsRefused, IsRefusedMode, MaySayNumber, SaysNumber, plain_run, program_words}
 
 -- ---- `pfd run`
@@ -86,7 +86,7 @@ named None rows is = absurd (cc (is))
 named (Some (name, others)) rows is = let e : others ≡ rows = cc (is) in (name, ap (λ (r : List Row). Some (name, r)) e)
 
 -- a text is the option's, or a default without one
-text_read : (o : Option (Bor Text)) (d : Bor Text) (text : Text) (v : Option Text) → d.now ≡ text → option_map (λ s. s.now) o ≡ v
+pub text_read : (o : Option (Bor Text)) (d : Bor Text) (text : Text) (v : Option Text) → d.now ≡ text → option_map (λ s. s.now) o ≡ v
     → (unwrap_or o d).now ≡ unwrap_or v text
 text_read None d text v default is = default ∙ ap (λ (x : Option Text). unwrap_or x text) is
 text_read (Some s) d text v default is = ap (λ (x : Option Text). unwrap_or x text) is
@@ -95,6 +95,11 @@ text_read (Some s) d text v default is = ap (λ (x : Option Text). unwrap_or x t
 pub path_read : (o : Option (Bor Text)) (d : Bor Text) (v : Option Text) → d.now ≡ [] → option_map (λ s. s.now) o ≡ v
     → (unwrap_or o d).now ≡ unwrap_or v []
 path_read o d v empty is = text_read o d [] v empty is
+
+-- a flag is what clap says of the option
+pub flag_read : (o v : Option Text) (said : Bool) → (o ≡ None → said ≡ false) → (o ≡ Some (codes "true") → said ≡ true) → (o ≡ Some (codes "false") → said ≡ false) → o ≡ v → IsFlag v said
+flag_read o None said none on off is = none is
+flag_read o (Some text) said none on off is = (λ same. on (is ∙ ap Some same), λ same. off (is ∙ ap Some same))
 
 -- texts are the option's, or there are none without one
 pub texts_read : (o v w : Option (List Text)) → o ≡ v → v ≡ w → unwrap_or o [] ≡ unwrap_or w []

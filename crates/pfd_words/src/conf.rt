@@ -2,7 +2,7 @@
 ghost use Rattle.std.specs.Prelude.{◌≡◌, ℕ, IfOk, List, Some, codes, false};
 ghost use Rattle.clap.specs.Words.{app_of, found_of, rows_of, rule_of};
 ghost use Rattle.clap.specs.declared.builder.command.Command.TheViews.{out-Command};
-ghost use Rattle.pfd_words.specs.{Conf.{file_rule, lenient_rule, cases_rule, conf_words, case_words, check_words, test_words, cover_words, explain_words, AsksConf}, Options.{SaysText, SaysFlag}};
+ghost use Rattle.pfd_words.specs.{Conf.{file_rule, lenient_rule, cases_rule, flag_rule, text_rule, conf_words, case_words, check_words, test_words, cover_words, explain_words, AsksConf}, Options.{SaysText, SaysFlag}};
 
 use crate::options::{is_said, text_if_any, text_in, texts_in};
 use clap::{Arg, ArgAction, ArgMatches, Command};
@@ -72,6 +72,26 @@ fn cases<'a>(alloc: Global) -> Arg<'a>
         .help("Files of cases, each a line PACKET -> VERDICT")
 }
 
+fn tap<'a>(alloc: Global) -> Arg<'a>
+    ensures rule { rule_of result ≡ flag_rule (codes "tap") }
+    ensures local { result.global ≡ false }
+{
+    Arg::new(alloc, "tap")
+        .long("tap")
+        .action(ArgAction::SetTrue)
+        .help("Writes the outcomes in TAP")
+}
+
+fn junit<'a>(alloc: Global) -> Arg<'a>
+    ensures rule { rule_of result ≡ text_rule (codes "junit") }
+    ensures local { result.global ≡ false }
+{
+    Arg::new(alloc, "junit")
+        .long("junit")
+        .value_name("FILE")
+        .help("Writes the outcomes to this file too, in JUnit's XML")
+}
+
 // The options of a subcommand, added two at a time.
 
 /// A subcommand of this name that asks something of a pf.conf.
@@ -110,19 +130,11 @@ pub(crate) fn test_words<'a>(alloc: Global) -> Result<Command<'a>, AllocError>
     ensures app { IfOk result (λ c. app_of c ≡ test_words) }
     ensures local { IfOk result (λ c. (out-Command c).has_globals ≡ false) }
 {
-    let tap = Arg::new(alloc, "tap")
-        .long("tap")
-        .action(ArgAction::SetTrue)
-        .help("Writes the outcomes in TAP");
-    let junit = Arg::new(alloc, "junit")
-        .long("junit")
-        .value_name("FILE")
-        .help("Writes the outcomes to this file too, in JUnit's XML");
     let words = case_words(alloc, "test")?;
     words
         .about("Judges the packets of cases by a pf.conf, and shows each verdict that differs")
-        .arg(tap)?
-        .arg(junit)
+        .arg(tap(alloc))?
+        .arg(junit(alloc))
 }
 
 pub(crate) fn cover_words<'a>(alloc: Global) -> Result<Command<'a>, AllocError>
