@@ -82,8 +82,8 @@ impl Firewall {
 
     /// Writes each rule whose tests hold for the packet with these words, in the order in which they are looked at; and the verdict.
     ///
-    /// `Fault::Packet`: the words are no packet, and nothing is written. `Fault::Output`: a front of that was written. Past 4,096 rules that
-    /// match the rest isn't written, but for the verdict.
+    /// `Fault::Packet`: the words are no packet, and nothing is written. `Fault::Output`: a front of that was written. Past 4,096 rules
+    /// that match the rest isn't written, but for the verdict.
     pub fn explain<W: Write>(&self, alloc: Global, out: &mut W, texts: &[&str]) -> Result<(), Fault>
         ensures { IsExplained self.now (joined texts.now) result (W.contents out.old) (W.contents out.new) }
     {

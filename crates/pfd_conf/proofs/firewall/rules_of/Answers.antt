@@ -10,4 +10,5 @@ returns-then-len-eq-RULE_LIMIT-clause-rules c =
     first_rules c.args.rules.now c.loop-rule.rule-index c.loop-rule.plain.items c.loop-rule.invariant.0 many
 
 pub returns-clause-rules : goal.returns-clause-rules
-returns-clause-rules c = all_rules c.args.rules.now c.loop-rule.rule-index c.loop-rule.plain.items c.loop-rule.invariant.0 c.loop-rule.invariant.2 c.loop-rule-test.false
+returns-clause-rules c = all_rules c.args.rules.now c.loop-rule.rule-index c.loop-rule.plain.items c.loop-rule.invariant.0
+    c.loop-rule.invariant.2 c.loop-rule-test.false

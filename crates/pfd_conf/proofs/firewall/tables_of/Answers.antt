@@ -10,9 +10,11 @@ loop-table-preserved c =
     let i = c.loop-table.table-index in
     elim c.match-branch-2.branch [
       | in-Some+in_ok-push w ↦
-          some_more table_of tables i c.table-item.result w.in-Some.table c.loop-table.placed.items c.match-branch-2.placed.items c.loop-table.invariant c.loop-table-test.true c.table-item.is
+          some_more table_of tables i c.table-item.result w.in-Some.table c.loop-table.placed.items c.match-branch-2.placed.items
+          c.loop-table.invariant c.loop-table-test.true c.table-item.is
           (sym c.in_ok-table.ensures ∙ w.in-Some.is) (rw w.placed-is w.in_ok-push.ensures.items)
       | in_default w ↦
-          none_more table_of tables i c.table-item.result c.loop-table.placed.items c.match-branch-2.placed.items c.loop-table.invariant c.loop-table-test.true c.table-item.is
+          none_more table_of tables i c.table-item.result c.loop-table.placed.items c.match-branch-2.placed.items c.loop-table.invariant
+          c.loop-table-test.true c.table-item.is
           (sym c.in_ok-table.ensures ∙ w.in_default.is) (rw w.placed-is refl)
     ]

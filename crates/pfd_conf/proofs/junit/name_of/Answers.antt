@@ -9,6 +9,8 @@ pub returns : goal.returns
 returns c =
     let w =
     behind_nothing tt
-    (Continues-then (Continues-then (Continues-then c.write_more-so_far.ensures c.write_more_number-so_far.ensures) c.write_more-so_far-2.ensures) c.write_spaced.ensures) in
+    (Continues-then (Continues-then (Continues-then c.write_more-so_far.ensures c.write_more_number-so_far.ensures)
+    c.write_more-so_far-2.ensures) c.write_spaced.ensures) in
     rw c.new-name.ensures.items at
-    (all_at_ok c.write_spaced.result _ (Some c.new-name.result.items) (Some c.write_spaced.new.out.items) (name_text c.args.line (texts c.args.words.now)) c.in_ok-written.ensures.ok w.0)
+    (all_at_ok c.write_spaced.result _ (Some c.new-name.result.items) (Some c.write_spaced.new.out.items)
+    (name_text c.args.line (texts c.args.words.now)) c.in_ok-written.ensures.ok w.0)

@@ -12,8 +12,10 @@ returns-in_err-written g c =
     let old = g.W.Write.contents c.args.out.now in
     let new = g.W.Write.contents c.write_explained.new.out in
     let q = err_from_is_err_and c.from_residual-in_err-written.result c.from_residual-in_err-written.ensures.1 in
-    stops_explaining f (joined c.args.texts.now) c.from_residual-in_err-written.result q.0 p t old new q.1 (q.2 ∙ c.in_err-written.ensures.err)
-    c.in_ok-packet.ensures.read c.in_ok-traced.ensures (some_front c.write_explained.result old new (explained_text f p t) c.write_explained.ensures)
+    stops_explaining f (joined c.args.texts.now) c.from_residual-in_err-written.result q.0 p t old new q.1
+    (q.2 ∙ c.in_err-written.ensures.err)
+    c.in_ok-packet.ensures.read c.in_ok-traced.ensures
+    (some_front c.write_explained.result old new (explained_text f p t) c.write_explained.ensures)
 
 pub returns : goal.returns
 returns g c =
@@ -24,4 +26,5 @@ returns g c =
     let mid = g.W.Write.contents c.write_explained.new.out in
     explains f (joined c.args.texts.now) c.written-2.result p t old mid (g.W.Write.contents c.flush.new.self) c.written-2.ensures.err
     c.in_ok-packet.ensures.read c.in_ok-traced.ensures
-    (all_at_ok c.write_explained.result _ old mid (explained_text f p t) c.in_ok-written.ensures.ok c.write_explained.ensures) c.flush.ensures.bytes
+    (all_at_ok c.write_explained.result _ old mid (explained_text f p t) c.in_ok-written.ensures.ok c.write_explained.ensures)
+    c.flush.ensures.bytes

@@ -13,7 +13,8 @@ returns-in_err-written g c =
     let suites = suites_text c.args.self.now c.args.tried.now in
     let w = behind_nothing tt (rw c.of.ensures at c.write_head.ensures) in
     stopped _ c.from_residual.result old new (junit_text c.args.self.now c.args.tried.now) c.from_residual.ensures.1
-    (WritesFront-longer old new (head ++ suites) (codes "</testsuites>\n") (WritesFront-longer old new head suites (some_front c.write_head.result old new head w.0)))
+    (WritesFront-longer old new (head ++ suites) (codes "</testsuites>\n")
+    (WritesFront-longer old new head suites (some_front c.write_head.result old new head w.0)))
 
 pub returns-in_err-write_suites : goal.returns-in_err-write_suites
 returns-in_err-write_suites g c =
@@ -23,9 +24,11 @@ returns-in_err-write_suites g c =
     let head = head_text (tally c.args.tried.now) in
     let suites = suites_text c.args.self.now c.args.tried.now in
     let w = behind_nothing tt (rw c.of.ensures at c.write_head.ensures) in
-    stopped _ c.from_residual-in_err-write_suites.result old new (junit_text c.args.self.now c.args.tried.now) c.from_residual-in_err-write_suites.ensures.1
+    stopped _ c.from_residual-in_err-write_suites.result old new (junit_text c.args.self.now c.args.tried.now)
+    c.from_residual-in_err-write_suites.ensures.1
     (WritesFront-longer old new (head ++ suites) (codes "</testsuites>\n")
-    (WritesFront-then old mid new head suites (all_at_ok c.write_head.result _ old mid head c.in_ok-written.ensures.ok w.0) c.in_err-write_suites.ensures))
+    (WritesFront-then old mid new head suites (all_at_ok c.write_head.result _ old mid head c.in_ok-written.ensures.ok w.0)
+    c.in_err-write_suites.ensures))
 
 pub returns-in_err-written-2 : goal.returns-in_err-written-2
 returns-in_err-written-2 g c =
@@ -37,9 +40,11 @@ returns-in_err-written-2 g c =
     let suites = suites_text c.args.self.now c.args.tried.now in
     let w = behind_nothing tt (rw c.of.ensures at c.write_head.ensures) in
     let last = behind_nothing tt c.write_more.ensures in
-    stopped _ c.from_residual-in_err-written-2.result old new (junit_text c.args.self.now c.args.tried.now) c.from_residual-in_err-written-2.ensures.1
+    stopped _ c.from_residual-in_err-written-2.result old new (junit_text c.args.self.now c.args.tried.now)
+    c.from_residual-in_err-written-2.ensures.1
     (WritesFront-then old mid new (head ++ suites) (codes "</testsuites>\n")
-    (Appends-then old first mid head suites (all_at_ok c.write_head.result _ old first head c.in_ok-written.ensures.ok w.0) c.in_ok-write_suites.ensures)
+    (Appends-then old first mid head suites (all_at_ok c.write_head.result _ old first head c.in_ok-written.ensures.ok w.0)
+    c.in_ok-write_suites.ensures)
     (some_front c.write_more.result mid new (codes "</testsuites>\n") last.0))
 
 pub returns : goal.returns
@@ -54,5 +59,6 @@ returns g c =
     let last = behind_nothing tt c.write_more.ensures in
     flushed c.written-3.result old new (g.W.Write.contents c.flush.new.self) (junit_text c.args.self.now c.args.tried.now)
     (Appends-then old mid new (head ++ suites) (codes "</testsuites>\n")
-    (Appends-then old first mid head suites (all_at_ok c.write_head.result _ old first head c.in_ok-written.ensures.ok w.0) c.in_ok-write_suites.ensures)
+    (Appends-then old first mid head suites (all_at_ok c.write_head.result _ old first head c.in_ok-written.ensures.ok w.0)
+    c.in_ok-write_suites.ensures)
     (all_at_ok c.write_more.result _ mid new (codes "</testsuites>\n") c.in_ok-written-2.ensures.ok last.0)) c.flush.ensures.bytes

@@ -14,7 +14,8 @@ returns-in_err-written g c =
     let cases = testcases_text c.args.self.now t in
     let w = behind_nothing tt (rw c.tally_in.ensures at c.write_suite_head.ensures) in
     stopped _ c.from_residual.result old new (suite_text c.args.self.now t) c.from_residual.ensures.1
-    (WritesFront-longer old new (head ++ cases) (codes "  </testsuite>\n") (WritesFront-longer old new head cases (some_front c.write_suite_head.result old new head w.0)))
+    (WritesFront-longer old new (head ++ cases) (codes "  </testsuite>\n")
+    (WritesFront-longer old new head cases (some_front c.write_suite_head.result old new head w.0)))
 
 pub returns-in_err-write_testcases : goal.returns-in_err-write_testcases
 returns-in_err-write_testcases g c =
@@ -25,9 +26,11 @@ returns-in_err-write_testcases g c =
     let head = suite_head t.name.now (tally_in t) in
     let cases = testcases_text c.args.self.now t in
     let w = behind_nothing tt (rw c.tally_in.ensures at c.write_suite_head.ensures) in
-    stopped _ c.from_residual-in_err-write_testcases.result old new (suite_text c.args.self.now t) c.from_residual-in_err-write_testcases.ensures.1
+    stopped _ c.from_residual-in_err-write_testcases.result old new (suite_text c.args.self.now t)
+    c.from_residual-in_err-write_testcases.ensures.1
     (WritesFront-longer old new (head ++ cases) (codes "  </testsuite>\n")
-    (WritesFront-then old mid new head cases (all_at_ok c.write_suite_head.result _ old mid head c.in_ok-written.ensures.ok w.0) c.in_err-write_testcases.ensures))
+    (WritesFront-then old mid new head cases (all_at_ok c.write_suite_head.result _ old mid head c.in_ok-written.ensures.ok w.0)
+    c.in_err-write_testcases.ensures))
 
 pub returns : goal.returns
 returns g c =
@@ -42,4 +45,5 @@ returns g c =
     let last = behind_nothing tt c.write_more.ensures in
     as_written c.written-2.result c.write_more.result _ old new (suite_text c.args.self.now t) c.written-2.ensures.ok
     (Writes-then c.write_more.result old mid new (head ++ cases) (codes "  </testsuite>\n")
-    (Appends-then old first mid head cases (all_at_ok c.write_suite_head.result _ old first head c.in_ok-written.ensures.ok w.0) c.in_ok-write_testcases.ensures) last.0)
+    (Appends-then old first mid head cases (all_at_ok c.write_suite_head.result _ old first head c.in_ok-written.ensures.ok w.0)
+    c.in_ok-write_testcases.ensures) last.0)

@@ -6,7 +6,16 @@ use Rattle.pfd_conf.proofs.firewall.Firewall.write_testcase.Goals as goal
 pub returns : goal.returns
 returns g c =
     let written =
-    rw (c.deref-3.ensures.value, c.deref-4.ensures.value, c.in_ok-name.ensures, c.in_ok-message.ensures, c.deref.ensures.value, c.deref-2.ensures.value, c.in_ok-words.ensures, c.line.ensures) at
+    rw (
+      c.deref-3.ensures.value,
+      c.deref-4.ensures.value,
+      c.in_ok-name.ensures,
+      c.in_ok-message.ensures,
+      c.deref.ensures.value,
+      c.deref-2.ensures.value,
+      c.in_ok-words.ensures,
+      c.line.ensures,
+    ) at
     c.write_element.ensures in
     let w = behind_nothing tt written in
     as_written c.written.result c.write_element.result _ (g.W.Write.contents c.args.out.now) (g.W.Write.contents c.write_element.new.out)
