@@ -1,7 +1,7 @@
 -- Rules that decide no case, by marks.
-use Rattle.std.proofs.Common.{◌≡◌, ◌≢◌, ℕ, zero, suc, ◌+◌, ◌<◌, ◌≤◌, ◌==◌, ◌||◌, ◌&&◌, Bool, true, false, List, [], ◌∷◌, ◌++◌, length, take, drop, get_or, set, Option, Some, None, refl, sym, ap, ◌∙◌, subst, arith, append_assoc, append-nil, length-set}
-use Rattle.std.proofs.lemmas.{Option.{slice_get-get_or}, List.{get_or-set_same, get_or-set_other, drop_all}, List.Folds.list_any_more, Bool.Decides.nat_tests, Grind.common_steps}
-use Rattle.std.specs.{Prelude.{unwrap_or, not, if◌then◌else◌}, List.{slice_get, list_any}}
+use Rattle.std.proofs.Common.{◌≡◌, ◌≢◌, ℕ, ◌+◌, ◌<◌, ◌≤◌, ◌==◌, ◌||◌, ◌&&◌, Bool, true, false, List, [], ◌∷◌, ◌++◌, length, take, drop, get_or, set, Option, Some, None, refl, sym, ap, ◌∙◌, subst, arith, append_assoc, append-nil, length-set}
+use Rattle.std.proofs.lemmas.{Option.{slice_get-get_or}, List.{get_or-set_same, get_or-set_other, drop_all}, List.Folds.list_any_more, Bool.Decides.nat_tests}
+use Rattle.std.specs.{Prelude.{unwrap_or, not, if◌then◌else◌}, List.{slice_get}}
 use Rattle.pf_rule.specs.Rules.{PlainRule}
 use Rattle.pf_parse.specs.declared.fault.At.{At}
 use Rattle.pf_conf.specs.declared.found.Ruleset.{Ruleset}

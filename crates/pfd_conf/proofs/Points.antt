@@ -1,7 +1,7 @@
 -- The points of TAP, which are numbered through all files.
-use Rattle.std.proofs.Common.{◌≡◌, ℕ, ◌+◌, ◌<◌, ◌≤◌, List, [], ◌∷◌, ◌++◌, length, take, drop, get_or, refl, sym, ap, ◌∙◌, subst, arith, append_assoc}
+use Rattle.std.proofs.Common.{◌≡◌, ℕ, ◌+◌, ◌<◌, ◌≤◌, List, [], ◌∷◌, ◌++◌, length, take, drop, get_or, refl, sym, ap, ◌∙◌, arith}
 use Rattle.std.proofs.lemmas.List.{drop_all, get_or_default, Sums.sum_by_more}
-use Rattle.std.specs.Prelude.{codes, min}
+use Rattle.std.specs.Prelude.{codes}
 use Rattle.pf_conf.specs.Shown.{newline}
 use Rattle.pf_conf.proofs.Steps.{drop_item}
 use Rattle.pfd_conf.specs.declared.{firewall.Firewall.Firewall, outcomes.Outcome.Outcome, outcomes.Tried.Tried}

@@ -1,9 +1,9 @@
 -- Texts that are written one after another.
-use Rattle.std.proofs.Common.{◌≡◌, ℕ, ◌+◌, ◌<◌, ◌≤◌, List, [], ◌∷◌, ◌++◌, length, take, drop, map, get_or, Option, Result, Ok, Err, refl, sym, ap, ◌∙◌, subst, append_assoc, append-nil, arith}
+use Rattle.std.proofs.Common.{◌≡◌, ℕ, ◌+◌, ◌<◌, ◌≤◌, List, [], ◌∷◌, ◌++◌, length, take, drop, get_or, Option, Result, Ok, Err, refl, sym, ap, ◌∙◌, subst, append_assoc, append-nil, arith}
 use Rattle.std.proofs.{lemmas.List.{take_all, take-append-drop, get_or_default}, lemmas.Grind.flat_map-append, Math.Seq.take-append_seam}
 use Rattle.std.specs.{List.flat_map, Prelude.codes, Io.KnownBytes.{Appends, Keeps}, Result.{IsErrAnd, OnOk}, declared.io.Error.Error}
 use denote.Ref.{Bor}
-use Rattle.pf_addr.specs.Writing.{Wrote, Writes, WritesFront, WritesFront-longer, WritesFront-then, Writes-then, Continues, Continues-then, Appends-none, Appends-then, Appends-kept}
+use Rattle.pf_addr.specs.Writing.{Writes, WritesFront, WritesFront-longer, WritesFront-then, Continues, Continues-then, Appends-none, Appends-then, Appends-kept}
 use Rattle.pf_form.specs.Form.Words.{Word, texts}
 use Rattle.pfd_conf.specs.Reports.{spaced}
 use Rattle.pf_conf.proofs.{Steps.{take_item, drop_item}, Texts.Before}

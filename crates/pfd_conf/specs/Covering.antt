@@ -49,8 +49,8 @@ unmarked_from within number marks (r ∷ rs) =
 -- the same by the cases
 abbrev pub uncovered_in : List Tried → ℕ → ℕ → List (At PlainRule) → List Decided
 uncovered_in ts within number [] = []
-uncovered_in ts within number (r ∷ rs) = unless_marked within number (decides_some within number ts) r.is ++ uncovered_in ts within
-    (number + 1) rs
+uncovered_in ts within number (r ∷ rs) =
+    unless_marked within number (decides_some within number ts) r.is ++ uncovered_in ts within (number + 1) rs
 
 abbrev pub uncovered_from : List Tried → ℕ → List Ruleset → List Decided
 uncovered_from ts within [] = []

@@ -1,5 +1,5 @@
 -- A file's rules and tables as packets are judged by them (pf.conf(5), PACKET FILTERING and TABLES), and where each rule is written.
-use Rattle.std.specs.Prelude.{ℕ, List, [], ◌∷◌, ◌++◌, map, take, codes, decimal, position, Option, Some, None, Result, Ok, Err}
+use Rattle.std.specs.Prelude.{ℕ, List, [], ◌++◌, map, take, codes, decimal, position, Option, Some, None, Result, Ok, Err}
 use Rattle.std.specs.{List.{slice_get, filter_map}, Option.{option_map, option_and_then}}
 use Rattle.pf_addr.specs.Path.{Paths.same_path, Names.table_name_of}
 use Rattle.pf_form.specs.declared.form.fault.Kind.{Kind}

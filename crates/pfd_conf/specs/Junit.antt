@@ -1,5 +1,5 @@
 -- The outcomes of cases in JUnit's XML (XML 1.0, sections 2.4 and 3.3.3, on attributes).
-use Rattle.std.specs.Prelude.{ℕ, ◌+◌, ◌^◌, ◌-◌, ◌==◌, nat_lt, min, Bool, true, false, List, [], ◌∷◌, ◌++◌, count_by, codes, decimal, if◌then◌else◌}
+use Rattle.std.specs.Prelude.{ℕ, ◌+◌, ◌==◌, nat_lt, Bool, true, false, List, [], ◌∷◌, ◌++◌, count_by, codes, decimal, if◌then◌else◌}
 use Rattle.std.specs.List.{flat_map}
 use Rattle.pf_form.specs.Form.Words.{Word}
 use Rattle.pfd_conf.specs.declared.{firewall.Firewall.Firewall, outcomes.Outcome.Outcome, outcomes.Tried.Tried, report.Tally.Tally}

@@ -1,5 +1,5 @@
 -- How a user is told of cases: those that don't hold, with what they came to and where the rule is written that decides; and how many hold.
-use Rattle.std.specs.Prelude.{ℕ, ◌+◌, ◌-◌, ◌^◌, ◌==◌, min, Bool, true, false, List, [], ◌∷◌, ◌++◌, take, drop, length, sum_by, count_by, codes, decimal, Option, Some, None, if◌then◌else◌}
+use Rattle.std.specs.Prelude.{ℕ, ◌+◌, ◌-◌, ◌^◌, min, Bool, true, false, List, [], ◌∷◌, ◌++◌, take, drop, length, sum_by, count_by, codes, decimal, Option, Some, None, if◌then◌else◌}
 use Rattle.std.specs.{List.{slice_get, flat_map}, Option.option_map_or}
 use Rattle.pf_form.specs.Form.Words.{Word, words_of, texts}
 use Rattle.pf_conf.specs.declared.found.Ruleset.{Ruleset}

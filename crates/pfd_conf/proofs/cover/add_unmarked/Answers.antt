@@ -1,7 +1,6 @@
-use Rattle.std.proofs.Common.{◌≡◌, ◌++◌, ◌∙◌, [], ◌∷◌, Bool, true, false, List, Option, sym, ap, arith, rules}
+use Rattle.std.proofs.Common.{◌≡◌, ◌++◌, ◌∙◌, [], ◌∷◌, Bool, true, false, Option, sym, ap, arith, rules}
 use Rattle.std.proofs.lemmas.Option.{unwrap_or-slice_get}
 use Rattle.std.specs.{Prelude.unwrap_or, List.slice_get}
-use Rattle.pfd_conf.specs.declared.firewall.Decided.{Decided}
 use Rattle.pfd_conf.specs.Covering.{unless_marked}
 use Rattle.pfd_conf.proofs.Covered.{one_more_rule, kept_rule, anchor_rule, marked_rule}
 use Rattle.pfd_conf.proofs.cover.add_unmarked.Goals.{then-is_deciding+then-not-is_marked+in_ok-push, else-is_deciding, else-is_deciding-via-then-is_deciding+else-not-is_marked, else-is_deciding-via-else-is_deciding}

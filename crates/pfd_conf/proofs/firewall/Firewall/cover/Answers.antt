@@ -1,4 +1,3 @@
-use Rattle.std.proofs.Common.{◌≡◌, ◌∙◌, ap, length}
 use Rattle.pf_addr.specs.Writing.{Continues-then, behind_nothing, Appends-kept}
 use Rattle.pfd_conf.specs.Covering.{cover_text}
 use Rattle.pfd_conf.proofs.Texts.{some_front, all_at_ok, stopped, kept_front}

@@ -1,7 +1,7 @@
 use Rattle.std.proofs.Common.{[]}
 use Rattle.std.proofs.lemmas.Result.{err_from_is_err_and}
 use Rattle.pf_form.specs.Form.Words.{texts}
-use Rattle.pfd_conf.specs.Outcomes.{outcome_at, outcomes_from}
+use Rattle.pfd_conf.specs.Outcomes.{outcomes_from}
 use Rattle.pfd_conf.proofs.Judging.{judged_on, judged_stops, judged_all, gives_on}
 use Rattle.pfd_conf.proofs.firewall.Firewall.outcomes_of.Goals as goal
 

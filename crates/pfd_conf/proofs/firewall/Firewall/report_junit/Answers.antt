@@ -1,6 +1,6 @@
 use Rattle.std.proofs.Common.{◌++◌}
 use Rattle.std.specs.Prelude.{codes}
-use Rattle.pf_addr.specs.Writing.{WritesFront-longer, WritesFront-then, Appends-then, Writes-then, behind_nothing}
+use Rattle.pf_addr.specs.Writing.{WritesFront-longer, WritesFront-then, Appends-then, behind_nothing}
 use Rattle.pfd_conf.specs.{Reports.tally, Junit.{head_text, suites_text, junit_text}}
 use Rattle.pfd_conf.proofs.Texts.{stopped, some_front, all_at_ok, flushed}
 use Rattle.pfd_conf.proofs.firewall.Firewall.report_junit.Goals as goal

@@ -1,4 +1,3 @@
-use Rattle.std.proofs.Common.{◌∙◌}
 use Rattle.pfd_conf.specs.Covering.{uncovered_of}
 use Rattle.pfd_conf.proofs.Covered.{one_more_ruleset}
 use Rattle.pfd_conf.proofs.firewall.Firewall.uncovered.Goals as goal

@@ -1,4 +1,4 @@
-use Rattle.std.proofs.Common.{◌++◌, ◌+◌, drop}
+use Rattle.std.proofs.Common.{◌++◌, ◌+◌}
 use Rattle.std.specs.Prelude.{codes}
 use Rattle.pf_addr.specs.Writing.{Continues-then, WritesFront-longer, behind_nothing}
 use Rattle.pf_conf.specs.Shown.{newline}
