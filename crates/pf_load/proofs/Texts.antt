@@ -1,7 +1,7 @@
 -- Texts that are written one after another.
-use Rattle.std.proofs.Common.{◌≡◌, ℕ, zero, suc, ◌+◌, ◌-◌, ◌<◌, ◌≤◌, List, [], ◌∷◌, ◌++◌, length, take, drop, get_or, Option, Some, Result, Ok, refl, sym, ap, ◌∙◌, subst, arith, append_assoc, append-nil, length-drop}
+use Rattle.std.proofs.Common.{◌≡◌, ℕ, zero, suc, ◌+◌, ◌-◌, ◌<◌, ◌≤◌, List, [], ◌∷◌, ◌++◌, length, take, drop, get_or, Option, Some, Result, Ok, Err, refl, sym, ap, ◌∙◌, subst, arith, append_assoc, append-nil, length-drop, take-append-drop}
 use Rattle.std.proofs.{lemmas.List.take_all, lemmas.Grind.flat_map-append}
-use Rattle.std.specs.{List.flat_map, Io.KnownBytes.{Appends, Keeps}, declared.io.Error.Error}
+use Rattle.std.specs.{List.flat_map, Io.KnownBytes.{Appends, Keeps, Consumes}, Option.option_to_list, Result.IsErrAnd, declared.io.Error.Error}
 use Rattle.pf_addr.specs.Writing.{Wrote, Writes, WritesFront, WritesFront-longer, WritesFront-then, Continues, Continues-then, behind_nothing, Appends-none, Appends-then, Appends-kept}
 use Rattle.pf_form.specs.Form.Words.{Word}
 use Rattle.pf_table.specs.Entries.{PlainEntry}
@@ -125,3 +125,40 @@ pub whole_front : (old new : Option (List ℕ)) (text : List ℕ) → Appends ol
 whole_front old new text sent = (length text, subst (Appends old new) (sym (take-all-of text)) sent) where
   take-all-of : (xs : List ℕ) → take (length xs) xs ≡ xs
   take-all-of xs = take_all (length xs) xs (omega arith)
+
+-- of a text nothing was sent yet
+pub no_front : (old : Option (List ℕ)) (text : List ℕ) → WritesFront old old text
+no_front old text = (0, Appends-none old)
+
+-- whatever came of it, a front of a text was sent
+pub some_front : {A E : Type 0} (r : Result A E) (old new : Option (List ℕ)) (text : List ℕ) → Writes r old new text → WritesFront old new text
+some_front (Ok u) old new text sent = whole_front old new text sent
+some_front (Err e) old new text front = front
+
+-- a text that was sent whole, whatever comes of it
+pub sent_whole : {A E : Type 0} (r : Result A E) (old new : Option (List ℕ)) (text : List ℕ) → Appends old new text → Writes r old new text
+sent_whole (Ok u) old new text sent = sent
+sent_whole (Err e) old new text sent = whole_front old new text sent
+
+-- a text of which a front was sent, with a fault
+pub sent_front : {A E : Type 0} (r : Result A E) (why : E → Type 0) (old new : Option (List ℕ)) (text : List ℕ) → IsErrAnd r why → WritesFront old new text → Writes r old new text
+sent_front (Ok u) why old new text failed front = absurd failed
+sent_front (Err e) why old new text failed front = front
+
+-- of what is left a front of the next lines was sent
+pub stopped_within : (old mid new : Option (List ℕ)) (all left some rest : List ℕ) → some ++ rest ≡ left → SentSome old mid all left → WritesFront mid new some → WritesFront old new all
+stopped_within old mid new all left some rest cut so_far front =
+    stopped old mid new all left so_far (subst (WritesFront mid new) cut (WritesFront-longer mid new some rest front))
+
+pub cut_in_two : (left some rest : List ℕ) (n : ℕ) → some ≡ take n left → rest ≡ drop n left → some ++ rest ≡ left
+cut_in_two left some rest n front back =
+    ap (λ (l : List ℕ). l ++ rest) front ∙ ap (λ (l : List ℕ). take n left ++ l) back ∙ take-append-drop n left
+
+-- ---- what was read
+
+-- a line that was read into nothing, and its newline
+pub a_line_read : (old new : Option (List ℕ)) (before all line : List ℕ) (last : Option ℕ) → before ≡ [] → all ≡ line ++ option_to_list last → last ≡ Some 10 → Consumes old new (drop (length before) all) → Consumes old new (line ++ 10 ∷ [])
+a_line_read old new before all line last none parts is read =
+    let behind : drop (length before) all ≡ line ++ 10 ∷ [] =
+    ap (λ (l : List ℕ). drop (length l) all) none ∙ parts ∙ ap (λ (o : Option ℕ). line ++ option_to_list o) is in
+    subst (Consumes old new) behind read

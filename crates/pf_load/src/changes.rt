@@ -5,7 +5,7 @@ ghost use Rattle.pf_rule.specs.RuleText.{rule_text};
 ghost use Rattle.pf_table.specs.Edits.{deletions};
 ghost use Rattle.pf_conf.specs.Tables.{entry_text};
 ghost use Rattle.pf_load.specs.Lines.{newline};
-ghost use Rattle.pf_load.specs.Changes.{rules_heading, table_heading, marked, changes_text, WritesDifference, absent_in};
+ghost use Rattle.pf_load.specs.Changes.{rules_heading, table_heading, marked, changes_text, WritesDifference, absent_in, if_absent};
 
 use crate::fault::Fault;
 use crate::lines::{entries_of, path_text, write_entry};
@@ -271,11 +271,27 @@ fn absent_in(alloc: Global, other: &Table, entries: &[Entry]) -> Result<Vec<Byte
     let answers = answers_of(alloc, other, entries)?;
     let mut absent = Vec::new(alloc);
     for (at, entry) in entries.iter().enumerate() {
-        if answers.get(at) == Some(&Deletion::Absent) {
-            absent.push(entry_text(alloc, *entry)?)?;
-        }
+        add_absent(alloc, &mut absent, answers[at], *entry)?;
     }
     Ok(absent)
+}
+
+/// Appends the text of an entry, if a delete answers that it isn't there.
+fn add_absent(
+    alloc: Global,
+    absent: &mut Vec<Bytes>,
+    answer: Deletion,
+    entry: Entry,
+) -> Result<(), AllocError>
+    ensures { OnOk result (absent.new.items ≡ absent.old.items ++ map entry_text (if_absent answer entry)) }
+{
+    match answer {
+        Deletion::Deleted => Ok(()),
+        Deletion::Absent => {
+            absent.push(entry_text(alloc, entry)?)?;
+            Ok(())
+        }
+    }
 }
 
 /// What a table would answer if these entries were deleted from it.
