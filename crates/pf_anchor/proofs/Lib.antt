@@ -2,6 +2,7 @@ pub mod RulesetMaps
 pub mod TableMaps
 pub mod TablesAt
 pub mod TablesAnswered
+pub mod AnswersAt
 pub mod Evaluations
 pub mod PlainRules
 pub mod Turns

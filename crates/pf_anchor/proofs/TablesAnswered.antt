@@ -25,7 +25,7 @@ module _ {K X : Type 0} {R : K → K → Ordering} (o : IsTotalOrder R) where
   below_at q (e ∷ es) all zero d lt = less_of (R q e.0) (first_of _ _ all)
   below_at q (e ∷ es) all (suc j) d lt = below_at q es (second_of _ _ all) j d (omega (arith, lt))
 
-  rising : (es : List (K × X)) → T (is_sorted R es) → (i j : ℕ) (d : K × X) → i ≤ j → j < length es → is_gt (R (get_or es i d).0 (get_or es j d).0) ≡ false
+  pub rising : (es : List (K × X)) → T (is_sorted R es) → (i j : ℕ) (d : K × X) → i ≤ j → j < length es → is_gt (R (get_or es i d).0 (get_or es j d).0) ≡ false
   rising [] sorted i j d le lt = absurd (omega (arith, lt))
   rising (e ∷ es) sorted zero zero d le lt = ap is_gt (tied_itself o e.0)
   rising (e ∷ es) sorted zero (suc j) d le lt = ap is_gt (below_at e.0 es (first_of _ _ sorted) j d (omega (arith, lt)))
@@ -47,10 +47,10 @@ module _ {K X : Type 0} {R : K → K → Ordering} (o : IsTotalOrder R) where
   find_yes : (k : K) (e : K × X) (es : List (K × X)) → eq_by_cmp R k e.0 ≡ true → find R k (e ∷ es) ≡ Some e.1
   find_yes k e es is = ap (λ (b : Bool). cond b (Some e.1) (find R k es)) is
 
-  find_no : (k : K) (e : K × X) (es : List (K × X)) → eq_by_cmp R k e.0 ≡ false → find R k (e ∷ es) ≡ find R k es
+  pub find_no : (k : K) (e : K × X) (es : List (K × X)) → eq_by_cmp R k e.0 ≡ false → find R k (e ∷ es) ≡ find R k es
   find_no k e es is = ap (λ (b : Bool). cond b (Some e.1) (find R k es)) is
 
-  front_passed : (k : K) (n : ℕ) (es : List (K × X)) → ((i : ℕ) (d : K × X) → i < n → i < length es → eq_by_cmp R k (get_or es i d).0 ≡ false) → find R k es ≡ find R k (drop n es)
+  pub front_passed : (k : K) (n : ℕ) (es : List (K × X)) → ((i : ℕ) (d : K × X) → i < n → i < length es → eq_by_cmp R k (get_or es i d).0 ≡ false) → find R k es ≡ find R k (drop n es)
   front_passed k zero es none = refl
   front_passed k (suc n) [] none = refl
   front_passed k (suc n) (e ∷ es) none = find_no k e es (none 0 e (omega arith) (omega arith)) ∙ front_passed k n es (λ i d lt few. none (suc i) d (omega (arith, lt)) (omega (arith, few)))
@@ -72,7 +72,7 @@ module _ {K X : Type 0} {R : K → K → Ordering} (o : IsTotalOrder R) where
   before_all k q (e ∷ es) less all =
       find_no k e es (ap is_eq (o.trans k q e.0 less (less_of (R q e.0) (first_of _ _ all)))) ∙ before_all k q es less (second_of _ _ all)
 
-  sorted_back : (n : ℕ) (es : List (K × X)) → T (is_sorted R es) → T (is_sorted R (drop n es))
+  pub sorted_back : (n : ℕ) (es : List (K × X)) → T (is_sorted R es) → T (is_sorted R (drop n es))
   sorted_back zero es sorted = sorted
   sorted_back (suc n) [] sorted = tt
   sorted_back (suc n) (e ∷ es) sorted = sorted_back n es (second_of _ _ sorted)
@@ -99,26 +99,13 @@ module _ (packet : PlainPacket) where
   all_answered ts known sorted each =
       record { sorted = subst (λ (xs : List PlainAnswered). T (is_sorted table_order xs)) (sym each) (answered_sorted ts sorted); each = each }
 
-  answer_found : (k : TableKey) (ts : List PlainPlacedTable) → find table_order k (answered_by packet ts) ≡ option_map (answers packet) (find table_order k ts)
+  pub answer_found : (k : TableKey) (ts : List PlainPlacedTable) → find table_order k (answered_by packet ts) ≡ option_map (answers packet) (find table_order k ts)
   answer_found k [] = refl
   answer_found k (t ∷ ts) = by (eq_by_cmp table_order k t.0) (answer_found k ts) where
     by : (b : Bool) → find table_order k (answered_by packet ts) ≡ option_map (answers packet) (find table_order k ts) →
         cond b (Some (answers packet t.1)) (find table_order k (answered_by packet ts)) ≡ option_map (answers packet) (cond b (Some t.1) (find table_order k ts))
     by true rest = refl
     by false rest = rest
-
-  or_mapped : (a b : Option (List PlainEntry)) → option_or (option_map (answers packet) a) (option_map (answers packet) b) ≡ option_map (answers packet) (option_or a b)
-  or_mapped None b = refl
-  or_mapped (Some es) b = refl
-
-  -- the answers of the table that rules mean by a name
-  named_answers : (ts : List PlainPlacedTable) (known : List PlainAnswered) (p name : List ℕ) → AreAnswered packet ts known →
-      option_or (find table_order (p, name) known) (find table_order ([], name) known) ≡ option_map (answers packet) (named_table ts p name)
-  named_answers ts known p name is =
-      ap (λ (xs : List PlainAnswered). option_or (find table_order (p, name) xs) (find table_order ([], name) xs)) is.each
-      ∙ ap (λ (x : Option Answers). option_or x (find table_order ([], name) (answered_by packet ts))) (answer_found (p, name) ts)
-      ∙ ap (option_or (option_map (answers packet) (table_found p name ts))) (answer_found ([], name) ts)
-      ∙ or_mapped (table_found p name ts) (table_found [] name ts)
 
   abbrev said : Option (List PlainEntry) → Addr → Bool
   said t a = option_map_or (λ es. table_holds es a) t false
@@ -131,10 +118,9 @@ module _ (packet : PlainPacket) where
   nothing_said None a is = refl
   nothing_said (Some es) a is = absurd (cc (is))
 
-  module _ (ts : List PlainPlacedTable) (known : List PlainAnswered) (p name : List ℕ) (a : Addr) (is : AreAnswered packet ts known) where
-    pub answer_known : (x : Answers) (b : Bool) → Some x ≡ option_or (find table_order (p, name) known) (find table_order ([], name) known) →
-        ((es : List PlainEntry) → x ≡ answers packet es → b ≡ table_holds es a) → b ≡ tables_say ts p name a
-    answer_known x b found says = answer_said (named_table ts p name) x a b (found ∙ named_answers ts known p name is) says
+  module _ (ts : List PlainPlacedTable) (p name : List ℕ) (a : Addr) where
+    pub answer_known : (x : Answers) (b : Bool) → Some x ≡ option_map (answers packet) (named_table ts p name) → ((es : List PlainEntry) → x ≡ answers packet es → b ≡ table_holds es a) → b ≡ tables_say ts p name a
+    answer_known x b found says = answer_said (named_table ts p name) x a b found says
 
-    pub none_known : None ≡ option_or (find table_order (p, name) known) (find table_order ([], name) known) → false ≡ tables_say ts p name a
-    none_known found = nothing_said (named_table ts p name) a (found ∙ named_answers ts known p name is)
+    pub none_known : None ≡ option_map (answers packet) (named_table ts p name) → false ≡ tables_say ts p name a
+    none_known found = nothing_said (named_table ts p name) a found

@@ -4,7 +4,7 @@ use Rattle.pf_key.specs.Keys.{pair_order}
 use Rattle.pf_addr.specs.declared.path.limits.TheConstants.{DEPTH_LIMIT}
 use Rattle.pf_addr.specs.{Path.Paths.path_order, Path.Nested.{depth, is_child}, Path.References.PlainReference}
 use Rattle.pf_rule.specs.Packets.{PlainPacket}
-use Rattle.pf_anchor.specs.{declared.{evaluated.Evaluated.Evaluated, evaluated.Evaluated.TheVariants.Open}, Matches.PlainMatch, Rulesets.{PlainPlaced, leads_to, targets}, Configurations.PlainConfig, Evaluation.{and_then, in_turn, evaluation, matching}, Answered.{PlainAnswered, AreAnswered}}
+use Rattle.pf_anchor.specs.{declared.{evaluated.Evaluated.Evaluated, evaluated.Evaluated.TheVariants.Open}, Matches.PlainMatch, Rulesets.{PlainPlaced, leads_to, targets}, Configurations.PlainConfig, Evaluation.{and_then, in_turn, evaluation, matching}, Answered.{PlainAnswered, AreNamed}}
 
 -- what a ruleset of a configuration gives for a packet
 abbrev pub ruleset_gives : PlainConfig → PlainPacket → PlainPlaced → Evaluated PlainMatch
@@ -72,6 +72,6 @@ pub record IsEnough (f : PlainPlaced → Evaluated PlainMatch) (c : List PlainPl
   pub each : (r : PlainReference) → given (leads_to p r) ks ≡ in_turn f (targets c p r)
 
 -- all that a packet's evaluation by the rules at p asks for is known of a configuration: what they lead to gives, and what tables say
-pub record IsKnownFor (c : PlainConfig) (packet : PlainPacket) (p : List ℕ) (ks : List PlainKnown) (answered : List PlainAnswered) : Type 0 where
+pub record IsKnownFor (c : PlainConfig) (packet : PlainPacket) (p : List ℕ) (ks : List PlainKnown) (own main : List PlainAnswered) : Type 0 where
   pub rulesets : IsEnough (ruleset_gives c packet) c.rulesets p ks
-  pub tables : AreAnswered packet c.tables answered
+  pub tables : AreNamed packet c.tables p own main

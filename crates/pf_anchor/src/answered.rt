@@ -1,7 +1,9 @@
 //! What tables say of a packet's two addresses, each of them asked once.
-ghost use Rattle.std.specs.{Prelude.{◌≡◌, ◌<◌, ◌≤◌, T, length, take, true, false, List, [], IfSome, MatchOption}, Ordering.is_gt, Option.{option_map, option_or}, FinMap.{find, is_sorted}, List.Sorted.IsPartitionPoint};
+ghost use Rattle.std.specs.{Prelude.{◌≡◌, ◌<◌, ◌≤◌, T, length, take, true, false, List, IfSome, MatchOption}, Ordering.{is_gt, is_ge}, Option.option_map, FinMap.{find, is_sorted}, List.Sorted.IsPartitionPoint};
+ghost use Rattle.pf_addr.specs.Path.Paths.{path_order};
+ghost use Rattle.pf_rule.specs.Packets.{PlainPacket};
 ghost use Rattle.pf_table.specs.{Entries.PlainEntry, Tables.table_holds};
-ghost use Rattle.pf_anchor.specs.{Tables.{table_order, tables_say}, Answered.{AreAnswered, answers, answered_by}};
+ghost use Rattle.pf_anchor.specs.{Tables.{PlainPlacedTable, named_table, table_order, tables_say}, Answered.{AreAnswered, AreAnsweredAt, AreNamed, answers, answered_by}};
 
 use crate::config::Config;
 use crate::limits::TABLE_COUNT_LIMIT;
@@ -9,7 +11,7 @@ use crate::named_tables::{AskedTables, NamedTables};
 use crate::tables::{Place, PlacedTable};
 use pf_addr::Addr;
 use pf_addr::path::{Path, TableName};
-use pf_key::Sought;
+use pf_key::{Key, Sought};
 use pf_rule::{Packet, TableAnswers};
 use std::array;
 use std::marker::Model;
@@ -119,19 +121,52 @@ fn answered_at<'k, 'a>(
     }
 }
 
-// The answers of the table that the rules of the ruleset at a path mean by a name.
-fn answered_for<'k, 'a>(
-    known: &'k [Answered<'a>],
-    path: &Path,
-    name: &TableName,
-) -> Option<&'k Answered<'a>>
+// How many of them are at paths before one.
+fn count_before_path(known: &[Answered<'_>], path: &Path) -> usize
     requires { T (is_sorted table_order known.now) }
-    ensures { option_map (λ a. a.now.1) result
-        ≡ option_or (find table_order (path.now, name.now) known.now) (find table_order ([], name.now) known.now) }
+    ensures within { result ≤ length known.now }
+    ensures place { IsPartitionPoint (λ a. is_gt (path_order path.now a.0.0) ≡ true) (λ a. is_gt (path_order path.now a.0.0) ≡ false) known.now result }
 {
-    match answered_at(known, path, name) {
-        Some(own) => Some(own),
-        None => answered_at(known, &Path::main(), name),
+    known.partition_point(|one| path.order(&one.placed.key().0).is_gt())
+}
+
+// How many of them are at paths before one, or at this.
+fn count_up_to_path(known: &[Answered<'_>], path: &Path) -> usize
+    requires { T (is_sorted table_order known.now) }
+    ensures within { result ≤ length known.now }
+    ensures place { IsPartitionPoint (λ a. is_ge (path_order path.now a.0.0) ≡ true) (λ a. is_ge (path_order path.now a.0.0) ≡ false) known.now result }
+{
+    known.partition_point(|one| path.order(&one.placed.key().0).is_ge())
+}
+
+// The answers of the tables at a path, which stand together.
+fn all_at<'k, 'a>(known: &'k [Answered<'a>], path: &Path) -> &'k [Answered<'a>]
+    requires { T (is_sorted table_order known.now) }
+    ensures { (packet : PlainPacket) (ts : List PlainPlacedTable) → AreAnswered packet ts known.now → AreAnsweredAt packet ts path.now result.now }
+{
+    let start = count_before_path(known, path);
+    let behind = &known[start..];
+    let count = count_up_to_path(behind, path);
+    &behind[..count]
+}
+
+/// The answers of the tables that a ruleset's rules may mean by a name.
+#[derive(Clone, Copy)]
+pub(crate) struct NamedAnswers<'k, 'a> {
+    /// Of those at its path.
+    pub own: &'k [Answered<'a>],
+    /// Of the main ruleset's.
+    pub main: &'k [Answered<'a>],
+}
+
+/// Of the answers of all tables, those that the rules of the ruleset at a path may mean. They are found once for all of its rules.
+pub(crate) fn named_by<'k, 'a>(known: &'k [Answered<'a>], path: &Path) -> NamedAnswers<'k, 'a>
+    requires { T (is_sorted table_order known.now) }
+    ensures { (packet : PlainPacket) (ts : List PlainPlacedTable) → AreAnswered packet ts known.now → AreNamed packet ts path.now result.own.now result.main.now }
+{
+    NamedAnswers {
+        own: all_at(known, path),
+        main: all_at(known, &Path::main()),
     }
 }
 
@@ -141,15 +176,27 @@ pub(crate) struct AnsweredTables<'k, 'a> {
     pub config: &'a Config,
     pub packet: &'k Packet,
     pub path: &'a Path,
-    pub known: &'k [Answered<'a>],
-    ghost right: { AreAnswered packet.now config.now.tables known.now },
+    pub known: NamedAnswers<'k, 'a>,
+    ghost right: { AreNamed packet.now config.now.tables path.now known.own.now known.main.now },
+}
+
+impl<'k, 'a> AnsweredTables<'k, 'a> {
+    // The answers of the table that the rules mean by a name.
+    fn answered(&self, name: &TableName) -> Option<&'k Answered<'a>>
+        ensures { option_map (λ a. a.now.1) result ≡ option_map (answers self.now.packet.now) (named_table self.now.config.now.tables self.now.path.now name.now) }
+    {
+        match answered_at(self.known.own, self.path, name) {
+            Some(own) => Some(own),
+            None => answered_at(self.known.main, &Path::main(), name),
+        }
+    }
 }
 
 impl<'k, 'a> TableAnswers for AnsweredTables<'k, 'a> {
     ghost says = { λ t. tables_say t.config.now.tables t.path.now };
 
     fn holds(&self, name: &TableName, address: Addr) -> bool {
-        let Some(table) = answered_for(self.known, self.path, name) else {
+        let Some(table) = self.answered(name) else {
             return false;
         };
         match table.answer(self.packet, address) {

@@ -2,9 +2,9 @@
 ghost use Rattle.std.specs.Prelude.{◌≡◌, ◌<◌, ◌≤◌, ◌*◌, ℕ, true, None, filter, length, IfSome, MatchOption};
 ghost use Rattle.pf_addr.specs.Path.Nested.{is_child};
 ghost use Rattle.pf_lanes.specs.{Masks.is_set, Answered.{block_match, eight_from}, Probes.{PlainProbe, asked}};
-ghost use Rattle.pf_anchor.specs.{Rulesets.targets, Tables.tables_say, declared.evaluated.Evaluated.TheVariants.Open, Blocks.{AreStops, GivesLast, NoneBetween, IsStop, given_from}, Evaluation.{effected, in_turn, matching, rules_at_path}, Answered.AreAnswered, Known.{IsKnownFor, ruleset_gives}};
+ghost use Rattle.pf_anchor.specs.{Rulesets.targets, Tables.tables_say, declared.evaluated.Evaluated.TheVariants.Open, Blocks.{AreStops, GivesLast, NoneBetween, IsStop, given_from}, Evaluation.{effected, in_turn, matching, rules_at_path}, Answered.AreNamed, Known.{IsKnownFor, ruleset_gives}};
 
-use crate::answered::{Answered, AnsweredTables};
+use crate::answered::{AnsweredTables, NamedAnswers};
 use crate::config::Config;
 use crate::evaluated::{Evaluated, Match};
 use crate::known::{Known, given_for};
@@ -20,8 +20,8 @@ use pf_rule::{Effect, Packet, Rule, TableAnswers};
 pub(crate) struct Findings<'k, 'a> {
     /// What the rulesets that its rules lead to give.
     pub rulesets: &'k [Known<'a>],
-    /// What all tables say of the packet's addresses.
-    pub tables: &'k [Answered<'a>],
+    /// What the tables say of the packet's addresses that its rules may mean.
+    pub tables: NamedAnswers<'k, 'a>,
 }
 
 /// What is evaluated, and how it is found what anchor rules lead to and what tables say.
@@ -196,13 +196,13 @@ fn pass_blocks<'a, T: AskedTables>(
 #[inline(never)]
 fn pass_known<'k, 'a>(
     question: &Question<'k, 'a>,
-    known: &'k [Answered<'a>],
+    known: NamedAnswers<'k, 'a>,
     placed: &'a Placed,
     probe: &Option<Probe<'_>>,
     from: usize,
     before: Option<Match<'a>>,
 ) -> Option<Passed<'a>>
-    requires known { AreAnswered question.now.packet.now question.now.config.now.tables known.now }
+    requires known { AreNamed question.now.packet.now question.now.config.now.tables placed.now.0 known.own.now known.main.now }
     requires probe { IfSome probe.now (λ p. p ≡ asked placed.now.1 question.now.packet.now) }
     ensures { MatchOption result (question.now.is_bounded ≡ true) (λ r. MatchOption r.stop
         (given_from question.now.config.now question.now.packet.now placed.now from before.entry ≡ Open r.last)
@@ -227,7 +227,7 @@ fn pass<'a>(
     before: Option<Match<'a>>,
     work: &Work,
 ) -> Option<Passed<'a>>
-    requires known { IfSome question.now.known (λ k. AreAnswered question.now.packet.now question.now.config.now.tables k.tables.now) }
+    requires known { IfSome question.now.known (λ k. AreNamed question.now.packet.now question.now.config.now.tables placed.now.0 k.tables.own.now k.tables.main.now) }
     requires probe { IfSome probe.now (λ p. p ≡ asked placed.now.1 question.now.packet.now) }
     ensures { MatchOption result (question.now.is_bounded ≡ true) (λ r. MatchOption r.stop
         (given_from question.now.config.now question.now.packet.now placed.now from before.entry ≡ Open r.last)
@@ -256,7 +256,7 @@ pub(crate) fn evaluate<'a>(
     placed: &'a Placed,
     work: &Work,
 ) -> Option<Evaluated<Match<'a>>>
-    requires { IfSome question.now.known (λ k. IsKnownFor question.now.config.now question.now.packet.now placed.now.0 k.rulesets.now k.tables.now) }
+    requires { IfSome question.now.known (λ k. IsKnownFor question.now.config.now question.now.packet.now placed.now.0 k.rulesets.now k.tables.own.now k.tables.main.now) }
     ensures { MatchOption result (question.now.is_bounded ≡ true)
         (λ r. r ≡ ruleset_gives question.now.config.now question.now.packet.now placed.now) }
 {
@@ -287,7 +287,7 @@ fn each_match<'a>(
     mask: u8,
     work: &Work,
 ) -> Option<Evaluated<Match<'a>>>
-    requires enough { IfSome question.now.known (λ k. IsKnownFor question.now.config.now question.now.packet.now placed.now.0 k.rulesets.now k.tables.now) }
+    requires enough { IfSome question.now.known (λ k. IsKnownFor question.now.config.now question.now.packet.now placed.now.0 k.rulesets.now k.tables.own.now k.tables.main.now) }
     requires mask { (i : ℕ) → i < 8 → is_set mask i
         ≡ block_match (tables_say question.now.config.now.tables placed.now.0) placed.now.1 question.now.packet.now block i }
     ensures { MatchOption result (question.now.is_bounded ≡ true)
@@ -325,7 +325,7 @@ fn effected<'a>(
     rule: &Rule,
     work: &Work,
 ) -> Option<Evaluated<Match<'a>>>
-    requires { IfSome question.now.known (λ k. IsKnownFor question.now.config.now question.now.packet.now placed.now.0 k.rulesets.now k.tables.now) }
+    requires { IfSome question.now.known (λ k. IsKnownFor question.now.config.now question.now.packet.now placed.now.0 k.rulesets.now k.tables.own.now k.tables.main.now) }
     ensures { MatchOption result (question.now.is_bounded ≡ true)
         (λ r. r ≡ effected (ruleset_gives question.now.config.now question.now.packet.now) question.now.config.now.rulesets
         placed.now.0 number rule.now.effect) }
@@ -456,7 +456,7 @@ pub(crate) fn evaluate_known<'k, 'a>(
     placed: &'a Placed,
     known: Findings<'k, 'a>,
 ) -> Evaluated<Match<'a>>
-    requires { IsKnownFor config.now packet.now placed.now.0 known.rulesets.now known.tables.now }
+    requires { IsKnownFor config.now packet.now placed.now.0 known.rulesets.now known.tables.own.now known.tables.main.now }
     ensures { result ≡ ruleset_gives config.now packet.now placed.now }
 {
     let known = Some(known);

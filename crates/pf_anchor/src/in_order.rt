@@ -3,7 +3,7 @@ ghost use Rattle.std.specs.{Prelude.{◌≡◌, ◌<◌, ◌≤◌, ◌⊎◌, �
 ghost use Rattle.pf_addr.specs.Path.Paths.{same_path};
 ghost use Rattle.pf_anchor.specs.{Rulesets.IsMap, Evaluation.in_turn, Answered.AreAnswered, Known.{above_depth, at_depth, placed_of, ruleset_gives, AreGiven, IsListing}};
 
-use crate::answered::{Answered, answer_each, unanswered};
+use crate::answered::{Answered, answer_each, named_by, unanswered};
 use crate::config::Config;
 use crate::evaluate::{Findings, evaluate_known};
 use crate::evaluated::{Evaluated, Match};
@@ -72,11 +72,12 @@ fn evaluate_each<'a>(
         let number = left - 1;
         let all = &*table;
         let next = &all[number];
+        let placed = next.placed();
         let known = Findings {
             rulesets: &all[left..],
-            tables,
+            tables: named_by(tables, placed.key()),
         };
-        let gives = evaluate_known(config, packet, next.placed(), known);
+        let gives = evaluate_known(config, packet, placed, known);
         let found = next.found(gives, &all[left..]);
         table[number] = found;
         left = number;

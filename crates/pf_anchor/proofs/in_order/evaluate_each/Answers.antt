@@ -1,5 +1,5 @@
-use Rattle.std.proofs.Common.{sym, ap, subst, ◌∙◌}
-use Rattle.pf_anchor.specs.{declared.{evaluated.Evaluated.Evaluated}, Matches.PlainMatch, Rulesets.PlainPlaced, Evaluation.matching, Known.{ruleset_gives, IsListing}}
+use Rattle.std.proofs.Common.{ℕ, List, sym, ap, subst, ◌∙◌}
+use Rattle.pf_anchor.specs.{declared.{evaluated.Evaluated.Evaluated}, Matches.PlainMatch, Rulesets.PlainPlaced, Evaluation.matching, Answered.AreNamed, Known.{ruleset_gives, IsListing}}
 use Rattle.pf_anchor.proofs.EachKnown.{enough_here, sorted_here, still_few, still_listed, one_more_given, one_more_onward}
 use Rattle.pf_anchor.proofs.in_order.evaluate_each.Goals as goal
 
@@ -10,8 +10,9 @@ evaluate_known-gives-requires c =
     let listing = subst (IsListing config.rulesets) (sym loop.invariant.listed) c.requires.listed in
     record {
       rulesets = enough_here loop.table loop.left c.index-all-number.result c.loop-left-test.true loop.invariant.few c.index-all-number.is config.rulesets (matching config.tables c.args.packet.now)
-          c.placed.result.now listing loop.invariant.given loop.invariant.onward c.placed.ensures;
-      tables = c.requires.tables;
+          c.placed-placed.result.now listing loop.invariant.given loop.invariant.onward c.placed-placed.ensures;
+      tables = subst (λ (p : List ℕ). AreNamed c.args.packet.now config.tables p c.named_by.result.own.now c.named_by.result.main.now) c.key.ensures
+          (c.named_by.ensures c.args.packet.now config.tables c.requires.tables);
     }
 
 pub found-found-requires-clause-sorted : goal.found-found-requires-clause-sorted
@@ -28,7 +29,7 @@ loop-left-preserved c =
     let v = c.found-found.result in
     let f : PlainPlaced → Evaluated PlainMatch = ruleset_gives c.args.config.now c.args.packet.now in
     let is = c.found-found.ensures.placed in
-    let gives = c.found-found.ensures.gives ∙ c.evaluate_known-gives.ensures ∙ ap f c.placed.ensures in
+    let gives = c.found-found.ensures.gives ∙ c.evaluate_known-gives.ensures ∙ ap f c.placed-placed.ensures in
     record {
       few = still_few loop.table loop.left k c.loop-left-test.true loop.invariant.few c.index-all-number.is v is;
       listed = still_listed loop.table loop.left k c.loop-left-test.true loop.invariant.few c.index-all-number.is v is ∙ loop.invariant.listed;
