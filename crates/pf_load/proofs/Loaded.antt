@@ -132,9 +132,11 @@ module _ (given : RulesetName → Ticket) (names : List RulesetName) where
     by_rules : (q : RulesetName) (b : Bool) → same_name n q ≡ b → (cond b l (loaded t q)).rules ≡ (loaded t q).rules ++ cond b rules []
     by_rules q true same = ruled ∙ ap (λ (x : RulesetName). (loaded t x).rules ++ rules) (name_is n q same)
     by_rules q false same = sym (append-nil (loaded t q).rules)
+
     by_tables : (q : RulesetName) (name : Word) (b : Bool) → same_name n q ≡ b → find name_order name (cond b l (loaded t q)).tables ≡ cond b (E name (find name_order name (loaded t q).tables)) (find name_order name (loaded t q).tables)
     by_tables q name true same = filled name ∙ ap (λ (x : RulesetName). E name (find name_order name (loaded t x).tables)) (name_is n q same)
     by_tables q name false same = refl
+
     by_order : (q : RulesetName) → T (is_sorted name_order (loaded t q).tables) → (b : Bool) → same_name n q ≡ b → T (is_sorted name_order (cond b l (loaded t q)).tables)
     by_order q before true same = sorted (subst (λ (x : RulesetName). T (is_sorted name_order (loaded t x).tables)) (sym (name_is n q same)) before)
     by_order q before false same = before
@@ -324,9 +326,10 @@ module _ (given : RulesetName → Ticket) (names : List RulesetName) where
 
   named_all : {X : Type 0} → (f : X → RulesetName) (xs : List X) → ((n : RulesetName) → is_named (map f xs) n ≡ true → is_named names n ≡ true) → AreNamed f xs
   named_all f [] within = tt
-  named_all f (x ∷ xs) within =
-      (within (f x) (or_left (same_name (f x) (f x)) (is_named (map f xs) (f x)) (names_alike.refl (f x))),
-      named_all f xs (λ n is. within n (or_right (same_name (f x) n) (is_named (map f xs) n) is)))
+  named_all f (x ∷ xs) within = (
+    within (f x) (or_left (same_name (f x) (f x)) (is_named (map f xs) (f x)) (names_alike.refl (f x))),
+    named_all f xs (λ n is. within n (or_right (same_name (f x) n) (is_named (map f xs) n) is)),
+  )
 
   -- the paths of tables are among those that are named
   paths_named : (fs : List FilledTable) (paths : List Word) → ((p : Word) → is_among p (fold with_path paths fs) ≡ true → is_named names (table_ruleset_at p) ≡ true) → AreNamed (λ (f : FilledTable). table_ruleset_at f.path) fs

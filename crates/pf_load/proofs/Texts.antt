@@ -6,6 +6,7 @@ use Rattle.pf_addr.specs.Writing.{Wrote, Writes, WritesFront, WritesFront-longer
 use Rattle.pf_form.specs.Form.Words.{Word}
 use Rattle.pf_table.specs.Entries.{PlainEntry}
 use Rattle.pf_load.specs.declared.lines.TheConstants.{PART}
+use Rattle.pf_load.proofs.Steps.{take_item}
 use Rattle.pf_load.specs.Lines.{parts_within, parts, extend_line, extend_lines}
 
 -- with nothing to write, what was written stays
@@ -15,6 +16,12 @@ still q old = record { behind = λ at front w. subst (λ (t : List ℕ). Wrote q
 -- a text for each of those before this one
 abbrev pub Before : {X : Type 0} → (X → List ℕ) → Result (Unit {0}) Error → Option (List ℕ) → Result (Unit {0}) Error → Option (List ℕ) → List X → ℕ → Type 0
 Before text p old q new xs i = Continues p old q new (flat_map text (take i xs))
+
+pub one_more : {X : Type 0} (text : X → List ℕ) (p q r : Result (Unit {0}) Error) (old mid new : Option (List ℕ)) (xs : List X) (i : ℕ) (x : X) → i < length xs → x ≡ get_or xs i x → Before text p old q mid xs i → Continues q mid r new (text x) → Before text p old r new xs (i + 1)
+one_more {X} text p q r old mid new xs i x within here so_far next =
+    let more : flat_map text (take (i + 1) xs) ≡ flat_map text (take i xs) ++ text x =
+    ap (flat_map text) (take_item xs i x within here) ∙ flat_map-append text (take i xs) (x ∷ []) ∙ ap (λ (l : List ℕ). flat_map text (take i xs) ++ l) (append-nil (text x)) in
+    subst (λ (t : List ℕ). Continues p old r new t) (sym more) (Continues-then so_far next)
 
 -- what is written to memory is there behind what was there
 pub grown : (r : Result (Unit {0}) Error) (done : Unit {0}) (old new text : List ℕ) → Continues {A = Unit {0}} (Ok tt) (Some old) r (Some new) text → r ≡ Ok done → new ≡ old ++ text

@@ -1,5 +1,5 @@
 //! What a load would change.
-ghost use Rattle.std.specs.Prelude.{◌≡◌, ◌≤◌, ◌-◌, ◌++◌, length, map, take, drop, IfOk, OnOk};
+ghost use Rattle.std.specs.{Prelude.{◌≡◌, ◌≤◌, ◌-◌, ◌++◌, length, map, take, drop, IfOk, OnOk}, Bool.Decides};
 ghost use Rattle.pf_addr.specs.Writing.{Continues};
 ghost use Rattle.pf_rule.specs.RuleText.{rule_text};
 ghost use Rattle.pf_table.specs.Edits.{deletions};
@@ -111,8 +111,13 @@ fn rule_texts(alloc: Global, rules: &[At<Rule>]) -> Result<Vec<Bytes>, AllocErro
     Ok(texts)
 }
 
+fn is_same(one: &Bytes, other: &Bytes) -> bool
+    ensures { Decides result (one.now ≡ other.now) }
+{
+    one.as_slice() == other.as_slice()
+}
+
 /// How many come first that both lists have.
-#[tactic(auto, using(crate::proofs::Steps::more_in_front))]
 fn common_front(old: &[Bytes], new: &[Bytes]) -> usize
     ensures same { take result old.now ≡ take result new.now }
     ensures of_old { result ≤ length old.now }
@@ -120,7 +125,7 @@ fn common_front(old: &[Bytes], new: &[Bytes]) -> usize
 {
     for at in 0..old.len().min(new.len()) {
         let (one, other) = (&old[at], &new[at]);
-        if one.as_slice() != other.as_slice() {
+        if !is_same(one, other) {
             return at;
         }
     }
@@ -128,7 +133,6 @@ fn common_front(old: &[Bytes], new: &[Bytes]) -> usize
 }
 
 /// How many come last that both lists have.
-#[tactic(auto, using(crate::proofs::Steps::more_behind))]
 fn common_back(old: &[Bytes], new: &[Bytes]) -> usize
     ensures same { drop (length old.now - result) old.now ≡ drop (length new.now - result) new.now }
     ensures of_old { result ≤ length old.now }
@@ -136,7 +140,7 @@ fn common_back(old: &[Bytes], new: &[Bytes]) -> usize
 {
     for count in 0..old.len().min(new.len()) {
         let (one, other) = (&old[old.len() - 1 - count], &new[new.len() - 1 - count]);
-        if one.as_slice() != other.as_slice() {
+        if !is_same(one, other) {
             return count;
         }
     }
