@@ -1,11 +1,11 @@
 -- What the parts of a load come to.
-use Rattle.std.proofs.Common.{◌≡◌, ℕ, Bool, true, false, List, [], ◌++◌, map, take, Option, Result, Ok, Err, sym, ap, ◌∙◌, subst, append_assoc, append-nil}
+use Rattle.std.proofs.Common.{◌≡◌, ℕ, true, false, List, [], ◌++◌, map, take, Option, Result, Ok, Err, sym, ◌∙◌, subst, append_assoc, append-nil}
 use Rattle.std.specs.{Io.KnownBytes.Appends, Result.{IsErrAnd, is_err}}
 use Rattle.pf_addr.specs.Writing.{Writes, WritesFront, WritesFront-longer, WritesFront-then, Appends-then}
 use Rattle.pf_ticket.specs.declared.name.RulesetName.{RulesetName}
 use Rattle.pf_conf.specs.declared.found.Conf.{Conf}
 use Rattle.pf_load.specs.declared.{fault.Fault.Fault, naming.Begun.Begun}
-use Rattle.pf_load.specs.{Naming.ruleset_names, Lines.{begin_line, load_lines, commit_line, rollback_line, whole_load}, Loading.{name_of, SentWhole, Attempts, Loads}}
+use Rattle.pf_load.specs.{Naming.ruleset_names, Lines.{begin_line, load_lines, commit_line, rollback_line, whole_load}, Loading.{name_of, Attempts, Loads}}
 use Rattle.pf_load.proofs.Texts.{Sent, sent_then}
 
 in_order : (begun : List Begun) (c : Conf) → begin_line (ruleset_names c) ++ (load_lines begun c ++ commit_line begun) ≡ whole_load begun c

@@ -1,5 +1,5 @@
 -- What the offers of a load leave of each ruleset, and its commit of all.
-use Rattle.std.proofs.{Common.{◌≡◌, T, ℕ, zero, suc, ◌+◌, ◌-◌, ◌==◌, ◌<◌, ◌≤◌, ◌&&◌, ◌||◌, Bool, true, false, cond, List, [], ◌∷◌, ◌++◌, map, take, drop, fold, length, Option, Some, None, Ok, refl, sym, ap, ◌∙◌, subst, arith, append_assoc, append-nil, eq-eqb, take-append-drop, length-drop}, lemmas.Bool.{or_parts, or_left, or_right}, lemmas.List.Sums.fold-append, lemmas.List.Folds.list_any-append, lemmas.Grind.flat_map-append, lemmas.Cmp.{nat_list_cmp_total, eq_by_cmp_equiv}}
+use Rattle.std.proofs.{Common.{◌≡◌, T, ℕ, zero, suc, ◌-◌, ◌==◌, ◌≤◌, ◌&&◌, ◌||◌, Bool, true, false, cond, List, [], ◌∷◌, ◌++◌, map, take, drop, fold, length, Option, Some, None, Ok, refl, sym, ap, ◌∙◌, subst, arith, append_assoc, append-nil, eq-eqb, take-append-drop, length-drop}, lemmas.Bool.{or_parts, or_left, or_right}, lemmas.List.Sums.fold-append, lemmas.List.Folds.list_any-append, lemmas.Grind.flat_map-append, lemmas.Cmp.{nat_list_cmp_total, eq_by_cmp_equiv}}
 use Rattle.std.specs.{Prelude.{Contains, unwrap_or, option_map}, FinMap.{find, is_sorted}, FinMap.Entries.find-put, List.{flat_map, list_any}, Option.option_map_or, Ordering.is_eq}
 use Rattle.std.specs.declared.cmp.Ordering.{Ordering, TheVariants.{Less, Equal, Greater}}
 use Rattle.pf_addr.specs.{Path.Names.{name_order, same_name as same_table}, Path.Paths.same_path, Refusing.{refused_at, both_passed}}
@@ -11,7 +11,7 @@ use Rattle.pf_ticket.specs.declared.{entry.RulesetTicket.RulesetTicket, name.Rul
 use Rattle.pf_ticket.specs.{NamedTables.PlainDefinedTable, Names.{filter_at, table_ruleset_at, same_name, same_ticket, is_ticket, is_named, names_of, IsDistinct}, Laws.Names.{name_is, names_alike, paths_alike}, Tickets.{Loaded, with_rule, with_table, with_entries, rules_in, tables_in, PlainInactive, offer_with, offer_at, PlainTickets, ticket_in, loaded_in, loaded, valid_ticket, is_valid}, Mentions.{Mention, added as adding, defined, extended, named_in, moved, after, gives}, Replies.{bad_count, twice_in, list_check, commit_check, busy_in}}
 use Rattle.pf_ticket.specs.declared.refusal.TicketRefusal.TheVariants.{Busy}
 use Rattle.pf_ticket.proofs.{Moves.{loaded_by, made_by, reads, starts_with_nothing}, NamedTables.{order_is, put_sorted}, Twice.otherwise_once}
-use Rattle.pf_core.specs.declared.command.{Transaction.Transaction, Transaction.TheVariants.{Add, Define, Extend}}
+use Rattle.pf_core.specs.declared.command.{Transaction.Transaction, Transaction.TheVariants.{Add, Extend}}
 use Rattle.pf_core.specs.{Commands.transacted, Durable.Changes.{PlainDurable, PlainChange, entries_at, applied}, Laws.{Commands.AreSwitched, Wanted.wants_commit}}
 use Rattle.pf_core.proofs.Switching.{switches_all, not-twice}
 use Rattle.pf_conf.specs.declared.{found.Conf.Conf, found.Ruleset.Ruleset, found.FilledTable.FilledTable}

@@ -1,8 +1,8 @@
 -- Texts that are written one after another.
 use Rattle.std.proofs.Common.{◌≡◌, ℕ, zero, suc, ◌+◌, ◌-◌, ◌<◌, ◌≤◌, List, [], ◌∷◌, ◌++◌, length, take, drop, get_or, Option, Some, Result, Ok, Err, refl, sym, ap, ◌∙◌, subst, arith, append_assoc, append-nil, length-drop, take-append-drop}
 use Rattle.std.proofs.{lemmas.List.take_all, lemmas.Grind.flat_map-append}
-use Rattle.std.specs.{List.flat_map, Io.KnownBytes.{Appends, Keeps, Consumes}, Option.option_to_list, Result.IsErrAnd, declared.io.Error.Error}
-use Rattle.pf_addr.specs.Writing.{Wrote, Writes, WritesFront, WritesFront-longer, WritesFront-then, Continues, Continues-then, behind_nothing, Appends-none, Appends-then, Appends-kept}
+use Rattle.std.specs.{List.flat_map, Io.KnownBytes.{Appends, Consumes}, Option.option_to_list, Result.IsErrAnd, declared.io.Error.Error}
+use Rattle.pf_addr.specs.Writing.{Wrote, Writes, WritesFront, WritesFront-longer, WritesFront-then, Continues, Continues-then, behind_nothing, Appends-none, Appends-then}
 use Rattle.pf_form.specs.Form.Words.{Word}
 use Rattle.pf_table.specs.Entries.{PlainEntry}
 use Rattle.pf_load.specs.declared.lines.TheConstants.{PART}

@@ -1,5 +1,4 @@
 use Rattle.std.proofs.Common.{List, length, map, ap, ◌∙◌, arith}
-use Rattle.pf_table.specs.Entries.{PlainEntry}
 use Rattle.pf_table.specs.declared.answer.Deletion.{Deletion}
 use Rattle.pf_table.proofs.TableLaws.{one_answer_each}
 use Rattle.pf_conf.specs.Tables.{entry_text}

@@ -1,4 +1,4 @@
-use Rattle.std.proofs.Common.{◌∙◌, ap, sym}
+use Rattle.std.proofs.Common.{◌∙◌, sym}
 use Rattle.pf_load.proofs.Attempts.{begin_stopped, went_through, stopped_behind_begin}
 use Rattle.pf_load.proofs.loading.attempt.Goals.{then-is_err, else-is_err}
 use Rattle.pf_load.proofs.loading.attempt.Goals as goal
