@@ -1,8 +1,6 @@
 -- What a load has sent (pfctl(8), -f; pf(4), DIOCXBEGIN, DIOCXCOMMIT and DIOCXROLLBACK): all of it, or of one that stopped a front and then
 -- the rollback.
 use Rattle.std.specs.{Prelude.{◌≡◌, ℕ, List, ◌++◌, take, map, Option, Result, Ok, Err}, Io.KnownBytes.Appends}
-use Rattle.pf_addr.specs.Writing.{WritesFront}
-use Rattle.pf_form.specs.Form.Words.{Word}
 use Rattle.pf_ticket.specs.declared.name.RulesetName.{RulesetName}
 use Rattle.pf_conf.specs.declared.found.Conf.{Conf}
 use Rattle.pf_load.specs.declared.{fault.Fault.Fault, naming.Begun.Begun}

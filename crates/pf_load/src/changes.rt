@@ -1,11 +1,11 @@
 //! What a load would change.
-ghost use Rattle.std.specs.Prelude.{◌≡◌, ◌≤◌, ◌-◌, ◌++◌, length, map, take, drop, IfOk, OnOk};
+ghost use Rattle.std.specs.{Prelude.{◌≡◌, ◌≤◌, ◌-◌, ◌++◌, length, map, take, drop, IfOk, OnOk}, Bool.Decides};
 ghost use Rattle.pf_addr.specs.Writing.{Continues};
 ghost use Rattle.pf_rule.specs.RuleText.{rule_text};
 ghost use Rattle.pf_table.specs.Edits.{deletions};
 ghost use Rattle.pf_conf.specs.Tables.{entry_text};
 ghost use Rattle.pf_load.specs.Lines.{newline};
-ghost use Rattle.pf_load.specs.Changes.{rules_heading, table_heading, marked, changes_text, WritesDifference, absent_in};
+ghost use Rattle.pf_load.specs.Changes.{rules_heading, table_heading, marked, changes_text, WritesDifference, absent_in, if_absent};
 
 use crate::fault::Fault;
 use crate::lines::{entries_of, path_text, write_entry};
@@ -111,8 +111,13 @@ fn rule_texts(alloc: Global, rules: &[At<Rule>]) -> Result<Vec<Bytes>, AllocErro
     Ok(texts)
 }
 
+fn is_same(one: &Bytes, other: &Bytes) -> bool
+    ensures { Decides result (one.now ≡ other.now) }
+{
+    one.as_slice() == other.as_slice()
+}
+
 /// How many come first that both lists have.
-#[tactic(auto, using(crate::proofs::Steps::more_in_front))]
 fn common_front(old: &[Bytes], new: &[Bytes]) -> usize
     ensures same { take result old.now ≡ take result new.now }
     ensures of_old { result ≤ length old.now }
@@ -120,7 +125,7 @@ fn common_front(old: &[Bytes], new: &[Bytes]) -> usize
 {
     for at in 0..old.len().min(new.len()) {
         let (one, other) = (&old[at], &new[at]);
-        if one.as_slice() != other.as_slice() {
+        if !is_same(one, other) {
             return at;
         }
     }
@@ -128,7 +133,6 @@ fn common_front(old: &[Bytes], new: &[Bytes]) -> usize
 }
 
 /// How many come last that both lists have.
-#[tactic(auto, using(crate::proofs::Steps::more_behind))]
 fn common_back(old: &[Bytes], new: &[Bytes]) -> usize
     ensures same { drop (length old.now - result) old.now ≡ drop (length new.now - result) new.now }
     ensures of_old { result ≤ length old.now }
@@ -136,7 +140,7 @@ fn common_back(old: &[Bytes], new: &[Bytes]) -> usize
 {
     for count in 0..old.len().min(new.len()) {
         let (one, other) = (&old[old.len() - 1 - count], &new[new.len() - 1 - count]);
-        if one.as_slice() != other.as_slice() {
+        if !is_same(one, other) {
             return count;
         }
     }
@@ -271,11 +275,27 @@ fn absent_in(alloc: Global, other: &Table, entries: &[Entry]) -> Result<Vec<Byte
     let answers = answers_of(alloc, other, entries)?;
     let mut absent = Vec::new(alloc);
     for (at, entry) in entries.iter().enumerate() {
-        if answers.get(at) == Some(&Deletion::Absent) {
-            absent.push(entry_text(alloc, *entry)?)?;
-        }
+        add_absent(alloc, &mut absent, answers[at], *entry)?;
     }
     Ok(absent)
+}
+
+/// Appends the text of an entry, if a delete answers that it isn't there.
+fn add_absent(
+    alloc: Global,
+    absent: &mut Vec<Bytes>,
+    answer: Deletion,
+    entry: Entry,
+) -> Result<(), AllocError>
+    ensures { OnOk result (absent.new.items ≡ absent.old.items ++ map entry_text (if_absent answer entry)) }
+{
+    match answer {
+        Deletion::Deleted => Ok(()),
+        Deletion::Absent => {
+            absent.push(entry_text(alloc, entry)?)?;
+            Ok(())
+        }
+    }
 }
 
 /// What a table would answer if these entries were deleted from it.

@@ -1,6 +1,6 @@
 //! A load.
 ghost use Rattle.std.specs.Prelude.{◌≡◌, ◌<◌, ◌≤◌, ◌++◌, length, map, IfOk};
-ghost use Rattle.pf_addr.specs.Writing.{Writes};
+ghost use Rattle.pf_addr.specs.Writing.{Writes, WritesFront};
 ghost use Rattle.pf_load.specs.Lines.{begin_line, load_lines, commit_line, rollback_line};
 ghost use Rattle.pf_load.specs.Naming.{ruleset_names};
 ghost use Rattle.pf_load.specs.Loading.{name_of, Attempts, Loads};
@@ -159,6 +159,13 @@ fn roll_back<B: BufRead, W: Write>(
     Ok(())
 }
 
+/// The same, whatever comes of it: a server that is gone has dropped all of it.
+fn give_up<B: BufRead, W: Write>(alloc: Global, server: &mut W, replies: &mut B, begun: &[Begun])
+    ensures { WritesFront (W.contents server.old) (W.contents server.new) (rollback_line begun.now) }
+{
+    let _ = roll_back(alloc, server, replies, begun);
+}
+
 /// A load that isn't tried again.
 fn attempt<B: BufRead, W: Write>(
     alloc: Global,
@@ -173,8 +180,7 @@ fn attempt<B: BufRead, W: Write>(
     let begun = begin(alloc, server, replies, names)?;
     let done = offer_and_commit(alloc, server, replies, conf, &begun);
     if done.is_err() {
-        // A server that is gone has dropped it.
-        let _ = roll_back(alloc, server, replies, &begun);
+        give_up(alloc, server, replies, &begun);
     }
     done
 }

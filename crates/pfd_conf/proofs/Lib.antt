@@ -1,3 +1,6 @@
 pub mod Texts
 pub mod Judging
 pub mod Covered
+pub mod Points
+pub mod Rules
+pub mod Explained

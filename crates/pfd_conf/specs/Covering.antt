@@ -49,7 +49,8 @@ unmarked_from within number marks (r ∷ rs) =
 -- the same by the cases
 abbrev pub uncovered_in : List Tried → ℕ → ℕ → List (At PlainRule) → List Decided
 uncovered_in ts within number [] = []
-uncovered_in ts within number (r ∷ rs) = unless_marked within number (decides_some within number ts) r.is ++ uncovered_in ts within (number + 1) rs
+uncovered_in ts within number (r ∷ rs) =
+    unless_marked within number (decides_some within number ts) r.is ++ uncovered_in ts within (number + 1) rs
 
 abbrev pub uncovered_from : List Tried → ℕ → List Ruleset → List Decided
 uncovered_from ts within [] = []
@@ -71,7 +72,8 @@ sign_text path = if length path == 0 then codes "@" else codes " @"
 -- FILE:LINE:COLUMN: PATH @N RULE, or without the path if it is main's
 abbrev pub rule_line : List File → List ℕ → ℕ → At PlainRule → List ℕ
 rule_line files path n r =
-    place_text files r.place ++ codes ":" ++ decimal r.place.column ++ codes ": " ++ path ++ sign_text path ++ decimal n ++ codes " " ++ rule_text r.is
+    place_text files r.place ++ codes ":" ++ decimal r.place.column ++ codes ": " ++ path ++ sign_text path ++ decimal n ++ codes " "
+    ++ rule_text r.is
     ++ newline
 
 abbrev pub line_by : List File → ℕ → Option Ruleset → Option (At PlainRule) → List ℕ
@@ -86,7 +88,7 @@ abbrev pub lines_of_rules : List File → List Ruleset → List Decided → List
 lines_of_rules files rs ds = flat_map (line_of_rule files rs) ds
 
 abbrev pub count_text : ℕ → ℕ → List ℕ
-count_text uncovered deciding = decimal (deciding - uncovered) ++ codes " of " ++ decimal deciding ++ codes " rules decide a case" ++ newline
+count_text uncovered deciding = decimal (deciding - uncovered) ++ codes " of " ++ decimal deciding ++ codes " rules decide a case\n"
 
 -- those that decide none, and how many decide one
 abbrev pub cover_text : Firewall → List Tried → List ℕ

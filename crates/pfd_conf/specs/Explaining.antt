@@ -1,5 +1,5 @@
 -- How a user is told why a packet has its verdict.
-use Rattle.std.specs.Prelude.{◌≡◌, ℕ, Bool, true, false, List, [], ◌∷◌, ◌++◌, codes, Option, Some, None, Result, Ok, Err}
+use Rattle.std.specs.Prelude.{◌≡◌, ℕ, Bool, true, false, List, [], ◌∷◌, ◌++◌, codes, Option, Result, Ok, Err}
 use Rattle.std.specs.{List.flat_map, Option.option_map_or, Io.KnownBytes.{Appends, Keeps}}
 use denote.Ref.{Bor}
 use Rattle.pf_addr.specs.Writing.{WritesFront}
@@ -50,7 +50,9 @@ RefusesPacket text f = ⊥
 -- are none; or writing failed behind a front of that.
 abbrev pub IsExplained : Firewall → List ℕ → Result (Unit {0}) Fault → Option (List ℕ) → Option (List ℕ) → Type 0
 IsExplained f text (Ok u) old new =
-    (p : PlainPacket) × (t : Traced) × (reading packet (words_of text) ≡ Ok p) × IsTrace f.config p t × Appends old new (explained_text f p t)
+    (p : PlainPacket) × (t : Traced) × (reading packet (words_of text) ≡ Ok p) × IsTrace f.config p t
+    × Appends old new (explained_text f p t)
 IsExplained f text (Err faults.Output) old new =
-    (p : PlainPacket) × (t : Traced) × (reading packet (words_of text) ≡ Ok p) × IsTrace f.config p t × WritesFront old new (explained_text f p t)
+    (p : PlainPacket) × (t : Traced) × (reading packet (words_of text) ≡ Ok p) × IsTrace f.config p t
+    × WritesFront old new (explained_text f p t)
 IsExplained f text (Err e) old new = RefusesPacket text e × Keeps old new

@@ -1,5 +1,5 @@
 -- A file's rules and tables as packets are judged by them (pf.conf(5), PACKET FILTERING and TABLES), and where each rule is written.
-use Rattle.std.specs.Prelude.{ℕ, List, [], ◌∷◌, ◌++◌, map, take, codes, decimal, position, Option, Some, None, Result, Ok, Err}
+use Rattle.std.specs.Prelude.{ℕ, List, [], ◌++◌, map, take, codes, decimal, position, Option, Some, None, Result, Ok, Err}
 use Rattle.std.specs.{List.{slice_get, filter_map}, Option.{option_map, option_and_then}}
 use Rattle.pf_addr.specs.Path.{Paths.same_path, Names.table_name_of}
 use Rattle.pf_form.specs.declared.form.fault.Kind.{Kind}
@@ -56,9 +56,12 @@ rule_at rs d = option_and_then (λ (r : Ruleset). slice_get r.rules d.number) (s
 abbrev pub place_text : List File → Place → List ℕ
 place_text files p = name_of_file (slice_get files p.file) ++ (codes ":" ++ decimal p.line)
 
+abbrev pub parenthesized : List File → Place → List ℕ
+parenthesized files p = codes " (" ++ (place_text files p ++ codes ")")
+
 abbrev pub in_parentheses : List File → Option (At PlainRule) → List ℕ
 in_parentheses files None = []
-in_parentheses files (Some r) = codes " (" ++ (place_text files r.place ++ codes ")")
+in_parentheses files (Some r) = parenthesized files r.place
 
 abbrev pub behind_text : List File → List Ruleset → Option Decided → List ℕ
 behind_text files rs d = in_parentheses files (option_and_then (rule_at rs) d)

@@ -1,5 +1,5 @@
 -- The outcomes of cases in JUnit's XML (XML 1.0, sections 2.4 and 3.3.3, on attributes).
-use Rattle.std.specs.Prelude.{ℕ, ◌+◌, ◌^◌, ◌-◌, ◌==◌, nat_lt, min, Bool, true, false, List, [], ◌∷◌, ◌++◌, count_by, codes, decimal, if◌then◌else◌}
+use Rattle.std.specs.Prelude.{ℕ, ◌+◌, ◌==◌, nat_lt, Bool, true, false, List, [], ◌∷◌, ◌++◌, count_by, codes, decimal, if◌then◌else◌}
 use Rattle.std.specs.List.{flat_map}
 use Rattle.pf_form.specs.Form.Words.{Word}
 use Rattle.pfd_conf.specs.declared.{firewall.Firewall.Firewall, outcomes.Outcome.Outcome, outcomes.Tried.Tried, report.Tally.Tally}
@@ -35,10 +35,12 @@ abbrev pub end_text : Bool → List ℕ → List ℕ
 end_text true message = codes "\"/>\n"
 end_text false message = codes "\"><failure message=\"" ++ escaped_text message ++ codes "\"/></testcase>\n"
 
+abbrev pub element_text : List ℕ → List ℕ → Bool → List ℕ → List ℕ
+element_text file name holds message =
+    codes "    <testcase classname=\"" ++ escaped_text file ++ codes "\" name=\"" ++ escaped_text name ++ end_text holds message
+
 abbrev pub testcase_text : Firewall → Tried → Outcome → List ℕ
-testcase_text f t o =
-    codes "    <testcase classname=\"" ++ escaped_text t.name.now ++ codes "\" name=\"" ++ escaped_text (name_text o.line (words_at t o))
-    ++ end_text o.holds (message_text f (words_at t o) o)
+testcase_text f t o = element_text t.name.now (name_text o.line (words_at t o)) o.holds (message_text f (words_at t o) o)
 
 abbrev pub testcases_text : Firewall → Tried → List ℕ
 testcases_text f t = flat_map (testcase_text f t) t.outcomes
@@ -46,14 +48,17 @@ testcases_text f t = flat_map (testcase_text f t) t.outcomes
 abbrev pub tally_in : Tried → Tally
 tally_in t = record { passed = count_by (has true) t.outcomes; failed = count_by (has false) t.outcomes }
 
+abbrev pub suite_head : List ℕ → Tally → List ℕ
+suite_head file t = codes "  <testsuite name=\"" ++ escaped_text file ++ codes "\"" ++ counts_text t ++ codes ">\n"
+
 abbrev pub suite_text : Firewall → Tried → List ℕ
-suite_text f t =
-    codes "  <testsuite name=\"" ++ escaped_text t.name.now ++ codes "\"" ++ counts_text (tally_in t) ++ codes ">\n" ++ testcases_text f t
-    ++ codes "  </testsuite>\n"
+suite_text f t = suite_head t.name.now (tally_in t) ++ testcases_text f t ++ codes "  </testsuite>\n"
 
 abbrev pub suites_text : Firewall → List Tried → List ℕ
 suites_text f ts = flat_map (suite_text f) ts
 
+abbrev pub head_text : Tally → List ℕ
+head_text t = codes "<?xml version=\"1.0\" encoding=\"UTF-8\"?>\n<testsuites" ++ counts_text t ++ codes ">\n"
+
 abbrev pub junit_text : Firewall → List Tried → List ℕ
-junit_text f ts =
-    codes "<?xml version=\"1.0\" encoding=\"UTF-8\"?>\n<testsuites" ++ counts_text (tally ts) ++ codes ">\n" ++ suites_text f ts ++ codes "</testsuites>\n"
+junit_text f ts = head_text (tally ts) ++ suites_text f ts ++ codes "</testsuites>\n"

@@ -6,7 +6,7 @@ use Rattle.pf_form.specs.declared.form.fault.Kind.{Kind}
 use Rattle.pf_form.specs.declared.form.fault.Kind.TheVariants as kinds
 use Rattle.pf_rule.specs.declared.fault.TextFault.{TextFault, TheVariants.{BadWord, NameTooLong, BadProto, MixedFamily, PortNeedsProto, Memory}}
 use Rattle.pf_rule.specs.Refusals.{reading}
-use Rattle.pf_anchor.specs.{Configurations.PlainConfig, Evaluation.judged}
+use Rattle.pf_anchor.specs.{Evaluation.judged}
 use Rattle.pf_anchor.specs.declared.verdict.RuleVerdict.{RuleVerdict}
 use Rattle.pf_case.specs.declared.{case.Case.Case, wanted.Wanted.Wanted}
 use Rattle.pf_case.specs.Cases.{case, passes, wants}

@@ -1,5 +1,5 @@
 -- How a user is told of cases: those that don't hold, with what they came to and where the rule is written that decides; and how many hold.
-use Rattle.std.specs.Prelude.{ℕ, ◌+◌, ◌-◌, ◌^◌, ◌==◌, min, Bool, true, false, List, [], ◌∷◌, ◌++◌, take, drop, length, sum_by, count_by, codes, decimal, Option, Some, None, if◌then◌else◌}
+use Rattle.std.specs.Prelude.{ℕ, ◌+◌, ◌-◌, ◌^◌, min, Bool, true, false, List, [], ◌∷◌, ◌++◌, take, drop, length, sum_by, count_by, codes, decimal, Option, Some, None, if◌then◌else◌}
 use Rattle.std.specs.{List.{slice_get, flat_map}, Option.option_map_or}
 use Rattle.pf_form.specs.Form.Words.{Word, words_of, texts}
 use Rattle.pf_conf.specs.declared.found.Ruleset.{Ruleset}
@@ -24,9 +24,13 @@ wanted_of ws = drop (PACKET_WORDS + 1) ws
 
 -- ---- verdicts, as `judge` is answered
 
+-- the path of the ruleset of the rule that decides
+abbrev pub path_of : List Ruleset → Decided → List ℕ
+path_of rs d = option_map_or (λ (r : Ruleset). r.path) (slice_get rs d.within) []
+
 -- which rule decides: its number, and its ruleset's path unless that is main's
 abbrev pub rule_text_of : List Ruleset → Decided → List ℕ
-rule_text_of rs d = decided_text d.number (option_map_or (λ (r : Ruleset). r.path) (slice_get rs d.within) [])
+rule_text_of rs d = decided_text d.number (path_of rs d)
 
 abbrev pub decider_text : List Ruleset → Option Decided → List ℕ
 decider_text rs None = codes " default"
@@ -111,5 +115,9 @@ files_points f before (t ∷ ts) = file_points f before t ++ files_points f (bef
 abbrev pub case_count : List Tried → ℕ
 case_count ts = sum_by (λ (t : Tried). length t.outcomes) ts
 
+-- how many cases there are, and how many hold and don't
+abbrev pub plan_text : ℕ → Tally → List ℕ
+plan_text n t = codes "1.." ++ decimal n ++ codes "\n# " ++ tally_text t
+
 abbrev pub tap_text : Firewall → List Tried → List ℕ
-tap_text f ts = codes "TAP version 13\n" ++ files_points f 0 ts ++ codes "1.." ++ decimal (sayable (case_count ts)) ++ codes "\n# " ++ tally_text (tally ts)
+tap_text f ts = codes "TAP version 13\n" ++ files_points f 0 ts ++ plan_text (sayable (case_count ts)) (tally ts)

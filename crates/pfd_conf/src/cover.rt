@@ -2,7 +2,7 @@
 ghost use Rattle.std.specs.Prelude.{◌≡◌, ◌++◌, ◌==◌, ◌||◌, ℕ, Bool, length, IfOk, OnOk, IfErr};
 ghost use Rattle.pf_addr.specs.Writing.{Continues, Writes};
 ghost use Rattle.pf_rule.specs.RuleText.{rule_text};
-ghost use Rattle.pfd_conf.specs.Covering.{is_deciding, is_of, decides_any, decides_some, AreMarks, unmarked_from, uncovered_of, deciding_count, sign_text, rule_line, line_of_rule, lines_of_rules, cover_text};
+ghost use Rattle.pfd_conf.specs.Covering.{is_deciding, is_of, decides_any, decides_some, AreMarks, unmarked_from, uncovered_of, deciding_count, count_text, sign_text, rule_line, line_of_rule, lines_of_rules, cover_text};
 
 use crate::fault::Fault;
 use crate::firewall::{Decided, Firewall, write_place};
@@ -98,6 +98,22 @@ fn write_rule_text<W: Write>(out: &mut W, so_far: io::Result<()>, rule: &Rule) -
         Ok(()) => rule.write(out),
         Err(error) => Err(error),
     }
+}
+
+/// Writes how many rules decide a case, of how many that could.
+fn write_count<W: Write>(
+    out: &mut W,
+    so_far: io::Result<()>,
+    uncovered: usize,
+    deciding: usize,
+) -> io::Result<()>
+    ensures { Continues so_far (W.contents out.old) result (W.contents out.new) (count_text uncovered deciding) }
+{
+    let covered = deciding.saturating_sub(uncovered);
+    let so_far = write_more_number(out, so_far, covered as u64);
+    let so_far = write_more(out, so_far, b" of ");
+    let so_far = write_more_number(out, so_far, deciding as u64);
+    write_more(out, so_far, b" rules decide a case\n")
 }
 
 /// What comes before a rule's number, behind its path if it has one.
@@ -199,12 +215,8 @@ impl Firewall {
     {
         let uncovered = self.uncovered(alloc, tried)?;
         let deciding = deciding_count(self.rulesets());
-        let covered = deciding.saturating_sub(uncovered.len());
         let so_far = self.write_lines(out, Ok(()), uncovered.as_slice());
-        let so_far = write_more_number(out, so_far, covered as u64);
-        let so_far = write_more(out, so_far, b" of ");
-        let so_far = write_more_number(out, so_far, deciding as u64);
-        written(write_more(out, so_far, b" rules decide a case\n"))?;
+        written(write_count(out, so_far, uncovered.len(), deciding))?;
         written(out.flush())?;
         Ok(uncovered.len() == 0)
     }

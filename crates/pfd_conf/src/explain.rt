@@ -3,13 +3,14 @@ ghost use Rattle.std.specs.Prelude.{◌≡◌, Ok, IfOk, IfErr};
 ghost use Rattle.pf_addr.specs.Writing.{Continues, Writes};
 ghost use Rattle.pf_form.specs.Form.Words.{words_of};
 ghost use Rattle.pf_rule.specs.{PacketGrammar.packet, Refusals.reading};
-ghost use Rattle.pfd_conf.specs.Explaining.{joined, IsExplained, RefusesPacket, note_text, line_of_match, lines_of_matches};
+ghost use Rattle.pfd_conf.specs.Explaining.{joined, IsExplained, RefusesPacket, note_text, verdict_line, explained_text, line_of_match, lines_of_matches};
 
 use crate::fault::Fault;
 use crate::firewall::{Decided, Firewall, ruleset_at};
 use crate::outcomes::mistake_of;
 use crate::report::written;
 use pf_addr::write_more;
+use pf_anchor::RuleVerdict;
 use pf_case::{Matched, Traced, passes, read_packet, rules_that_match};
 use pf_form::form::words;
 use pf_rule::Packet;
@@ -51,21 +52,44 @@ impl Firewall {
         so_far
     }
 
+    /// Writes a verdict, and where the rule is written that decides.
+    fn write_verdict<W: Write>(
+        &self,
+        out: &mut W,
+        so_far: io::Result<()>,
+        verdict: &RuleVerdict,
+    ) -> io::Result<()>
+        ensures { Continues so_far (W.contents out.old) result (W.contents out.new) (verdict_line self.now verdict.now) }
+    {
+        let decided = self.decided(verdict);
+        let so_far = self.write_got(out, so_far, passes(verdict), decided);
+        write_more(out, so_far, b"\n")
+    }
+
+    /// Writes the rules that match a packet, and the verdict on it.
+    fn write_explained<W: Write>(
+        &self,
+        out: &mut W,
+        packet: &Packet,
+        traced: &Traced,
+    ) -> io::Result<()>
+        ensures { Writes result (W.contents out.old) (W.contents out.new) (explained_text self.now packet.now traced.now) }
+    {
+        let so_far = self.write_matches(out, Ok(()), &traced.matched);
+        let so_far = write_more(out, so_far, note(traced.is_whole));
+        self.write_verdict(out, so_far, &self.config.judge(packet))
+    }
+
     /// Writes each rule whose tests hold for the packet with these words, in the order in which they are looked at; and the verdict.
     ///
-    /// `Fault::Packet`: the words are no packet, and nothing is written. `Fault::Output`: a front of that was written. Past 4,096 rules that
-    /// match the rest isn't written, but for the verdict.
+    /// `Fault::Packet`: the words are no packet, and nothing is written. `Fault::Output`: a front of that was written. Past 4,096 rules
+    /// that match the rest isn't written, but for the verdict.
     pub fn explain<W: Write>(&self, alloc: Global, out: &mut W, texts: &[&str]) -> Result<(), Fault>
         ensures { IsExplained self.now (joined texts.now) result (W.contents out.old) (W.contents out.new) }
     {
         let packet = packet_in(alloc, texts)?;
-        let Traced { matched, is_whole } = rules_that_match(alloc, &self.config, &packet)?;
-        let so_far = self.write_matches(out, Ok(()), &matched);
-        let so_far = write_more(out, so_far, note(is_whole));
-        let verdict = self.config.judge(&packet);
-        let decided = self.decided(&verdict);
-        let so_far = self.write_got(out, so_far, passes(&verdict), decided);
-        written(write_more(out, so_far, b"\n"))?;
+        let traced = rules_that_match(alloc, &self.config, &packet)?;
+        written(self.write_explained(out, &packet, &traced))?;
         written(out.flush())
     }
 }

@@ -1,9 +1,10 @@
 //! A file's rules and tables, as packets are judged by them, and where each rule is written.
 ghost use Rattle.std.specs.Prelude.{◌≡◌, ◌≤◌, length, map, take, IfOk};
-ghost use Rattle.std.specs.Option.{option_map};
-ghost use Rattle.std.specs.List.{filter_map};
+ghost use Rattle.std.specs.Option.{option_map, option_and_then};
+ghost use Rattle.std.specs.List.{filter_map, slice_get};
 ghost use Rattle.pf_addr.specs.Writing.{Continues};
-ghost use Rattle.pfd_conf.specs.Firewalls.{plain_rules, placed_of, table_of, config_of, ruleset_at, decided_in, rule_at, place_text, behind_text};
+ghost use Rattle.pf_conf.specs.Telling.{name_of_file};
+ghost use Rattle.pfd_conf.specs.Firewalls.{plain_rules, placed_of, table_of, config_of, ruleset_at, decided_in, rule_at, place_text, parenthesized, behind_text};
 
 use crate::taking::Taken;
 use pf_addr::path::{Path, TableName};
@@ -137,6 +138,13 @@ impl Firewall {
         ruleset.rules.as_slice().get(decided.number)
     }
 
+    /// The rule that decides, with its place, if one does.
+    fn rule_of(&self, decided: Option<Decided>) -> Option<&At<Rule>>
+        ensures { option_map (λ r. r.now) result ≡ option_and_then (rule_at self.now.taken.conf.rulesets) decided }
+    {
+        self.rule_at(decided?)
+    }
+
     /// Writes the file and the line of the rule that decides, in parentheses behind a space; nothing if none does.
     pub(crate) fn write_behind<W: Write>(
         &self,
@@ -147,7 +155,7 @@ impl Firewall {
         ensures { Continues so_far (W.contents out.old) result (W.contents out.new)
             (behind_text self.now.taken.files self.now.taken.conf.rulesets decided) }
     {
-        match decided.and_then(|decided| self.rule_at(decided)) {
+        match self.rule_of(decided) {
             Some(rule) => write_in_parentheses(out, so_far, &self.taken.files, rule.place),
             None => write_more(out, so_far, b""),
         }
@@ -161,6 +169,16 @@ pub(crate) fn ruleset_at(rulesets: &[Ruleset], path: &Path) -> Option<usize>
     rulesets.iter().position(|ruleset| ruleset.path.same(path))
 }
 
+/// The name of the file of a place.
+fn name_of_file(files: &Files, place: Place) -> &[u8]
+    ensures { result.now ≡ name_of_file (slice_get files.now place.file) }
+{
+    match files.as_slice().get(place.file) {
+        Some(file) => file.name.as_slice(),
+        None => b"",
+    }
+}
+
 /// Writes the file and the line of a place.
 pub(crate) fn write_place<W: Write>(
     out: &mut W,
@@ -170,11 +188,7 @@ pub(crate) fn write_place<W: Write>(
 ) -> io::Result<()>
     ensures { Continues so_far (W.contents out.old) result (W.contents out.new) (place_text files.now place) }
 {
-    let name = match files.as_slice().get(place.file) {
-        Some(file) => file.name.as_slice(),
-        None => b"",
-    };
-    let so_far = write_more(out, so_far, name);
+    let so_far = write_more(out, so_far, name_of_file(files, place));
     let so_far = write_more(out, so_far, b":");
     write_more_number(out, so_far, u64::from(place.line))
 }
@@ -184,7 +198,9 @@ fn write_in_parentheses<W: Write>(
     so_far: io::Result<()>,
     files: &Files,
     place: Place,
-) -> io::Result<()> {
+) -> io::Result<()>
+    ensures { Continues so_far (W.contents out.old) result (W.contents out.new) (parenthesized files.now place) }
+{
     let so_far = write_more(out, so_far, b" (");
     let so_far = write_place(out, so_far, files, place);
     write_more(out, so_far, b")")

@@ -2,7 +2,7 @@
 ghost use Rattle.std.specs.Prelude.{◌≡◌, IfOk};
 ghost use Rattle.pf_addr.specs.Writing.{Continues, Writes};
 ghost use Rattle.pf_form.specs.Form.Words.{texts};
-ghost use Rattle.pfd_conf.specs.Junit.{escaped, escaped_text, counts_text, name_text, message_text, end_text, testcase_text, testcases_text, suite_text, suites_text, junit_text};
+ghost use Rattle.pfd_conf.specs.Junit.{escaped, escaped_text, counts_text, name_text, message_text, end_text, element_text, testcase_text, testcases_text, tally_in, suite_head, suite_text, suites_text, head_text, junit_text};
 
 use crate::fault::Fault;
 use crate::firewall::Firewall;
@@ -65,6 +65,61 @@ fn name_of(alloc: Global, line: usize, words: Words<'_>) -> Result<Vec<u8>, Faul
     Ok(name)
 }
 
+/// How many of a file's cases hold, and how many don't.
+fn tally_in(tried: &Tried<'_>) -> Tally
+    ensures { result ≡ tally_in tried.now }
+{
+    let outcomes = tried.outcomes.as_slice();
+    Tally {
+        passed: count_in(outcomes, true),
+        failed: count_in(outcomes, false),
+    }
+}
+
+/// Writes the head of the document.
+fn write_head<W: Write>(out: &mut W, so_far: io::Result<()>, tally: Tally) -> io::Result<()>
+    ensures { Continues so_far (W.contents out.old) result (W.contents out.new) (head_text tally) }
+{
+    let head = b"<?xml version=\"1.0\" encoding=\"UTF-8\"?>\n<testsuites";
+    let so_far = write_more(out, so_far, head);
+    let so_far = write_counts(out, so_far, tally);
+    write_more(out, so_far, b">\n")
+}
+
+/// Writes the head of the element of a file of cases.
+fn write_suite_head<W: Write>(
+    out: &mut W,
+    so_far: io::Result<()>,
+    file: &[u8],
+    tally: Tally,
+) -> io::Result<()>
+    ensures { Continues so_far (W.contents out.old) result (W.contents out.new) (suite_head file.now tally) }
+{
+    let so_far = write_more(out, so_far, b"  <testsuite name=\"");
+    let so_far = write_escaped(out, so_far, file);
+    let so_far = write_more(out, so_far, b"\"");
+    let so_far = write_counts(out, so_far, tally);
+    write_more(out, so_far, b">\n")
+}
+
+/// Writes the element of a case of this name: with this message if it doesn't hold.
+fn write_element<W: Write>(
+    out: &mut W,
+    so_far: io::Result<()>,
+    file: &[u8],
+    name: &[u8],
+    holds: bool,
+    message: &[u8],
+) -> io::Result<()>
+    ensures { Continues so_far (W.contents out.old) result (W.contents out.new) (element_text file.now name.now holds message.now) }
+{
+    let so_far = write_more(out, so_far, b"    <testcase classname=\"");
+    let so_far = write_escaped(out, so_far, file);
+    let so_far = write_more(out, so_far, b"\" name=\"");
+    let so_far = write_escaped(out, so_far, name);
+    write_end(out, so_far, holds, message)
+}
+
 impl Firewall {
     /// What a case with these words came to, and what was wanted.
     fn message_of(
@@ -76,9 +131,10 @@ impl Firewall {
         ensures { IfOk result (λ message. message.items ≡ message_text self.now (texts words.now) outcome.now) }
     {
         let mut message = Vec::new(alloc);
-        if !outcome.holds {
-            written(self.write_difference(&mut message, Ok(()), words, outcome))?;
+        if outcome.holds {
+            return Ok(message);
         }
+        written(self.write_difference(&mut message, Ok(()), words, outcome))?;
         Ok(message)
     }
 
@@ -95,11 +151,8 @@ impl Firewall {
         let words = words(alloc, tried.line(outcome))?;
         let name = name_of(alloc, outcome.line, &words)?;
         let message = self.message_of(alloc, &words, outcome)?;
-        let so_far = write_more(out, Ok(()), b"    <testcase classname=\"");
-        let so_far = write_escaped(out, so_far, tried.name);
-        let so_far = write_more(out, so_far, b"\" name=\"");
-        let so_far = write_escaped(out, so_far, &name);
-        written(write_end(out, so_far, outcome.holds, &message))
+        let holds = outcome.holds;
+        written(write_element(out, Ok(()), tried.name, &name, holds, &message))
     }
 
     /// Writes the elements of a file's cases.
@@ -126,13 +179,7 @@ impl Firewall {
     ) -> Result<(), Fault>
         ensures { Writes result (W.contents out.old) (W.contents out.new) (suite_text self.now tried.now) }
     {
-        let outcomes = tried.outcomes.as_slice();
-        let (passed, failed) = (count_in(outcomes, true), count_in(outcomes, false));
-        let so_far = write_more(out, Ok(()), b"  <testsuite name=\"");
-        let so_far = write_escaped(out, so_far, tried.name);
-        let so_far = write_more(out, so_far, b"\"");
-        let so_far = write_counts(out, so_far, Tally { passed, failed });
-        written(write_more(out, so_far, b">\n"))?;
+        written(write_suite_head(out, Ok(()), tried.name, tally_in(tried)))?;
         self.write_testcases(alloc, out, tried)?;
         written(write_more(out, Ok(()), b"  </testsuite>\n"))
     }
@@ -161,10 +208,7 @@ impl Firewall {
     ) -> Result<(), Fault>
         ensures { Writes result (W.contents out.old) (W.contents out.new) (junit_text self.now tried.now) }
     {
-        let head = b"<?xml version=\"1.0\" encoding=\"UTF-8\"?>\n<testsuites";
-        let so_far = write_more(out, Ok(()), head);
-        let so_far = write_counts(out, so_far, Tally::of(tried));
-        written(write_more(out, so_far, b">\n"))?;
+        written(write_head(out, Ok(()), Tally::of(tried)))?;
         self.write_suites(alloc, out, tried)?;
         written(write_more(out, Ok(()), b"</testsuites>\n"))?;
         written(out.flush())

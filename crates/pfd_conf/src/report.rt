@@ -1,10 +1,10 @@
 //! How a user is told of cases.
-ghost use Rattle.std.specs.{Prelude.{◌≡◌, ◌≤◌, ◌-◌, ◌^◌, Ok, IfErr, OnOk, count_by}, Option.option_map_or};
+ghost use Rattle.std.specs.Prelude.{◌≡◌, ◌≤◌, ◌-◌, ◌^◌, Ok, IfErr, OnOk, count_by};
 ghost use Rattle.pf_addr.specs.Writing.{Continues, Writes};
 ghost use Rattle.pf_form.specs.Form.Words.{texts};
 ghost use Rattle.pf_case.specs.Cases.{at_text};
 ghost use Rattle.pfd_conf.specs.declared.fault.Fault.TheVariants.{Output};
-ghost use Rattle.pfd_conf.specs.Reports.{spaced, packet_of, wanted_of, rule_text_of, got_text, difference_text, failure_text, failures_text, all_failures, has, counted, tally, tally_text, report_text};
+ghost use Rattle.pfd_conf.specs.Reports.{spaced, packet_of, wanted_of, path_of, rule_text_of, got_text, difference_text, failure_text, told_text, failures_text, all_failures, has, counted, tally, tally_text, report_text};
 
 use crate::fault::Fault;
 use crate::firewall::{Decided, Firewall};
@@ -69,6 +69,16 @@ fn wanted_of<'a>(words: Words<'a>) -> Words<'a>
 }
 
 impl Firewall {
+    /// The path of the ruleset of the rule that decides.
+    fn path_of(&self, decided: Decided) -> &[u8]
+        ensures { result.now ≡ path_of self.now.taken.conf.rulesets decided }
+    {
+        match self.rulesets().get(decided.within) {
+            Some(ruleset) => ruleset.path.as_bytes(),
+            None => b"",
+        }
+    }
+
     /// Writes which rule decides, behind what becomes of the packet.
     fn write_decided<W: Write>(
         &self,
@@ -80,10 +90,7 @@ impl Firewall {
     {
         let so_far = write_more(out, so_far, b" rule ");
         let so_far = write_more_number(out, so_far, decided.number as u64);
-        match self.rulesets().get(decided.within) {
-            Some(ruleset) => write_path(out, so_far, ruleset.path.as_bytes()),
-            None => write_more(out, so_far, b""),
-        }
+        write_path(out, so_far, self.path_of(decided))
     }
 
     /// Writes a verdict as `judge` is answered, and behind it where the rule is written.
@@ -142,6 +149,23 @@ impl Firewall {
         write_more(out, so_far, b"\n")
     }
 
+    /// Writes the line for a case of a file, if it doesn't hold.
+    fn write_told<W: Write>(
+        &self,
+        alloc: Global,
+        out: &mut W,
+        tried: &Tried<'_>,
+        outcome: &Outcome,
+    ) -> Result<(), Fault>
+        ensures { Writes result (W.contents out.old) (W.contents out.new) (told_text self.now tried.now outcome.now) }
+    {
+        if outcome.holds {
+            return Ok(());
+        }
+        let words = words(alloc, tried.line(outcome))?;
+        written(self.write_failure(out, Ok(()), tried.name, &words, outcome))
+    }
+
     /// Writes a line for each case of a file that doesn't hold.
     fn write_failures<W: Write>(
         &self,
@@ -152,10 +176,7 @@ impl Firewall {
         ensures { Writes result (W.contents out.old) (W.contents out.new) (failures_text self.now tried.now) }
     {
         for outcome in tried.outcomes.as_slice() {
-            if !outcome.holds {
-                let words = words(alloc, tried.line(outcome))?;
-                written(self.write_failure(out, Ok(()), tried.name, &words, outcome))?;
-            }
+            self.write_told(alloc, out, tried, outcome)?;
         }
         Ok(())
     }

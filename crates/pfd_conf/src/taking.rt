@@ -43,8 +43,8 @@ fn told(files: Files, known: Result<Conf, Unread>) -> Result<Taken, Fault>
     }
 }
 
-/// What a file means that is read for the rulesets from this path on. Each file that it needs is read once, by its name; `read` says what it
-/// has.
+/// What a file means that is read for the rulesets from this path on. Each file that it needs is read once, by its name; `read` says what
+/// it has.
 ///
 /// `Fault::Conf`: the first fault, with its place; `Fault::Memory`: out of memory, also if `read` ran out of it. `Fault::Unread`: a file is
 /// named that wasn't read, which doesn't happen, since no more files are named than may be read.

@@ -1,8 +1,8 @@
 //! The outcomes of cases in TAP, the Test Anything Protocol (version 13).
-ghost use Rattle.std.specs.Prelude.{◌≡◌, IfOk};
+ghost use Rattle.std.specs.Prelude.{◌≡◌, ◌+◌, IfOk};
 ghost use Rattle.pf_addr.specs.Writing.{Continues, Writes};
 ghost use Rattle.pf_form.specs.Form.Words.{texts};
-ghost use Rattle.pfd_conf.specs.Reports.{result_word, reason_text, point_text, sayable, file_points, files_points, case_count, tap_text};
+ghost use Rattle.pfd_conf.specs.Reports.{result_word, reason_text, point_text, sayable, words_at, file_points, files_points, case_count, plan_text, tap_text};
 
 use crate::fault::Fault;
 use crate::firewall::Firewall;
@@ -18,6 +18,28 @@ fn result_word(holds: bool) -> &'static [u8]
     ensures { result.now ≡ result_word holds }
 {
     if holds { b"ok " } else { b"not ok " }
+}
+
+/// Writes how many cases there are, and how many hold and don't.
+fn write_plan<W: Write>(
+    out: &mut W,
+    so_far: io::Result<()>,
+    count: usize,
+    tally: Tally,
+) -> io::Result<()>
+    ensures { Continues so_far (W.contents out.old) result (W.contents out.new) (plan_text count tally) }
+{
+    let so_far = write_more(out, so_far, b"1..");
+    let so_far = write_more_number(out, so_far, count as u64);
+    let so_far = write_more(out, so_far, b"\n# ");
+    write_tally(out, so_far, tally)
+}
+
+/// The number of a case, behind so many in the files before its own, and so many in it.
+fn number_of(before: usize, index: usize) -> usize
+    ensures { result ≡ sayable (before + index + 1) }
+{
+    before.saturating_add(index).saturating_add(1)
 }
 
 impl Firewall {
@@ -61,6 +83,22 @@ impl Firewall {
         self.write_reason(out, so_far, words, outcome)
     }
 
+    /// The same for a case of a file.
+    fn write_numbered<W: Write>(
+        &self,
+        alloc: Global,
+        out: &mut W,
+        number: usize,
+        tried: &Tried<'_>,
+        outcome: &Outcome,
+    ) -> Result<(), Fault>
+        ensures { Writes result (W.contents out.old) (W.contents out.new)
+            (point_text self.now number (words_at tried.now outcome.now) outcome.now) }
+    {
+        let words = words(alloc, tried.line(outcome))?;
+        written(self.write_point(out, Ok(()), number, &words, outcome))
+    }
+
     /// Writes the lines of a file's cases, before which so many came.
     fn write_points<W: Write>(
         &self,
@@ -75,9 +113,7 @@ impl Firewall {
         let so_far = write_more(out, so_far, tried.name);
         written(write_more(out, so_far, b"\n"))?;
         for (index, outcome) in tried.outcomes.as_slice().iter().enumerate() {
-            let words = words(alloc, tried.line(outcome))?;
-            let number = before.saturating_add(index).saturating_add(1);
-            written(self.write_point(out, Ok(()), number, &words, outcome))?;
+            self.write_numbered(alloc, out, number_of(before, index), tried, outcome)?;
         }
         Ok(())
     }
@@ -111,10 +147,7 @@ impl Firewall {
     {
         written(write_more(out, Ok(()), b"TAP version 13\n"))?;
         let count = self.write_all_points(alloc, out, tried)?;
-        let so_far = write_more(out, Ok(()), b"1..");
-        let so_far = write_more_number(out, so_far, count as u64);
-        let so_far = write_more(out, so_far, b"\n# ");
-        written(write_tally(out, so_far, Tally::of(tried)))?;
+        written(write_plan(out, Ok(()), count, Tally::of(tried)))?;
         written(out.flush())
     }
 }

@@ -1,4 +1,4 @@
-use Rattle.std.proofs.Common.{List, ◌||◌, rules, subst, take}
+use Rattle.std.proofs.Common.{List, ◌||◌, subst, take}
 use Rattle.std.proofs.lemmas.List.{take_all}
 use Rattle.pfd_conf.specs.declared.outcomes.Outcome.{Outcome}
 use Rattle.pfd_conf.specs.Covering.{AreMarks, decides_any}
@@ -7,8 +7,10 @@ use Rattle.pfd_conf.proofs.cover.mark_all.Goals as goal
 
 pub loop-outcome-preserved : goal.loop-outcome-preserved
 loop-outcome-preserved c = λ P count m.
-    let so_far = c.mark.ensures (λ k. P k || decides_any c.args.within k (take c.loop-outcome.outcome-index c.args.outcomes.now)) count (c.loop-outcome.invariant P count m) in
-    one_more_outcome P c.args.within count c.args.outcomes.now c.loop-outcome.outcome-index _ c.mark.new.marks.items c.loop-outcome-test.true (search rules) so_far
+    one_more_outcome P c.args.within count c.args.outcomes.now c.loop-outcome.outcome-index _ c.mark.new.marks.items
+    c.loop-outcome-test.true
+    (c.mark.ensures (λ k. P k || decides_any c.args.within k (take c.loop-outcome.outcome-index c.args.outcomes.now)) count
+    (c.loop-outcome.invariant P count m))
 
 pub returns : goal.returns
 returns c = λ P count m.

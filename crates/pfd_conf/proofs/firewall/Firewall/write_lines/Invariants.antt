@@ -4,5 +4,6 @@ use Rattle.pfd_conf.proofs.firewall.Firewall.write_lines.Given as goal
 
 abbrev pub invariant-loop-rule : goal.invariant-loop-rule
 invariant-loop-rule g l =
-    Before (line_of_rule l.self.taken.files l.self.taken.conf.rulesets) l.fn.begun (g.W.Write.contents l.initial.out) l.so_far (g.W.Write.contents l.out)
+    Before (line_of_rule l.self.taken.files l.self.taken.conf.rulesets) l.fn.begun (g.W.Write.contents l.initial.out) l.so_far
+    (g.W.Write.contents l.out)
     l.rules l.rule-index

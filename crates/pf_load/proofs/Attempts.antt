@@ -1,0 +1,68 @@
+-- What the parts of a load come to.
+use Rattle.std.proofs.Common.{◌≡◌, ℕ, true, false, List, [], ◌++◌, map, take, Option, Result, Ok, Err, sym, ◌∙◌, subst, append_assoc, append-nil}
+use Rattle.std.specs.{Io.KnownBytes.Appends, Result.{IsErrAnd, is_err}}
+use Rattle.pf_addr.specs.Writing.{Writes, WritesFront, WritesFront-longer, WritesFront-then, Appends-then}
+use Rattle.pf_ticket.specs.declared.name.RulesetName.{RulesetName}
+use Rattle.pf_conf.specs.declared.found.Conf.{Conf}
+use Rattle.pf_load.specs.declared.{fault.Fault.Fault, naming.Begun.Begun}
+use Rattle.pf_load.specs.{Naming.ruleset_names, Lines.{begin_line, load_lines, commit_line, rollback_line, whole_load}, Loading.{name_of, Attempts, Loads}}
+use Rattle.pf_load.proofs.Texts.{Sent, sent_then}
+
+in_order : (begun : List Begun) (c : Conf) → begin_line (ruleset_names c) ++ (load_lines begun c ++ commit_line begun) ≡ whole_load begun c
+in_order begun c = sym (append_assoc (begin_line (ruleset_names c)) (load_lines begun c) (commit_line begun))
+
+-- the begin wasn't answered with tickets
+pub begin_stopped : {A : Type 0} (r : Result A Fault) (why : Fault → Type 0) (c : Conf) (names : List RulesetName) (old new : Option (List ℕ)) → names ≡ ruleset_names c → IsErrAnd r why → WritesFront old new (begin_line names) → Attempts c r old new
+begin_stopped (Ok u) why c names old new are failed front = absurd failed
+begin_stopped (Err f) why c names old new are failed front =
+    let begin : WritesFront old new (begin_line (ruleset_names c)) = subst (λ (ns : List RulesetName). WritesFront old new (begin_line ns)) are front in
+    let part : WritesFront old new (whole_load [] c) =
+    subst (WritesFront old new) (in_order [] c) (WritesFront-longer old new (begin_line (ruleset_names c)) (load_lines [] c ++ commit_line []) begin) in
+    record { begun = []; front = part.0; back = 0; sent = subst (Appends old new) (sym (append-nil (take part.0 (whole_load [] c)))) part.1 }
+
+-- all was offered and committed
+pub went_through : {A : Type 0} (r : Result A Fault) (c : Conf) (names : List RulesetName) (begun : List Begun) (old mid new : Option (List ℕ)) → names ≡ ruleset_names c → map name_of begun ≡ names → is_err r ≡ false
+    → Appends old mid (begin_line names) → Writes r mid new (load_lines begun c ++ commit_line begun) → Attempts c r old new
+went_through (Ok u) c names begun old mid new are named good begin rest =
+    let begin_too : Appends old mid (begin_line (ruleset_names c)) = subst (λ (ns : List RulesetName). Appends old mid (begin_line ns)) are begin in
+    record {
+      begun = begun;
+      named = named ∙ are;
+      sent = subst (Appends old new) (in_order begun c) (Appends-then old mid new (begin_line (ruleset_names c)) (load_lines begun c ++ commit_line begun) begin_too rest);
+    }
+went_through (Err f) c names begun old mid new are named good begin rest = absurd (cc (good))
+
+-- it stopped, and what was begun was dropped
+pub stopped_behind_begin : {A : Type 0} (r : Result A Fault) (c : Conf) (names : List RulesetName) (begun : List Begun) (old mid last new : Option (List ℕ)) → names ≡ ruleset_names c → is_err r ≡ true
+    → Appends old mid (begin_line names) → Writes r mid last (load_lines begun c ++ commit_line begun) → WritesFront last new (rollback_line begun) → Attempts c r old new
+stopped_behind_begin (Ok u) c names begun old mid last new are failed begin rest dropped = absurd (cc (failed))
+stopped_behind_begin (Err f) c names begun old mid last new are failed begin rest dropped =
+    let begin_too : Appends old mid (begin_line (ruleset_names c)) = subst (λ (ns : List RulesetName). Appends old mid (begin_line ns)) are begin in
+    let part : WritesFront old last (whole_load begun c) =
+    subst (WritesFront old last) (in_order begun c) (WritesFront-then old mid last (begin_line (ruleset_names c)) (load_lines begun c ++ commit_line begun) begin_too rest) in
+    record {
+      begun = begun;
+      front = part.0;
+      back = dropped.0;
+      sent = Appends-then old last new (take part.0 (whole_load begun c)) (take dropped.0 (rollback_line begun)) part.1 dropped.1;
+    }
+
+-- ---- behind attempts that were refused
+
+pub tried : {A : Type 0} (r : Result A Fault) (c : Conf) (old mid new : Option (List ℕ)) → Sent old mid → Attempts c r mid new → Sent old new
+tried (Ok u) c old mid new before is = sent_then old mid new before (record { text = whole_load is.begun c; sent = is.sent })
+tried (Err f) c old mid new before is =
+    sent_then old mid new before (record { text = take is.front (whole_load is.begun c) ++ take is.back (rollback_line is.begun); sent = is.sent })
+
+pub tried_last : {A : Type 0} (r : Result A Fault) (c : Conf) (old mid new : Option (List ℕ)) → Sent old mid → Attempts c r mid new → Loads c r old new
+tried_last (Ok u) c old mid new before is = record {
+  earlier = before.text;
+  begun = is.begun;
+  named = is.named;
+  sent = Appends-then old mid new before.text (whole_load is.begun c) before.sent is.sent;
+}
+tried_last (Err f) c old mid new before is = tt
+
+pub not_tried : {A : Type 0} (r : Result A Fault) (why : Fault → Type 0) (c : Conf) (old new : Option (List ℕ)) → IsErrAnd r why → Loads c r old new
+not_tried (Ok u) why c old new failed = absurd failed
+not_tried (Err f) why c old new failed = tt
