@@ -92,17 +92,6 @@ all_parts table p q old mid all left none so_far =
 
 -- ---- what was sent
 
--- some text was sent
-pub record Sent (old new : Option (List ℕ)) : Type 0 where
-  pub text : List ℕ
-  pub sent : Appends old new text
-
-pub sent_none : (old : Option (List ℕ)) → Sent old old
-sent_none old = record { text = []; sent = Appends-none old }
-
-pub sent_then : (old mid new : Option (List ℕ)) → Sent old mid → Sent mid new → Sent old new
-sent_then old mid new a b = record { text = a.text ++ b.text; sent = Appends-then old mid new a.text b.text a.sent b.sent }
-
 -- of some lines those before these were sent
 pub record SentSome (old mid : Option (List ℕ)) (all left : List ℕ) : Type 0 where
   pub text : List ℕ

@@ -1,5 +1,5 @@
 //! A load.
-ghost use Rattle.std.specs.Prelude.{◌≡◌, ◌<◌, ◌≤◌, ◌++◌, length, map, IfOk};
+ghost use Rattle.std.specs.{Prelude.{◌≡◌, ◌<◌, ◌≤◌, ◌++◌, true, length, map, IfOk}, Result.is_err};
 ghost use Rattle.pf_addr.specs.Writing.{Writes, WritesFront};
 ghost use Rattle.pf_load.specs.Lines.{begin_line, load_lines, commit_line, rollback_line};
 ghost use Rattle.pf_load.specs.Naming.{ruleset_names};
@@ -186,7 +186,9 @@ fn attempt<B: BufRead, W: Write>(
 }
 
 /// Whether it stopped since somebody else began on the same ruleset, or committed it, meanwhile.
-fn is_busy(done: &Result<Vec<u8>, Fault>) -> bool {
+fn is_busy(done: &Result<Vec<u8>, Fault>) -> bool
+    ensures { result ≡ true → is_err done.now ≡ true }
+{
     match done {
         Ok(_) => false,
         Err(fault) => fault.is_busy(),
@@ -205,7 +207,7 @@ pub fn load<B: BufRead, W: Write>(
     conf: &Conf,
     retries: u32,
 ) -> Result<Vec<u8>, Fault>
-    ensures { Loads conf.now result (W.contents server.old) (W.contents server.new) }
+    ensures { Loads conf.now retries result (W.contents server.old) (W.contents server.new) }
 {
     let names = ruleset_names(alloc, conf)?;
     'tries: for _ in 0..retries {
