@@ -1,8 +1,8 @@
 -- What the parts of a load come to.
-use Rattle.std.proofs.Common.{◌≡◌, ℕ, ◌+◌, ◌≤◌, true, false, List, [], ◌∷◌, ◌++◌, length, map, take, Option, Result, Ok, Err, sym, ap, ◌∙◌, subst, arith, append_assoc, append-nil, length-append}
-use Rattle.std.proofs.lemmas.Grind.{flat_map-append}
+use Rattle.std.proofs.Common.{◌≡◌, ℕ, ◌+◌, ◌≤◌, min, true, false, List, [], ◌∷◌, ◌++◌, length, map, take, Option, Result, Ok, Err, sym, ap, ◌∙◌, subst, arith, append_assoc, append-nil, length-append}
+use Rattle.std.proofs.lemmas.{Grind.flat_map-append, List.{take-append-le, take_min}}
 use Rattle.std.specs.{List.flat_map, Io.KnownBytes.Appends, Result.{IsErrAnd, is_err}}
-use Rattle.pf_addr.specs.Writing.{Writes, WritesFront, WritesFront-longer, WritesFront-then, Appends-none, Appends-then}
+use Rattle.pf_addr.specs.Writing.{Writes, WritesFront, WritesFront-then, Appends-none, Appends-then}
 use Rattle.pf_ticket.specs.declared.name.RulesetName.{RulesetName}
 use Rattle.pf_conf.specs.declared.found.Conf.{Conf}
 use Rattle.pf_load.specs.declared.{fault.Fault.Fault, naming.Begun.Begun}
@@ -15,10 +15,15 @@ in_order begun c = sym (append_assoc (begin_line (ruleset_names c)) (load_lines 
 pub begin_stopped : {A : Type 0} (r : Result A Fault) (why : Fault → Type 0) (c : Conf) (names : List RulesetName) (old new : Option (List ℕ)) → names ≡ ruleset_names c → IsErrAnd r why → WritesFront old new (begin_line names) → Attempts c r old new
 begin_stopped (Ok u) why c names old new are failed front = absurd failed
 begin_stopped (Err f) why c names old new are failed front =
-    let begin : WritesFront old new (begin_line (ruleset_names c)) = subst (λ (ns : List RulesetName). WritesFront old new (begin_line ns)) are front in
-    let part : WritesFront old new (whole_load [] c) =
-    subst (WritesFront old new) (in_order [] c) (WritesFront-longer old new (begin_line (ruleset_names c)) (load_lines [] c ++ commit_line []) begin) in
-    (record { begun = []; front = part.0; back = 0 }, subst (Appends old new) (sym (append-nil (take part.0 (whole_load [] c)))) part.1)
+    let line = begin_line (ruleset_names c) in
+    let begin : WritesFront old new line = subst (λ (ns : List RulesetName). WritesFront old new (begin_line ns)) are front in
+    let sent = min begin.0 (length line) in
+    let within : sent ≤ length line = omega arith in
+    let same : take sent (whole_load [] c) ≡ take begin.0 line =
+    ap (take sent) (sym (in_order [] c)) ∙ take-append-le sent line (load_lines [] c ++ commit_line []) within ∙ take_min begin.0 line in (
+      record { begun = []; front = sent; back = 0; offered = λ more. absurd (omega (arith, more, within)); dropped = λ some. absurd (omega (arith, some)) },
+      subst (Appends old new) (sym (append-nil (take sent (whole_load [] c)) ∙ same)) begin.1,
+    )
 
 -- all was offered and committed
 pub went_through : {A : Type 0} (r : Result A Fault) (c : Conf) (names : List RulesetName) (begun : List Begun) (old mid new : Option (List ℕ)) → names ≡ ruleset_names c → map name_of begun ≡ names → is_err r ≡ false
@@ -33,14 +38,14 @@ went_through (Ok u) c names begun old mid new are named good begin rest =
 went_through (Err f) c names begun old mid new are named good begin rest = absurd (cc (good))
 
 -- it stopped, and what was begun was dropped
-pub stopped_behind_begin : {A : Type 0} (r : Result A Fault) (c : Conf) (names : List RulesetName) (begun : List Begun) (old mid last new : Option (List ℕ)) → names ≡ ruleset_names c → is_err r ≡ true
+pub stopped_behind_begin : {A : Type 0} (r : Result A Fault) (c : Conf) (names : List RulesetName) (begun : List Begun) (old mid last new : Option (List ℕ)) → names ≡ ruleset_names c → map name_of begun ≡ names → is_err r ≡ true
     → Appends old mid (begin_line names) → Writes r mid last (load_lines begun c ++ commit_line begun) → WritesFront last new (rollback_line begun) → Attempts c r old new
-stopped_behind_begin (Ok u) c names begun old mid last new are failed begin rest dropped = absurd (cc (failed))
-stopped_behind_begin (Err f) c names begun old mid last new are failed begin rest dropped =
+stopped_behind_begin (Ok u) c names begun old mid last new are named failed begin rest dropped = absurd (cc (failed))
+stopped_behind_begin (Err f) c names begun old mid last new are named failed begin rest dropped =
     let begin_too : Appends old mid (begin_line (ruleset_names c)) = subst (λ (ns : List RulesetName). Appends old mid (begin_line ns)) are begin in
     let part : WritesFront old last (whole_load begun c) =
     subst (WritesFront old last) (in_order begun c) (WritesFront-then old mid last (begin_line (ruleset_names c)) (load_lines begun c ++ commit_line begun) begin_too rest) in (
-      record { begun = begun; front = part.0; back = dropped.0 },
+      record { begun = begun; front = part.0; back = dropped.0; offered = λ more. named ∙ are; dropped = λ some. named ∙ are },
       Appends-then old last new (take part.0 (whole_load begun c)) (take dropped.0 (rollback_line begun)) part.1 dropped.1,
     )
 

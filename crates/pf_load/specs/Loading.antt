@@ -1,11 +1,11 @@
 -- What a load has sent (pfctl(8), -f; pf(4), DIOCXBEGIN, DIOCXCOMMIT and DIOCXROLLBACK): all of it, or of one that stopped a front and then
 -- the rollback; it may be begun anew.
-use Rattle.std.specs.{Prelude.{◌≡◌, ℕ, ◌+◌, ◌≤◌, List, ◌++◌, length, take, map, Option, Result, Ok, Err}, List.flat_map, Io.KnownBytes.Appends}
+use Rattle.std.specs.{Prelude.{◌≡◌, ℕ, ◌+◌, ◌<◌, ◌≤◌, List, ◌++◌, length, take, map, Option, Result, Ok, Err}, List.flat_map, Io.KnownBytes.Appends}
 use Rattle.pf_form.specs.Form.Words.{Word}
 use Rattle.pf_ticket.specs.declared.name.RulesetName.{RulesetName}
 use Rattle.pf_conf.specs.declared.found.Conf.{Conf}
 use Rattle.pf_load.specs.declared.{fault.Fault.Fault, naming.Begun.Begun}
-use Rattle.pf_load.specs.{Naming.ruleset_names, Lines.{whole_load, rollback_line}}
+use Rattle.pf_load.specs.{Naming.ruleset_names, Lines.{begin_line, whole_load, rollback_line}}
 
 abbrev pub name_of : Begun → RulesetName
 name_of b = b.name
@@ -16,17 +16,20 @@ pub record SentWhole (c : Conf) (old new : Option (List ℕ)) : Type 0 where
   pub named : map name_of begun ≡ ruleset_names c
   pub sent : Appends old new (whole_load begun c)
 
--- A load that stopped: how many bytes of it were sent, and behind them how many of the rollback of what was begun.
-pub record Stopped : Type 0 where
+-- A load that stopped: how many bytes of it were sent, and behind them how many of the rollback of what was begun. More than the begin was
+-- sent only with one ticket for each ruleset that it names, and so was the rollback.
+pub record Stopped (c : Conf) : Type 0 where
   pub begun : List Begun
   pub front : ℕ
   pub back : ℕ
+  pub offered : length (begin_line (ruleset_names c)) < front → map name_of begun ≡ ruleset_names c
+  pub dropped : 0 < back → map name_of begun ≡ ruleset_names c
 
-abbrev pub sent_by : Conf → Stopped → Word
+abbrev pub sent_by : (c : Conf) → Stopped c → Word
 sent_by c s = take s.front (whole_load s.begun c) ++ take s.back (rollback_line s.begun)
 
 abbrev pub SentPart : Conf → Option (List ℕ) → Option (List ℕ) → Type 0
-SentPart c old new = (s : Stopped) × Appends old new (sent_by c s)
+SentPart c old new = (s : Stopped c) × Appends old new (sent_by c s)
 
 abbrev pub Attempts : {A : Type 0} → Conf → Result A Fault → Option (List ℕ) → Option (List ℕ) → Type 0
 Attempts c (Ok reply) old new = SentWhole c old new
@@ -34,7 +37,7 @@ Attempts c (Err f) old new = SentPart c old new
 
 -- Behind loads that stopped, one after another and at most so many, all of one was sent.
 pub record SentLast (c : Conf) (retries : ℕ) (old new : Option (List ℕ)) : Type 0 where
-  pub earlier : List Stopped
+  pub earlier : List (Stopped c)
   pub few : length earlier ≤ retries
   pub begun : List Begun
   pub named : map name_of begun ≡ ruleset_names c
@@ -42,7 +45,7 @@ pub record SentLast (c : Conf) (retries : ℕ) (old new : Option (List ℕ)) : T
 
 -- Only loads that stopped were sent, one after another and at most so many.
 pub record SentStopped (c : Conf) (tries : ℕ) (old new : Option (List ℕ)) : Type 0 where
-  pub stopped : List Stopped
+  pub stopped : List (Stopped c)
   pub few : length stopped ≤ tries
   pub sent : Appends old new (flat_map (sent_by c) stopped)
 

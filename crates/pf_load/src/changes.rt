@@ -463,7 +463,10 @@ fn show_paths<B: BufRead, W: Write, O: Write>(
 
 /// Asks a server for the rules and tables that a load of this file would replace, and writes what it would change: for each path whose rules
 /// would differ `anchor PATH`, unless it is main's, and below it `- RULE` for each rule that would be gone and `+ RULE` for each that would
-/// come; for each table `table PATH NAME`, and so its entries. The server isn't asked to change anything.
+/// come; for each table `table PATH NAME`, and so its entries.
+///
+/// The server isn't asked to change anything: it is sent `show rules PATH` for each path of the file, and then `show tables PATH` for each
+/// path at which it fills some; after a fault a front of these lines.
 ///
 /// The faults are those of [`load`](crate::load); `Fault::Output`: the changes can't be written.
 pub fn show_changes<B: BufRead, W: Write, O: Write>(

@@ -196,7 +196,8 @@ fn is_busy(done: &Result<Vec<u8>, Fault>) -> bool
 }
 
 /// Loads all that a file means into a server, in one commit, or nothing of it; and returns the server's reply, `applied N` or `stored N`.
-/// Other rulesets and tables stay. It is begun anew so many times if somebody else began or committed one of the rulesets meanwhile.
+/// Other rulesets and tables stay. It is begun anew at most so many times, if somebody else began or committed one of the rulesets
+/// meanwhile. Of each that stops a front is sent, and behind it a front of its rollback.
 ///
 /// `Fault::Refused`: the line was refused, and all that was begun was dropped. `Fault::Ended`: the server ended before it had answered the
 /// commit, which may have been made if it was sent. `Fault::Memory`: out of memory, also here before anything was sent.
