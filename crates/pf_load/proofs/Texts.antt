@@ -6,7 +6,7 @@ use Rattle.pf_addr.specs.Writing.{Wrote, Writes, WritesFront, WritesFront-longer
 use Rattle.pf_form.specs.Form.Words.{Word}
 use Rattle.pf_table.specs.Entries.{PlainEntry}
 use Rattle.pf_load.specs.declared.lines.TheConstants.{PART}
-use Rattle.pf_load.proofs.Steps.{take_item}
+use Rattle.pf_load.proofs.Steps.{take_item, drop_item}
 use Rattle.pf_load.specs.Lines.{parts_within, parts, extend_line, extend_lines}
 
 -- with nothing to write, what was written stays
@@ -92,17 +92,6 @@ all_parts table p q old mid all left none so_far =
 
 -- ---- what was sent
 
--- some text was sent
-pub record Sent (old new : Option (List ℕ)) : Type 0 where
-  pub text : List ℕ
-  pub sent : Appends old new text
-
-pub sent_none : (old : Option (List ℕ)) → Sent old old
-sent_none old = record { text = []; sent = Appends-none old }
-
-pub sent_then : (old mid new : Option (List ℕ)) → Sent old mid → Sent mid new → Sent old new
-sent_then old mid new a b = record { text = a.text ++ b.text; sent = Appends-then old mid new a.text b.text a.sent b.sent }
-
 -- of some lines those before these were sent
 pub record SentSome (old mid : Option (List ℕ)) (all left : List ℕ) : Type 0 where
   pub text : List ℕ
@@ -160,6 +149,23 @@ stopped_within old mid new all left some rest cut so_far front =
 pub cut_in_two : (left some rest : List ℕ) (n : ℕ) → some ≡ take n left → rest ≡ drop n left → some ++ rest ≡ left
 cut_in_two left some rest n front back =
     ap (λ (l : List ℕ). l ++ rest) front ∙ ap (λ (l : List ℕ). take n left ++ l) back ∙ take-append-drop n left
+
+-- ---- one text after another
+
+pub one_more_text : {X : Type 0} (text : X → List ℕ) (old mid new : Option (List ℕ)) (xs : List X) (i : ℕ) (x : X) → i < length xs → x ≡ get_or xs i x → Appends old mid (flat_map text (take i xs)) → Appends mid new (text x) → Appends old new (flat_map text (take (i + 1) xs))
+one_more_text {X} text old mid new xs i x within here so_far next =
+    let more : flat_map text (take (i + 1) xs) ≡ flat_map text (take i xs) ++ text x =
+    ap (flat_map text) (take_item xs i x within here) ∙ flat_map-append text (take i xs) (x ∷ []) ∙ ap (λ (l : List ℕ). flat_map text (take i xs) ++ l) (append-nil (text x)) in
+    subst (Appends old new) (sym more) (Appends-then old mid new (flat_map text (take i xs)) (text x) so_far next)
+
+-- of this text a front was sent
+pub stopped_at_text : {X : Type 0} (text : X → List ℕ) (old mid new : Option (List ℕ)) (xs : List X) (i : ℕ) (x : X) → i < length xs → x ≡ get_or xs i x → Appends old mid (flat_map text (take i xs)) → WritesFront mid new (text x) → WritesFront old new (flat_map text xs)
+stopped_at_text {X} text old mid new xs i x within here so_far front =
+    let rest : flat_map text (drop i xs) ≡ text x ++ flat_map text (drop (i + 1) xs) = ap (flat_map text) (drop_item xs i x within here) in
+    let all : flat_map text (take i xs) ++ (text x ++ flat_map text (drop (i + 1) xs)) ≡ flat_map text xs =
+    ap (λ (l : List ℕ). flat_map text (take i xs) ++ l) (sym rest) ∙ sym (flat_map-append text (take i xs) (drop i xs)) ∙ ap (flat_map text) (take-append-drop i xs) in
+    subst (WritesFront old new) all
+    (WritesFront-then old mid new (flat_map text (take i xs)) (text x ++ flat_map text (drop (i + 1) xs)) so_far (WritesFront-longer mid new (text x) (flat_map text (drop (i + 1) xs)) front))
 
 -- ---- what was read
 

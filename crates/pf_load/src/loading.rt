@@ -1,5 +1,5 @@
 //! A load.
-ghost use Rattle.std.specs.Prelude.{◌≡◌, ◌<◌, ◌≤◌, ◌++◌, length, map, IfOk};
+ghost use Rattle.std.specs.{Prelude.{◌≡◌, ◌<◌, ◌≤◌, ◌++◌, true, length, map, IfOk}, Result.is_err};
 ghost use Rattle.pf_addr.specs.Writing.{Writes, WritesFront};
 ghost use Rattle.pf_load.specs.Lines.{begin_line, load_lines, commit_line, rollback_line};
 ghost use Rattle.pf_load.specs.Naming.{ruleset_names};
@@ -186,7 +186,9 @@ fn attempt<B: BufRead, W: Write>(
 }
 
 /// Whether it stopped since somebody else began on the same ruleset, or committed it, meanwhile.
-fn is_busy(done: &Result<Vec<u8>, Fault>) -> bool {
+fn is_busy(done: &Result<Vec<u8>, Fault>) -> bool
+    ensures { result ≡ true → is_err done.now ≡ true }
+{
     match done {
         Ok(_) => false,
         Err(fault) => fault.is_busy(),
@@ -194,7 +196,8 @@ fn is_busy(done: &Result<Vec<u8>, Fault>) -> bool {
 }
 
 /// Loads all that a file means into a server, in one commit, or nothing of it; and returns the server's reply, `applied N` or `stored N`.
-/// Other rulesets and tables stay. It is begun anew so many times if somebody else began or committed one of the rulesets meanwhile.
+/// Other rulesets and tables stay. It is begun anew at most so many times, if somebody else began or committed one of the rulesets
+/// meanwhile. Of each that stops a front is sent, and behind it a front of its rollback.
 ///
 /// `Fault::Refused`: the line was refused, and all that was begun was dropped. `Fault::Ended`: the server ended before it had answered the
 /// commit, which may have been made if it was sent. `Fault::Memory`: out of memory, also here before anything was sent.
@@ -205,7 +208,7 @@ pub fn load<B: BufRead, W: Write>(
     conf: &Conf,
     retries: u32,
 ) -> Result<Vec<u8>, Fault>
-    ensures { Loads conf.now result (W.contents server.old) (W.contents server.new) }
+    ensures { Loads conf.now retries result (W.contents server.old) (W.contents server.new) }
 {
     let names = ruleset_names(alloc, conf)?;
     'tries: for _ in 0..retries {
