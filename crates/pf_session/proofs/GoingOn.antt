@@ -73,8 +73,8 @@ module _ (Lines : PlainDurable → Setting → Sitting → Sitting → List (Lis
   begins-alone base setting result text intake unread still_unread old new held held' p =
       (part-as (within base setting) (any Lines Resumes base setting) (Lines base setting) (TakesAlong Lines Resumes) (one-along Lines Resumes base setting) tt p).0
 
-  module _ (base : PlainDurable) (setting : Setting) {xs : List (List ℕ)} {old left : Sitting} {begun new : Within Sitting} {held shown held' : Option (List ℕ)}
-      (first : Answered (Lines base setting) xs old left held shown) (next : Resumes (within base setting left) begun) where
+  module _ (base : PlainDurable) (setting : Setting) {xs : List (List ℕ)} {old left : Sitting} {begun : Within Sitting} {held shown : Option (List ℕ)}
+      (first : Answered (Lines base setting) xs old left held shown) (next : Resumes (within base setting left) begun) (new : Within Sitting) (held' : Option (List ℕ)) where
     ends-along : (result : Result (Unit {0}) EngineFault) (why : (result ≡ Err fault.Memory) → ⊥) (input text : List ℕ) (lines : List (List ℕ)) (rest : List ℕ) (unread : Option (List ℕ))
         → SessionEnds (TakesAlong Lines Resumes) result input lines rest unread begun new shown held' → SessionEnds (TakesAlong Lines Resumes) result text (xs ++ lines) rest unread (within base setting old) new held held'
     ends-along (Ok u) why input text lines rest unread (answered, end) =
@@ -123,7 +123,7 @@ module _ (Lines : PlainDurable → Setting → Sitting → Sitting → List (Lis
       record {
         input = p.input ++ q.input;
         read = Consumes-trans unread mid_unread still_unread p.input q.input p.read q.read;
-        leaves = leaves-along base setting s.answered next result intake ((s.rest ++ between.ahead) ++ q.input) (text ++ (p.input ++ q.input)) still_unread s.cut.whole is q.leaves;
+        leaves = leaves-along base setting s.answered next new held' result intake ((s.rest ++ between.ahead) ++ q.input) (text ++ (p.input ++ q.input)) still_unread s.cut.whole is q.leaves;
       }
 
   pub is-whole : IsWhole Lines
@@ -135,6 +135,9 @@ module _ (Lines : PlainDurable → Setting → Sitting → Sitting → List (Lis
 pieces-then : (xs ys : List Piece) (a b c : Option (List ℕ)) → ArePieces a xs b → ArePieces b ys c → ArePieces a (xs ++ ys) c
 pieces-then [] ys a b c same more = subst (λ (l : Option (List ℕ)). ArePieces l ys c) same more
 pieces-then (x ∷ xs) ys a b c (mid, is, rest) more = (mid, is, pieces-then xs ys mid b c rest more)
+
+abbrev bytes-of : List Piece → List ℕ
+bytes-of pieces = flat_map (λ (p : Piece). p.bytes) pieces
 
 module _ (base : PlainDurable) (setting : Setting) where
   stream-ends-one : (result : Result (Unit {0}) EngineFault) (left : Option (List ℕ)) (bytes : List ℕ) (unread : Option (List ℕ)) (a b : Option PlainReceipt) (h i : Option (List ℕ))
@@ -167,11 +170,8 @@ module _ (base : PlainDurable) (setting : Setting) where
   stream-one (Ok Ended) before left unread still_unread a b h i s = stream-from-one (Ok tt) s
   stream-one (Err why) before left unread still_unread a b h i s = stream-from-one (Err why) s
 
-  module _ {before between unread mid_unread : Option (List ℕ)} {old last : Option PlainReceipt} {begun new : Within (Option PlainReceipt)} {held shown held' : Option (List ℕ)}
-      (s : StreamSoFar (Takes base setting) before unread mid_unread between old last held shown) (next : Follows (within base setting last) begun) where
-    abbrev bytes-of : List Piece → List ℕ
-    bytes-of pieces = flat_map (λ (p : Piece). p.bytes) pieces
-
+  module _ {before between unread mid_unread : Option (List ℕ)} {old last : Option PlainReceipt} {begun : Within (Option PlainReceipt)} {held shown : Option (List ℕ)}
+      (s : StreamSoFar (Takes base setting) before unread mid_unread between old last held shown) (next : Follows (within base setting last) begun) (new : Within (Option PlainReceipt)) (held' : Option (List ℕ)) where
     stream-from-then : (result : Result (Unit {0}) EngineFault) (still_unread : Option (List ℕ)) → IsStreamFrom TakesPartsAlong between result mid_unread still_unread begun new shown held'
         → IsStreamFrom TakesPartsAlong before result unread still_unread (within base setting old) new held held'
     stream-from-then result still_unread q = record {
@@ -203,4 +203,4 @@ pub streams-begin-alone : StreamsBeginAlone
 streams-begin-alone base setting result before left unread still_unread old new held held' s = stream-one base setting result before left unread still_unread old new held held' s
 
 pub streams-go-on-elsewhere : StreamsGoOnElsewhere
-streams-go-on-elsewhere base setting result before between left unread mid_unread still_unread old last begun new held shown held' s next q = stream-then base setting s next result left still_unread q
+streams-go-on-elsewhere base setting result before between left unread mid_unread still_unread old last begun new held shown held' s next q = stream-then base setting s next new held' result left still_unread q

@@ -1,15 +1,16 @@
 -- What a Book's device gives that is opened again.
-use Rattle.std.proofs.Common.{◌≡◌, ◌∙◌, ℕ, ◌≤◌, List, [], ◌++◌, length, take, refl, sym, ap, subst, append-nil}
+use Rattle.std.proofs.Common.{◌≡◌, ◌∙◌, ℕ, ◌<◌, ◌≤◌, Bool, List, [], ◌∷◌, ◌++◌, length, take, Result, Ok, Err, refl, sym, ap, subst, append-nil}
 use Rattle.std.proofs.lemmas.List.Elements.{All-weaker}
-use Rattle.std.specs.Prelude.{All}
+use Rattle.std.specs.Prelude.{All, IfOk}
 use mathlib.Core.List.{IsPrefix}
-use Rattle.pf_core.specs.{Durable.Changes.{PlainChange, PlainDurable, after}, WorldBooks.{IsAt, WorldBook}, Worlds.{CurrentOpening, flat, idle, raised}}
-use Rattle.pf_core.proofs.Prefixes.{flat-append}
+use Rattle.pf_disk.specs.Disk.{IsImage}
+use Rattle.pf_core.specs.{Durable.Changes.{PlainChange, PlainDurable, after}, Laws.Openings.Leaves, WorldBooks.{IsAt, IsFolded, StandsFor, WorldBook}, Worlds.{CurrentOpening, Event, Setting, begun, crashed, down, flat, idle, last_epoch, opened, raised}}
+use Rattle.pf_core.proofs.{LongerWorlds.{crashes_are_events, stands-by}, Prefixes.flat-append}
 use Rattle.pf_store.specs.Stores.{Holds}
 use Rattle.pf_store.proofs.Refusing.{one_held}
 use Rattle.pf_view.specs.Seers.{PlainSeer}
 use Rattle.pf_view.proofs.Prefixes.{prefix_shorter, prefix_trans}
-use Rattle.pf_book.specs.Books.{HoldsLeft, log_in}
+use Rattle.pf_book.specs.Books.{HoldsLeft, PlainBook, PlainOpening, log_in, world_book}
 use Rattle.pf_session.specs.Renewing.{KnowsWithin, RenewsBook}
 
 -- the opening of a Book, as far as it has come
@@ -50,3 +51,36 @@ renewed b image d given all (held, holds, (n, is)) read raises covered =
       record { kept = n; front_is = refl; renews = raises ∙ ap raised fold },
       knows-all b n all covered,
     )
+
+-- what a Book stood for, its next opening stands for with a crash and an opening at the end
+stands-renewed : (b next : WorldBook) (image : List ℕ) (d given first : PlainDurable) (world : List Event) (setting : Setting) → ((h : CurrentOpening) → IsAt h b → HoldsLeft h idle image) → Holds image d → given ≡ raised d → d.epoch < last_epoch
+    → StandsFor first b world → IsAt (begun setting given) next → IsFolded next → (n : ℕ) × StandsFor first next ((world ++ crashed idle n ∷ []) ++ opened setting ∷ [])
+stands-renewed b next image d given first world setting left holds raises low stands at folded =
+    let (kept, keeps, leaves) = left stands.held stands.at in
+    let same : kept ≡ d = one_held image kept d keeps holds in
+    let (n, legal, comes) = crashes_are_events first world stands.held idle d stands.legal stands.comes (subst (λ (k : PlainDurable). Leaves stands.held idle k) same leaves) in
+    let here : IsAt (begun setting (raised d)) next = subst (λ (k : PlainDurable). IsAt (begun setting k) next) raises at in
+    (n, stands-by first next (world ++ crashed idle n ∷ []) (opened setting) (down d) (begun setting (raised d)) legal comes low refl here folded)
+
+-- ---- a Book, and what its device gives
+
+module _ {D : Type 0} (seen : D → List ℕ) (unsynced : D → ℕ → Bool) (b : PlainBook D) (disk : D) (same : disk ≡ b.disk)
+    (images : (h : CurrentOpening) → IsAt h (world_book b) → (image : List ℕ) → IsImage (seen b.disk) (unsynced b.disk) image → HoldsLeft h idle image) where
+  -- the device as it reads is an image of it
+  left-now : (h : CurrentOpening) → IsAt h (world_book b) → HoldsLeft h idle (seen disk)
+  left-now h at = subst (λ (d : D). HoldsLeft h idle (seen d)) (sym same) (images h at (seen b.disk) (record { same_length = refl; agrees = λ i out. refl }))
+
+  -- what an opening of it gives
+  abbrev pub Opened : PlainOpening D → Type 0
+  Opened o = (d : PlainDurable) × Holds (seen disk) d × (o.given ≡ raised d) × (d.epoch < last_epoch)
+
+  pub gives : {E : Type 0} (r : Result (PlainOpening D) E) (known : List PlainSeer) → All (IsCovered (world_book b)) known → IfOk r Opened
+      → IfOk r (λ o. (front : List PlainChange) × RenewsBook (world_book b) front o.given × All (KnowsWithin front) known)
+  gives (Ok o) known covered (d, holds, raises, low) = renewed (world_book b) (seen disk) d o.given known (left-now (opening_in (world_book b)) (at-itself (world_book b))) holds raises covered
+  gives (Err e) known covered none = tt
+
+  pub goes-on : {E : Type 0} (r : Result (PlainOpening D) E) → IfOk r Opened
+      → IfOk r (λ o. (first : PlainDurable) (world : List Event) (setting : Setting) (next : WorldBook) → StandsFor first (world_book b) world → IsAt (begun setting o.given) next → IsFolded next
+      → (n : ℕ) × StandsFor first next ((world ++ crashed idle n ∷ []) ++ opened setting ∷ []))
+  goes-on (Ok o) (d, holds, raises, low) = λ first world setting next stands at folded. stands-renewed (world_book b) next (seen disk) d o.given first world setting left-now holds raises low stands at folded
+  goes-on (Err e) none = tt

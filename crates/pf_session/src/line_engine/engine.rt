@@ -1,6 +1,6 @@
 //! A session: lines from a reader, replies to a writer.
-ghost use Rattle.std.specs.{Io.KnownBytes.IsAtEnd, Prelude.{◌≡◌, ◌++◌, ℕ, List, [], Ok, Err, MatchResult, Option}};
-ghost use Rattle.pf_session.specs.declared.line_engine.left_off.LeftOff.TheVariants.{Paused};
+ghost use Rattle.std.specs.{Io.KnownBytes.IsAtEnd, Prelude.{◌≡◌, ◌++◌, ℕ, IfOk, List, [], Ok, Err, MatchResult, Option}};
+ghost use Rattle.pf_session.specs.declared.line_engine.left_off.LeftOff.TheVariants.{Ended, Paused};
 ghost use Rattle.pf_session.specs.{LineEngine.Chains.Chain, LineEngine.Intakes.{AnsweredSoFar, HasBegun, IsCaughtUp, IsPart, LeavesOff}, LineEngine.Sessions.IsSession};
 
 use crate::line_engine::answer_line::AnswerLine;
@@ -47,7 +47,8 @@ fn end_lines<A: AnswerLine, W: Write>(
     answerer: &mut A,
 ) -> Result<LeftOff, EngineFault>
     requires { intake.now.ahead ≡ [] }
-    ensures { (input : List ℕ) (start : A) (held unread : Option (List ℕ)) → IsAtEnd unread →
+    ensures ended { IfOk result (λ left. left ≡ Ended) }
+    ensures leaves { (input : List ℕ) (start : A) (held unread : Option (List ℕ)) → IsAtEnd unread →
         AnsweredSoFar (Chain A.Takes) input intake.now start answerer.old held (W.contents writer.old) →
         LeavesOff (Chain A.Takes) result input intake.now unread start answerer.new held (W.contents writer.new) }
 {
