@@ -1,9 +1,9 @@
 -- A session that pauses and goes on.
-use Rattle.std.proofs.{Common.{◌≡◌, ℕ, ◌+◌, ◌-◌, ◌≤◌, List, [], ◌∷◌, ◌++◌, length, take, drop, Option, Result, Ok, Err, inl, inr, refl, sym, ap, ◌∙◌, subst, append_assoc, append-nil, arith}, KnownBytes.{Appends-nil, Consumes-nil, Consumes-trans, Consumes-kept}, lemmas.List.Elements.{All-nil, All-take}, lemmas.List.{drop-drop, drop-take, take-append-drop, take_all}}
-use Rattle.std.specs.{Prelude.{◌≢◌, slice_range}, Io.KnownBytes.{Consumes, IsAtEnd, Keeps}}
-use Rattle.pf_session.specs.declared.line_engine.{fault.EngineFault.EngineFault, left_off.LeftOff.LeftOff, left_off.LeftOff.TheVariants.{Ended, Paused}}
+use Rattle.std.proofs.{Common.{◌≡◌, ℕ, ◌+◌, ◌-◌, ◌≤◌, List, [], ◌++◌, length, take, drop, Option, Result, Ok, Err, inl, refl, sym, ap, ◌∙◌, subst, append_assoc, append-nil, arith}, KnownBytes.{Appends-nil, Consumes-nil, Consumes-trans, Consumes-kept}, lemmas.List.Elements.{All-nil, All-take}, lemmas.List.{drop-drop, drop-take, take-append-drop, take_all}}
+use Rattle.std.specs.{Prelude.{◌≢◌, slice_range}, Io.KnownBytes.{Consumes, Keeps}}
+use Rattle.pf_session.specs.declared.line_engine.{fault.EngineFault.EngineFault, left_off.LeftOff.LeftOff, left_off.LeftOff.TheVariants.{Ended}}
 use Rattle.pf_session.specs.declared.line_engine.fault.EngineFault.TheVariants as fault
-use Rattle.pf_session.specs.{LineEngine.Chains.Chain, LineEngine.Lines.{IsCut, IsLine, newline, seen}, LineEngine.Pieces.{SessionSoFar, Failed}, LineEngine.Intakes.{AnsweredSoFar, EndsWith, HasBegun, IsPart, LeavesOff, PlainIntake, nothing_read}, LineEngine.Sessions.IsSession}
+use Rattle.pf_session.specs.{LineEngine.Chains.Chain, LineEngine.Lines.{IsCut, IsLine, newline}, LineEngine.Pieces.{SessionSoFar, Failed}, LineEngine.Intakes.{AnsweredSoFar, EndsWith, HasBegun, IsPart, LeavesOff, PlainIntake, nothing_read}, LineEngine.Sessions.IsSession}
 use Rattle.pf_session.proofs.{Chains.chain-none, Cutting.cut-more, AnsweredLines.{cut-longer, flushed, still-so_far}}
 
 module _ {S : Type 0} (Takes : List ℕ → S → S → List ℕ → Type 0) where
@@ -124,7 +124,7 @@ module _ {S : Type 0} (Takes : List ℕ → S → S → List ℕ → Type 0) whe
   pub from-nothing : {result : Result LeftOff EngineFault} {intake' : PlainIntake} {unread still_unread : Option (List ℕ)} {a b : S} {h i : Option (List ℕ)} (intake : PlainIntake) → intake ≡ nothing_read
       → ((begun : List ℕ) → HasBegun intake begun → IsPart (Chain Takes) result (begun ++ intake.ahead) intake' unread still_unread a b h i) → IsPart (Chain Takes) result [] intake' unread still_unread a b h i
   from-nothing {result} {intake'} {unread} {still_unread} {a} {b} {h} {i} intake none part =
-      subst (λ (k : PlainIntake). (begun : List ℕ) → HasBegun k begun → IsPart (Chain Takes) result (begun ++ k.ahead) intake' unread still_unread a b h i) none part [] (All-nil IsLine, refl)
+      subst (λ (k : PlainIntake). (begun : List ℕ) → HasBegun k begun → IsPart (Chain Takes) result (begun ++ k.ahead) intake' unread still_unread a b h i) none part [] (All-nil (λ b. b ≢ newline), refl)
 
   ends-session : {result : Result (Unit {0}) EngineFault} {input : List ℕ} (unread : Option (List ℕ)) {still_unread : Option (List ℕ)} {a b : S} {h i : Option (List ℕ)} → Consumes unread still_unread input
       → EndsWith (Chain Takes) result input still_unread a b h i → IsSession (Chain Takes) result unread still_unread a b h i

@@ -1,4 +1,4 @@
-use Rattle.std.proofs.{Common.{◌≡◌, ◌∙◌, ◌++◌, [], Err, Ok}, lemmas.List.nil_from_length, lemmas.Result.err_from_is_err_and}
+use Rattle.std.proofs.{Common.{◌≡◌, ◌++◌, [], Err, Ok}, lemmas.Result.err_from_is_err_and}
 use Rattle.pf_session.specs.declared.line_engine.left_off.LeftOff.TheVariants.{Ended, Paused}
 use Rattle.pf_session.specs.declared.line_engine.fault.EngineFault.TheVariants as fault
 use Rattle.pf_session.proofs.{Pausing.{part-answered, part-begun, part-left, part-more, part-waited, read-failed}, line_engine.engine.go_on.Goals.{in-Ok+else-n-eq0, in-Err+else-ne}}

@@ -1,5 +1,4 @@
-use Rattle.std.proofs.{Common.{◌≡◌, ℕ, ◌+◌, ◌++◌, List, append-nil, refl, take, drop, subst, arith}, lemmas.Result.err_from_is_err_and, lemmas.List.{length-take, take_all, take_more_set}}
-use Rattle.pf_session.specs.{LineEngine.Chains.Chain, LineEngine.Pieces.SessionSoFar}
+use Rattle.std.proofs.{Common.{◌≡◌, ℕ, ◌+◌, append-nil, refl, take, drop, arith}, lemmas.Result.err_from_is_err_and, lemmas.List.{length-take, take_all, take_more_set}}
 use Rattle.pf_session.proofs.{AnsweredLines.{failed-more, piece-on, piece-all, kept-more, kept-full, byte-taken, line-taken, line-failed, wait-begun, wait-ended, wait-failed}, line_engine.pieces.answer_piece.Goals.{then-byte-eq10+in_ok-take_line+else-is_due, else-byte-eq10+then-len-lt-LOOKED_AT, else-byte-eq10+else-len-lt-LOOKED_AT}}
 use Rattle.pf_session.proofs.line_engine.pieces.answer_piece.Goals as goal
 
