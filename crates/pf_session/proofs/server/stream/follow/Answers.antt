@@ -1,6 +1,6 @@
-use Rattle.std.proofs.Common.{ℕ, take, arith, length-take, rules}
+use Rattle.std.proofs.Common.{Err, Ok, ℕ, take, arith, length-take, rules}
 use Rattle.std.specs.Io.KnownBytes.{Consumes, IsAtEnd}
-use Rattle.pf_session.proofs.{Streaming.{nothing-yet, flushed-so_far, interrupted-so_far, flush-ends, on-so_far, over-ends, err-ends, end-ends, read-ends}, server.stream.follow.Goals.{in-Ok+else-n-eq0+in-Ok-On, in-Err+else-ne}}
+use Rattle.pf_session.proofs.{Streaming.{nothing-yet, flushed-so_far, interrupted-so_far, flush-ends, on-so_far, over-ends, err-ends, end-ends}, server.stream.follow.Goals.{in-Ok+else-n-eq0+in-Ok-On, in-Err+else-ne}}
 use Rattle.pf_session.proofs.server.stream.follow.Goals as goal
 
 pub loop-init : goal.loop-init
@@ -20,7 +20,7 @@ returns-in-Ok-tell_end-clause-part g c = λ goes.
     let end : IsAtEnd (g.R.Read.remaining c.read.new.self) = search rules in
     let read : Consumes (g.R.Read.remaining c.loop.reader) (g.R.Read.remaining c.read.new.self) (take 0 c.read.new.buf) = rw c.if-n-eq0.true at c.in-Ok.ensures.bytes.0 in
     end-ends base setting (flushed-so_far base setting (c.loop.invariant goes) (g.O.Write.contents c.flush.new.self) c.flush.ensures.bytes)
-    c.tell_end.result (g.R.Read.remaining c.read.new.self) (g.O.Write.contents c.tell_end.new.writer) read end c.tell_end.ensures
+    (Ok tt) (g.R.Read.remaining c.read.new.self) (g.O.Write.contents c.tell_end.new.writer) read end c.in-Ok-tell_end.ensures
 
 pub returns-in-Err-tell_end-clause-part : goal.returns-in-Err-tell_end-clause-part
 returns-in-Err-tell_end-clause-part g c = λ goes.
@@ -29,7 +29,7 @@ returns-in-Err-tell_end-clause-part g c = λ goes.
     let end : IsAtEnd (g.R.Read.remaining c.read.new.self) = search rules in
     let read : Consumes (g.R.Read.remaining c.loop.reader) (g.R.Read.remaining c.read.new.self) (take 0 c.read.new.buf) = rw c.if-n-eq0.true at c.in-Ok.ensures.bytes.0 in
     end-ends base setting (flushed-so_far base setting (c.loop.invariant goes) (g.O.Write.contents c.flush.new.self) c.flush.ensures.bytes)
-    c.tell_end.result (g.R.Read.remaining c.read.new.self) (g.O.Write.contents c.tell_end.new.writer) read end c.tell_end.ensures
+    (Err c.in-Err-tell_end.fault) (g.R.Read.remaining c.read.new.self) (g.O.Write.contents c.tell_end.new.writer) read end c.in-Err-tell_end.ensures
 
 pub returns-in-Ok-Over-clause-part : goal.returns-in-Ok-Over-clause-part
 returns-in-Ok-Over-clause-part g c = λ goes.
