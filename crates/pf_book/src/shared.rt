@@ -69,9 +69,17 @@ impl<D: Disk + Drop, J: Chapter, S: Publisher<J> + Drop> Locked<D, J, S> {
         answers
     }
 
-    // One group for several callers, each of which may have handed in a receipt.
+    // One group for several callers, each of which may have handed in a receipt. At each moment of it an image of the device holds what
+    // some crash within it leaves of the opening.
     fn group_for_all(&mut self, commands: &[Command]) -> Result<Vec<(Reply, Receipt<J>)>, Refusal>
-        ensures { (last : Option PlainReceipt) → TakesUp last (world_book self.old) → IsGroupAnswered J.base J.setting commands.now (told result) last }
+        ensures answered { (last : Option PlainReceipt) → TakesUp last (world_book self.old)
+            → IsGroupAnswered J.base J.setting commands.now (told result) last }
+        ensures leads { (h : CurrentOpening) → IsAt h (world_book self.old) → LeadsGroup h (world_book self.new) commands.now (replies_of (told result))
+            (upshot self.new.shown (nat_lt (D.fault_count self.old.disk) (D.fault_count self.new.disk))) }
+        ensures any_moment { (h : CurrentOpening) → IsAt h (world_book self.old)
+            → EachMoment D.moment D.left_since self.old.disk self.new.disk (HoldsLeft h (grouping commands.now)) }
+        ensures openable { StaysOpenable D.moment D.left_since self.old self.new }
+        ensures stays { StaysUnlessAnyKept (replies_of (told result)) self.old self.new }
     {
         let answers = self.book.answer_each(commands);
         self.book.between_calls();

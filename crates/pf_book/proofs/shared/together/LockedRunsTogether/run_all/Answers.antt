@@ -15,21 +15,21 @@ pub returns-in-Ok-group_for_all-clause-answered : goal.returns-in-Ok-group_for_a
 returns-in-Ok-group_for_all-clause-answered g c =
     let now = (goal.at.returns-in-Ok-group_for_all-clause-answered g c).After-group_for_all in
     all-answered g.J.Naming.base g.J.Chapter.setting (world_book c.args.self.now) c.args.asked.items c.deref-2.result.now c.part.new.lasts.items (c.deref-2.ensures.value ∙ c.part.ensures.commands) c.part.ensures.lasts (taken g now)
-    c.in-Ok-group_for_all.answers.items (λ last takes. c.in-Ok-group_for_all.ensures last (subst (λ (b : PlainBook g.row.D.Denot). TakesUp last (world_book b)) (sym c.look_at_each.ensures.same) takes))
+    c.in-Ok-group_for_all.answers.items (λ last takes. c.in-Ok-group_for_all.ensures.answered last (subst (λ (b : PlainBook g.row.D.Denot). TakesUp last (world_book b)) (sym c.look_at_each.ensures.same) takes))
     c.tell_answers.new.told.items c.tell_answers.ensures
 
 pub returns-in-Ok-group_for_all-clause-each : goal.returns-in-Ok-group_for_all-clause-each
 returns-in-Ok-group_for_all-clause-each g c =
     let now = (goal.at.returns-in-Ok-group_for_all-clause-each g c).After-group_for_all in
     let each = one-each g.J.Naming.base g.J.Chapter.setting (world_book c.args.self.now) c.args.asked.items c.deref-2.result.now c.part.new.lasts.items (c.deref-2.ensures.value ∙ c.part.ensures.commands) c.part.ensures.lasts (taken g now)
-    c.in-Ok-group_for_all.answers.items (λ last takes. c.in-Ok-group_for_all.ensures last (subst (λ (b : PlainBook g.row.D.Denot). TakesUp last (world_book b)) (sym c.look_at_each.ensures.same) takes)) in
+    c.in-Ok-group_for_all.answers.items (λ last takes. c.in-Ok-group_for_all.ensures.answered last (subst (λ (b : PlainBook g.row.D.Denot). TakesUp last (world_book b)) (sym c.look_at_each.ensures.same) takes)) in
     ap length c.tell_answers.ensures ∙ length-map c.in-Ok-group_for_all.answers.items (λ (x : Answered). Ok x) ∙ each
 
 pub tell_answers-requires-clause-room : goal.tell_answers-requires-clause-room
 tell_answers-requires-clause-room g c =
     let now = (goal.at.tell_answers-requires-clause-room g c).After-group_for_all in
     let each = one-each g.J.Naming.base g.J.Chapter.setting (world_book c.args.self.now) c.args.asked.items c.deref-2.result.now c.part.new.lasts.items (c.deref-2.ensures.value ∙ c.part.ensures.commands) c.part.ensures.lasts (taken g now)
-    c.in-Ok-group_for_all.answers.items (λ last takes. c.in-Ok-group_for_all.ensures last (subst (λ (b : PlainBook g.row.D.Denot). TakesUp last (world_book b)) (sym c.look_at_each.ensures.same) takes)) in
+    c.in-Ok-group_for_all.answers.items (λ last takes. c.in-Ok-group_for_all.ensures.answered last (subst (λ (b : PlainBook g.row.D.Denot). TakesUp last (world_book b)) (sym c.look_at_each.ensures.same) takes)) in
     let room = c.in-Ok.ensures.told.1 in
     let many = c.len.ensures in
     grind (arith, common_steps, each, room, many)
@@ -37,7 +37,7 @@ tell_answers-requires-clause-room g c =
 pub returns-in-Err-Fault-clause-answered : goal.returns-in-Err-Fault-clause-answered
 returns-in-Err-Fault-clause-answered g c =
     let now = (goal.at.returns-in-Err-Fault-clause-answered g c).After-group_for_all in
-    let failed : (last : Option PlainReceipt) → TakesUp last (world_book c.look_at_each.new.self) → IsGroupAnswered g.J.Naming.base g.J.Chapter.setting c.deref-2.result.now (Err Fault) last = rw c.in-Err-Fault.field-0-is at c.in-Err-Fault.ensures in
+    let failed : (last : Option PlainReceipt) → TakesUp last (world_book c.look_at_each.new.self) → IsGroupAnswered g.J.Naming.base g.J.Chapter.setting c.deref-2.result.now (Err Fault) last = rw c.in-Err-Fault.field-0-is at c.in-Err-Fault.ensures.answered in
     all-failed g.J.Naming.base g.J.Chapter.setting (world_book c.args.self.now) c.args.asked.items c.deref-2.result.now c.part.new.lasts.items (c.deref-2.ensures.value ∙ c.part.ensures.commands) c.part.ensures.lasts (taken g now)
     (λ last takes. failed last (subst (λ (b : PlainBook g.row.D.Denot). TakesUp last (world_book b)) (sym c.look_at_each.ensures.same) takes))
     c.give_back.new.told.items c.give_back.ensures
