@@ -21,4 +21,4 @@ pub mod JoinedCalls
 pub mod Asking
 pub mod Pausing
 pub mod GoingOn
-pub mod Renewing
+pub mod Renewed

@@ -1,7 +1,7 @@
 use Rattle.std.proofs.{Common.{◌≡◌, ◌∙◌, List, arith, ap, length, refl, subst, take}, lemmas.List.take_all, lemmas.List.Elements.{All-more, All-nil}}
 use Rattle.std.specs.Prelude.{All}
 use Rattle.pf_book.specs.Books.{PlainBook, world_book}
-use Rattle.pf_session.proofs.{Renewing.{IsCovered, gives, goes-on}}
+use Rattle.pf_session.proofs.{Renewed.{IsCovered, gives, goes-on}}
 use Rattle.pf_session.proofs.renewing.renew.Goals as goal
 
 pub loop-seer-init : goal.loop-seer-init

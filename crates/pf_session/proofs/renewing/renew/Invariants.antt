@@ -1,7 +1,7 @@
 use Rattle.std.proofs.Common.{◌≡◌, take}
 use Rattle.std.specs.Prelude.{All}
 use Rattle.pf_book.specs.Books.{world_book}
-use Rattle.pf_session.proofs.Renewing.{IsCovered}
+use Rattle.pf_session.proofs.Renewed.{IsCovered}
 use Rattle.pf_session.proofs.renewing.renew.Given as goal
 
 abbrev pub invariant-loop-seer : goal.invariant-loop-seer
