@@ -9,11 +9,17 @@ loop-seer-init g c = record { same = refl; covered = All-nil (IsCovered (world_b
 
 pub loop-seer-preserved : goal.loop-seer-preserved
 loop-seer-preserved g c =
-    let covers = rw c.loop-seer.invariant.same at c.covers.ensures in
+    let same = c.loop-seer.invariant.same in
+    let covers : IsCovered (world_book c.args.book) c.seer-item.result = record {
+      seen = rw same at c.covers.ensures.seen;
+      seen_acked = rw same at c.covers.ensures.seen_acked;
+      learnt = rw same at c.covers.ensures.learnt;
+      learnt_acked = rw same at c.covers.ensures.learnt_acked;
+    } in
     record {
       same = c.covers.ensures.same ∙ c.loop-seer.invariant.same;
       covered = All-more (IsCovered (world_book c.args.book)) c.args.seers.now c.loop-seer.seer-index c.seer-item.result c.loop-seer-test.true c.loop-seer.invariant.covered
-          (rw (← c.seer-item.is) (record { seen = covers.seen; seen_acked = covers.seen_acked; learnt = covers.learnt; learnt_acked = covers.learnt_acked }));
+          (rw (← c.seer-item.is) covers);
     }
 
 pub returns-clause-renews : goal.returns-clause-renews
