@@ -26,11 +26,11 @@ pub returns-clause-renews : goal.returns-clause-renews
 returns-clause-renews g c =
     let same = c.loop-seer.invariant.same in
     let covered = rw (take_all c.loop-seer.seer-index c.args.seers.now (omega arith)) at c.loop-seer.invariant.covered in
-    gives g.D.Disk.seen g.D.Disk.unsynced c.args.book c.into_disk.result (c.into_disk.ensures ∙ ap (λ (b : PlainBook g.row.D.Denot). b.disk) same) (rw same at c.between_calls.ensures.images)
-    c.open.result c.args.seers.now covered c.open.ensures.opened
+    gives g.D.Disk.seen g.D.Disk.unsynced c.args.book c.into_disk-2.result (c.into_disk-2.ensures ∙ ap (λ (b : PlainBook g.row.D.Denot). b.disk) same) (rw same at c.between_calls.ensures.images)
+    c.«open».result c.args.seers.now covered c.«open».ensures.opened
 
 pub returns-clause-worlds : goal.returns-clause-worlds
 returns-clause-worlds g c =
     let same = c.loop-seer.invariant.same in
-    goes-on g.D.Disk.seen g.D.Disk.unsynced c.args.book c.into_disk.result (c.into_disk.ensures ∙ ap (λ (b : PlainBook g.row.D.Denot). b.disk) same) (rw same at c.between_calls.ensures.images)
-    c.open.result c.open.ensures.opened
+    goes-on g.D.Disk.seen g.D.Disk.unsynced c.args.book c.into_disk-2.result (c.into_disk-2.ensures ∙ ap (λ (b : PlainBook g.row.D.Denot). b.disk) same) (rw same at c.between_calls.ensures.images)
+    c.«open».result c.«open».ensures.opened
