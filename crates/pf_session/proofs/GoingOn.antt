@@ -1,11 +1,11 @@
 -- A session, or a peer's stream, over several openings.
-use Rattle.std.proofs.{Common.{◌≡◌, ◌∙◌, ℕ, List, [], ◌∷◌, ◌++◌, Option, Some, None, Result, Ok, Err, inl, inr, refl, sym, ap, subst, append_assoc}, KnownBytes.{Appends-trans, Consumes-trans}, lemmas.Grind.flat_map-append, lemmas.List.Elements.All-append}
+use Rattle.std.proofs.{Common.{◌≡◌, ◌∙◌, ℕ, List, [], ◌∷◌, ◌++◌, Option, Result, Ok, Err, inl, inr, refl, sym, ap, subst, append_assoc}, KnownBytes.{Appends-trans, Consumes-trans}, lemmas.Grind.flat_map-append, lemmas.List.Elements.All-append}
 use Rattle.std.specs.{Prelude.{All, flat_map}}
 use Rattle.pf_core.specs.{Durable.Changes.PlainDurable, Worlds.Setting}
 use Rattle.pf_book.specs.Receipts.{PlainReceipt}
 use Rattle.pf_session.specs.declared.{line_engine.fault.EngineFault.EngineFault, line_engine.left_off.LeftOff.LeftOff, line_engine.left_off.LeftOff.TheVariants.{Ended, Paused}}
 use Rattle.pf_session.specs.declared.line_engine.fault.EngineFault.TheVariants as fault
-use Rattle.pf_session.specs.{Laws.GoingOn.{BeginsAlone, GoesOnElsewhere, IsWhole, StreamsBeginAlone, StreamsGoOnElsewhere}, LineEngine.{Intakes.{AnsweredSoFar, EndsWith, HasBegun, IsPart, LeavesOff, PlainIntake}, Lines.{IsCut, IsLine, ended, last_line, newline}, Sessions.{Answered, CutOff, IsSession, SessionEnds}}, Server.{Parts.{Follows, Goes, IsStreamPart, Resumes, TakesAlong, TakesPartsAlong, Within, within}, Sittings.Sitting, Streams.{ArePieces, IsStreamFrom, Part, Piece, StreamEnds, StreamSoFar, Takes, parts_in}}}
+use Rattle.pf_session.specs.{Laws.GoingOn.{BeginsAlone, GoesOnElsewhere, IsWhole, StreamsBeginAlone, StreamsGoOnElsewhere}, LineEngine.{Intakes.{EndsWith, LeavesOff, PlainIntake}, Lines.{IsCut, IsLine, ended, last_line, newline}, Sessions.{Answered, CutOff, SessionEnds}}, Server.{Parts.{Follows, IsStreamPart, Resumes, TakesAlong, TakesPartsAlong, Within, within}, Sittings.Sitting, Streams.{ArePieces, IsStreamFrom, Piece, StreamEnds, StreamSoFar, Takes, parts_in}}}
 use Rattle.pf_session.proofs.Moving.{answered-as, cut_off-as, part-as}
 
 -- ---- whatever is answered

@@ -1,5 +1,4 @@
-use Rattle.std.proofs.{Common.{◌≡◌, ◌∙◌, List, arith, ap, length, refl, subst, take}, lemmas.List.take_all, lemmas.List.Elements.{All-more, All-nil}}
-use Rattle.std.specs.Prelude.{All}
+use Rattle.std.proofs.{Common.{◌∙◌, arith, ap, refl}, lemmas.List.take_all, lemmas.List.Elements.{All-more, All-nil}}
 use Rattle.pf_book.specs.Books.{PlainBook, world_book}
 use Rattle.pf_session.proofs.{Renewed.{IsCovered, gives, goes-on}}
 use Rattle.pf_session.proofs.renewing.renew.Goals as goal
