@@ -6,10 +6,14 @@
  *
  * What C has to keep to, since no proof looks at C:
  * - Pointers are not null, not even those of empty arrays, aligned as their types want, and point to live values. Arrays have as many
- *   elements as is said. No two arguments of a call overlap, one of which is written to, and nobody else writes to any during the call.
- * - A struct wirdalf is WIRDALF_NONE, or was written by wirdalf_read, wirdalf_lines or wirdalf_clone, which returned WIRDALF_OK. Only what
- *   these three write to may hold nothing: wirdalf_free isn't called with WIRDALF_NONE, unlike free(3) with a null pointer. One that holds
- *   something is freed before it is written to again, or its memory is lost.
+ *   elements as is said. If an argument is written to, no other argument of the call overlaps it, and nobody else writes to any during
+ *   the call.
+ * - A struct wirdalf is WIRDALF_NONE, or was written by wirdalf_read, wirdalf_lines or wirdalf_clone, which returned WIRDALF_OK. WIRDALF_NONE
+ *   may be given only to wirdalf_read, wirdalf_lines and, as the copy, to wirdalf_clone. No other function takes it, not even wirdalf_free,
+ *   though free(3) takes a null pointer. One that holds something is freed before it is written to again, or its memory is lost.
+ * - pfd may write to the file that it serves while you read it, and then the bytes are of two times. So look at the file's time of change,
+ *   st_mtim, before and after you read. Read again if the two differ, or if that time is less than three seconds ago: such times go on in
+ *   steps.
  * - A struct wirdalf is in one call at a time, whichever: each call may write to what the struct has of its own, so none takes a const one.
  *   It isn't copied but moved: after it was assigned or handed to another thread, the old one isn't used. Each thread that judges has its
  *   own, made by wirdalf_clone of one that no other call has. It is handed over by a lock, by the start or the join of a thread, or by a
@@ -66,8 +70,8 @@ enum {
     WIRDALF_BY_DEFAULT = 3
 };
 
-/* A packet. It is one if the way, the family and the protocol are, the name is one as pfd reads them, and there are no ports but 0 unless
- * the protocol is TCP or UDP. */
+/* A packet. It is one if way, family and protocol have values that stand below, the interface is a name that pfd takes, and the ports are 0
+ * unless the protocol is TCP or UDP. */
 struct wirdalf_packet {
     uint8_t way;               /* WIRDALF_IN or WIRDALF_OUT */
     uint8_t family;            /* WIRDALF_V4 or WIRDALF_V6 */
@@ -107,13 +111,13 @@ struct wirdalf_fault {
     char reply[64];       /* what pfd replies to it, as "err word 4", with a zero after it */
 };
 
-/* What the bytes of a disk hold: a whole file that pfd formatted or serves. They may be any bytes, but don't change during the call: a file
- * that is served is read by read(2), not mapped. At WIRDALF_CORRUPT the place is written, from 0. Unless it returns WIRDALF_OK, the
+/* What the bytes of a disk hold: a whole file that pfd formatted or serves. Any bytes will do, but nothing may change them during the
+ * call: read a file that is served by read(2), and don't map it. At WIRDALF_CORRUPT the place is written, from 0. Unless it returns WIRDALF_OK, the
  * configuration is as it was. */
 uint32_t wirdalf_read(const uint8_t *bytes, size_t length, struct wirdalf *config, uint64_t *place);
 
 /* What lines make of nothing, each done in turn as pfd run does it: begin, add, define, extend, commit and tset, comments and empty
- * lines. They may be any bytes. The first line to which pfd wouldn't reply ok or applied is WIRDALF_REFUSED, and another command is
+ * lines. Any bytes will do. The first line to which pfd wouldn't reply ok or applied is WIRDALF_REFUSED, and another command is
  * WIRDALF_UNFIT: then nothing is made, the configuration is as it was, and the fault is written. At WIRDALF_MEMORY the fault has no
  * meaning. */
 uint32_t wirdalf_lines(const uint8_t *text, size_t length, struct wirdalf *config, struct wirdalf_fault *fault);
@@ -124,8 +128,8 @@ uint32_t wirdalf_clone(struct wirdalf *config, struct wirdalf *copy);
 /* Lets it go. The last of those that share something frees it. */
 void wirdalf_free(struct wirdalf config);
 
-/* What happens to a packet: a state of its flow passes it, else the rules decide. It wants 512 KiB of the stack: where anchor rules lead to
- * rulesets again and again a verdict takes 440 KiB, and else a few. */
+/* What happens to a packet: a state of its flow passes it, else the rules decide. It needs 512 KiB of free stack: most verdicts take a few
+ * KiB of it, and where anchor rules lead to very many rules one takes 440. */
 void wirdalf_judge(struct wirdalf *config, const struct wirdalf_packet *packet, struct wirdalf_verdict *verdict);
 
 /* The same for each of an array, and how many were judged: as many as there are packets and room for verdicts. */

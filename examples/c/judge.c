@@ -5,6 +5,8 @@
  *     in em0 6 10.0.0.1 1234 192.0.2.1 80
  *
  * judge -l FILE: the same by a file of lines as pfd run takes them: begin, add, define, extend, commit and tset.
+ *
+ * No pfd may write to the file meanwhile: path.c shows how to read one that is served.
  */
 #include <arpa/inet.h>
 #include <inttypes.h>

@@ -1,3 +1,5 @@
 pub mod Steps
 pub mod Texts
+pub mod Differing
+pub mod Attempts
 pub mod Loaded

@@ -1,5 +1,5 @@
 -- What the offers of a load leave of each ruleset, and its commit of all.
-use Rattle.std.proofs.{Common.{◌≡◌, T, ℕ, zero, suc, ◌+◌, ◌-◌, ◌==◌, ◌<◌, ◌≤◌, ◌&&◌, ◌||◌, Bool, true, false, cond, List, [], ◌∷◌, ◌++◌, map, take, drop, fold, length, Option, Some, None, Ok, refl, sym, ap, ◌∙◌, subst, arith, append_assoc, append-nil, eq-eqb, take-append-drop, length-drop}, lemmas.Bool.{or_parts, or_left, or_right}, lemmas.List.Sums.fold-append, lemmas.List.Folds.list_any-append, lemmas.Grind.flat_map-append, lemmas.Cmp.{nat_list_cmp_total, eq_by_cmp_equiv}}
+use Rattle.std.proofs.{Common.{◌≡◌, T, ℕ, zero, suc, ◌-◌, ◌==◌, ◌≤◌, ◌&&◌, ◌||◌, Bool, true, false, cond, List, [], ◌∷◌, ◌++◌, map, take, drop, fold, length, Option, Some, None, Ok, refl, sym, ap, ◌∙◌, subst, arith, append_assoc, append-nil, eq-eqb, take-append-drop, length-drop}, lemmas.Bool.{or_parts, or_left, or_right}, lemmas.List.Sums.fold-append, lemmas.List.Folds.list_any-append, lemmas.Grind.flat_map-append, lemmas.Cmp.{nat_list_cmp_total, eq_by_cmp_equiv}}
 use Rattle.std.specs.{Prelude.{Contains, unwrap_or, option_map}, FinMap.{find, is_sorted}, FinMap.Entries.find-put, List.{flat_map, list_any}, Option.option_map_or, Ordering.is_eq}
 use Rattle.std.specs.declared.cmp.Ordering.{Ordering, TheVariants.{Less, Equal, Greater}}
 use Rattle.pf_addr.specs.{Path.Names.{name_order, same_name as same_table}, Path.Paths.same_path, Refusing.{refused_at, both_passed}}
@@ -11,7 +11,7 @@ use Rattle.pf_ticket.specs.declared.{entry.RulesetTicket.RulesetTicket, name.Rul
 use Rattle.pf_ticket.specs.{NamedTables.PlainDefinedTable, Names.{filter_at, table_ruleset_at, same_name, same_ticket, is_ticket, is_named, names_of, IsDistinct}, Laws.Names.{name_is, names_alike, paths_alike}, Tickets.{Loaded, with_rule, with_table, with_entries, rules_in, tables_in, PlainInactive, offer_with, offer_at, PlainTickets, ticket_in, loaded_in, loaded, valid_ticket, is_valid}, Mentions.{Mention, added as adding, defined, extended, named_in, moved, after, gives}, Replies.{bad_count, twice_in, list_check, commit_check, busy_in}}
 use Rattle.pf_ticket.specs.declared.refusal.TicketRefusal.TheVariants.{Busy}
 use Rattle.pf_ticket.proofs.{Moves.{loaded_by, made_by, reads, starts_with_nothing}, NamedTables.{order_is, put_sorted}, Twice.otherwise_once}
-use Rattle.pf_core.specs.declared.command.{Transaction.Transaction, Transaction.TheVariants.{Add, Define, Extend}}
+use Rattle.pf_core.specs.declared.command.{Transaction.Transaction, Transaction.TheVariants.{Add, Extend}}
 use Rattle.pf_core.specs.{Commands.transacted, Durable.Changes.{PlainDurable, PlainChange, entries_at, applied}, Laws.{Commands.AreSwitched, Wanted.wants_commit}}
 use Rattle.pf_core.proofs.Switching.{switches_all, not-twice}
 use Rattle.pf_conf.specs.declared.{found.Conf.Conf, found.Ruleset.Ruleset, found.FilledTable.FilledTable}
@@ -132,9 +132,11 @@ module _ (given : RulesetName → Ticket) (names : List RulesetName) where
     by_rules : (q : RulesetName) (b : Bool) → same_name n q ≡ b → (cond b l (loaded t q)).rules ≡ (loaded t q).rules ++ cond b rules []
     by_rules q true same = ruled ∙ ap (λ (x : RulesetName). (loaded t x).rules ++ rules) (name_is n q same)
     by_rules q false same = sym (append-nil (loaded t q).rules)
+
     by_tables : (q : RulesetName) (name : Word) (b : Bool) → same_name n q ≡ b → find name_order name (cond b l (loaded t q)).tables ≡ cond b (E name (find name_order name (loaded t q).tables)) (find name_order name (loaded t q).tables)
     by_tables q name true same = filled name ∙ ap (λ (x : RulesetName). E name (find name_order name (loaded t x).tables)) (name_is n q same)
     by_tables q name false same = refl
+
     by_order : (q : RulesetName) → T (is_sorted name_order (loaded t q).tables) → (b : Bool) → same_name n q ≡ b → T (is_sorted name_order (cond b l (loaded t q)).tables)
     by_order q before true same = sorted (subst (λ (x : RulesetName). T (is_sorted name_order (loaded t x).tables)) (sym (name_is n q same)) before)
     by_order q before false same = before
@@ -324,9 +326,10 @@ module _ (given : RulesetName → Ticket) (names : List RulesetName) where
 
   named_all : {X : Type 0} → (f : X → RulesetName) (xs : List X) → ((n : RulesetName) → is_named (map f xs) n ≡ true → is_named names n ≡ true) → AreNamed f xs
   named_all f [] within = tt
-  named_all f (x ∷ xs) within =
-      (within (f x) (or_left (same_name (f x) (f x)) (is_named (map f xs) (f x)) (names_alike.refl (f x))),
-      named_all f xs (λ n is. within n (or_right (same_name (f x) n) (is_named (map f xs) n) is)))
+  named_all f (x ∷ xs) within = (
+    within (f x) (or_left (same_name (f x) (f x)) (is_named (map f xs) (f x)) (names_alike.refl (f x))),
+    named_all f xs (λ n is. within n (or_right (same_name (f x) n) (is_named (map f xs) n) is)),
+  )
 
   -- the paths of tables are among those that are named
   paths_named : (fs : List FilledTable) (paths : List Word) → ((p : Word) → is_among p (fold with_path paths fs) ≡ true → is_named names (table_ruleset_at p) ≡ true) → AreNamed (λ (f : FilledTable). table_ruleset_at f.path) fs

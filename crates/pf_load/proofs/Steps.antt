@@ -1,10 +1,9 @@
 -- Lists of which one item after another is taken.
-use Rattle.std.proofs.Common.{◌≡◌, ℕ, suc, ◌+◌, ◌-◌, ◌<◌, ◌≤◌, List, [], ◌∷◌, ◌++◌, length, get_or, take, drop, map, fold, Option, Some, None, refl, sym, ap, ◌∙◌, subst, arith, add-one, append_assoc}
-use Rattle.std.proofs.{lemmas.List.{take_more, drop_all, map-append}, Math.Seq.drop-cons}
+use Rattle.std.proofs.Common.{◌≡◌, ℕ, suc, ◌+◌, ◌-◌, ◌<◌, List, [], ◌∷◌, ◌++◌, length, get_or, take, drop, map, sym, ap, ◌∙◌, arith, add-one}
+use Rattle.std.proofs.{lemmas.List.{take_more, map-append}, Math.Seq.drop-cons}
 use Rattle.std.proofs.lemmas.Grind.{fold-append}
 use Rattle.pf_form.specs.Form.Words.{Word}
 use Rattle.pf_conf.specs.declared.found.FilledTable.{FilledTable}
-use Rattle.pf_ticket.specs.declared.name.RulesetName.{RulesetName}
 use Rattle.pf_load.specs.declared.naming.Begun.{Begun}
 use Rattle.pf_load.specs.{Naming.{with_path, table_paths}, Loading.name_of}
 

@@ -1,11 +1,12 @@
 -- Texts that are written one after another.
-use Rattle.std.proofs.Common.{◌≡◌, ℕ, zero, suc, ◌+◌, ◌-◌, ◌<◌, ◌≤◌, List, [], ◌∷◌, ◌++◌, length, take, drop, get_or, Option, Some, Result, Ok, refl, sym, ap, ◌∙◌, subst, arith, append_assoc, append-nil, length-drop}
+use Rattle.std.proofs.Common.{◌≡◌, ℕ, zero, suc, ◌+◌, ◌-◌, ◌<◌, ◌≤◌, List, [], ◌∷◌, ◌++◌, length, take, drop, get_or, Option, Some, Result, Ok, Err, refl, sym, ap, ◌∙◌, subst, arith, append_assoc, append-nil, length-drop, take-append-drop}
 use Rattle.std.proofs.{lemmas.List.take_all, lemmas.Grind.flat_map-append}
-use Rattle.std.specs.{List.flat_map, Io.KnownBytes.{Appends, Keeps}, declared.io.Error.Error}
-use Rattle.pf_addr.specs.Writing.{Wrote, Writes, WritesFront, WritesFront-longer, WritesFront-then, Continues, Continues-then, behind_nothing, Appends-none, Appends-then, Appends-kept}
+use Rattle.std.specs.{List.flat_map, Io.KnownBytes.{Appends, Consumes}, Option.option_to_list, Result.IsErrAnd, declared.io.Error.Error}
+use Rattle.pf_addr.specs.Writing.{Wrote, Writes, WritesFront, WritesFront-longer, WritesFront-then, Continues, Continues-then, behind_nothing, Appends-none, Appends-then}
 use Rattle.pf_form.specs.Form.Words.{Word}
 use Rattle.pf_table.specs.Entries.{PlainEntry}
 use Rattle.pf_load.specs.declared.lines.TheConstants.{PART}
+use Rattle.pf_load.proofs.Steps.{take_item, drop_item}
 use Rattle.pf_load.specs.Lines.{parts_within, parts, extend_line, extend_lines}
 
 -- with nothing to write, what was written stays
@@ -15,6 +16,12 @@ still q old = record { behind = λ at front w. subst (λ (t : List ℕ). Wrote q
 -- a text for each of those before this one
 abbrev pub Before : {X : Type 0} → (X → List ℕ) → Result (Unit {0}) Error → Option (List ℕ) → Result (Unit {0}) Error → Option (List ℕ) → List X → ℕ → Type 0
 Before text p old q new xs i = Continues p old q new (flat_map text (take i xs))
+
+pub one_more : {X : Type 0} (text : X → List ℕ) (p q r : Result (Unit {0}) Error) (old mid new : Option (List ℕ)) (xs : List X) (i : ℕ) (x : X) → i < length xs → x ≡ get_or xs i x → Before text p old q mid xs i → Continues q mid r new (text x) → Before text p old r new xs (i + 1)
+one_more {X} text p q r old mid new xs i x within here so_far next =
+    let more : flat_map text (take (i + 1) xs) ≡ flat_map text (take i xs) ++ text x =
+    ap (flat_map text) (take_item xs i x within here) ∙ flat_map-append text (take i xs) (x ∷ []) ∙ ap (λ (l : List ℕ). flat_map text (take i xs) ++ l) (append-nil (text x)) in
+    subst (λ (t : List ℕ). Continues p old r new t) (sym more) (Continues-then so_far next)
 
 -- what is written to memory is there behind what was there
 pub grown : (r : Result (Unit {0}) Error) (done : Unit {0}) (old new text : List ℕ) → Continues {A = Unit {0}} (Ok tt) (Some old) r (Some new) text → r ≡ Ok done → new ≡ old ++ text
@@ -85,17 +92,6 @@ all_parts table p q old mid all left none so_far =
 
 -- ---- what was sent
 
--- some text was sent
-pub record Sent (old new : Option (List ℕ)) : Type 0 where
-  pub text : List ℕ
-  pub sent : Appends old new text
-
-pub sent_none : (old : Option (List ℕ)) → Sent old old
-sent_none old = record { text = []; sent = Appends-none old }
-
-pub sent_then : (old mid new : Option (List ℕ)) → Sent old mid → Sent mid new → Sent old new
-sent_then old mid new a b = record { text = a.text ++ b.text; sent = Appends-then old mid new a.text b.text a.sent b.sent }
-
 -- of some lines those before these were sent
 pub record SentSome (old mid : Option (List ℕ)) (all left : List ℕ) : Type 0 where
   pub text : List ℕ
@@ -125,3 +121,57 @@ pub whole_front : (old new : Option (List ℕ)) (text : List ℕ) → Appends ol
 whole_front old new text sent = (length text, subst (Appends old new) (sym (take-all-of text)) sent) where
   take-all-of : (xs : List ℕ) → take (length xs) xs ≡ xs
   take-all-of xs = take_all (length xs) xs (omega arith)
+
+-- of a text nothing was sent yet
+pub no_front : (old : Option (List ℕ)) (text : List ℕ) → WritesFront old old text
+no_front old text = (0, Appends-none old)
+
+-- whatever came of it, a front of a text was sent
+pub some_front : {A E : Type 0} (r : Result A E) (old new : Option (List ℕ)) (text : List ℕ) → Writes r old new text → WritesFront old new text
+some_front (Ok u) old new text sent = whole_front old new text sent
+some_front (Err e) old new text front = front
+
+-- a text that was sent whole, whatever comes of it
+pub sent_whole : {A E : Type 0} (r : Result A E) (old new : Option (List ℕ)) (text : List ℕ) → Appends old new text → Writes r old new text
+sent_whole (Ok u) old new text sent = sent
+sent_whole (Err e) old new text sent = whole_front old new text sent
+
+-- a text of which a front was sent, with a fault
+pub sent_front : {A E : Type 0} (r : Result A E) (why : E → Type 0) (old new : Option (List ℕ)) (text : List ℕ) → IsErrAnd r why → WritesFront old new text → Writes r old new text
+sent_front (Ok u) why old new text failed front = absurd failed
+sent_front (Err e) why old new text failed front = front
+
+-- of what is left a front of the next lines was sent
+pub stopped_within : (old mid new : Option (List ℕ)) (all left some rest : List ℕ) → some ++ rest ≡ left → SentSome old mid all left → WritesFront mid new some → WritesFront old new all
+stopped_within old mid new all left some rest cut so_far front =
+    stopped old mid new all left so_far (subst (WritesFront mid new) cut (WritesFront-longer mid new some rest front))
+
+pub cut_in_two : (left some rest : List ℕ) (n : ℕ) → some ≡ take n left → rest ≡ drop n left → some ++ rest ≡ left
+cut_in_two left some rest n front back =
+    ap (λ (l : List ℕ). l ++ rest) front ∙ ap (λ (l : List ℕ). take n left ++ l) back ∙ take-append-drop n left
+
+-- ---- one text after another
+
+pub one_more_text : {X : Type 0} (text : X → List ℕ) (old mid new : Option (List ℕ)) (xs : List X) (i : ℕ) (x : X) → i < length xs → x ≡ get_or xs i x → Appends old mid (flat_map text (take i xs)) → Appends mid new (text x) → Appends old new (flat_map text (take (i + 1) xs))
+one_more_text {X} text old mid new xs i x within here so_far next =
+    let more : flat_map text (take (i + 1) xs) ≡ flat_map text (take i xs) ++ text x =
+    ap (flat_map text) (take_item xs i x within here) ∙ flat_map-append text (take i xs) (x ∷ []) ∙ ap (λ (l : List ℕ). flat_map text (take i xs) ++ l) (append-nil (text x)) in
+    subst (Appends old new) (sym more) (Appends-then old mid new (flat_map text (take i xs)) (text x) so_far next)
+
+-- of this text a front was sent
+pub stopped_at_text : {X : Type 0} (text : X → List ℕ) (old mid new : Option (List ℕ)) (xs : List X) (i : ℕ) (x : X) → i < length xs → x ≡ get_or xs i x → Appends old mid (flat_map text (take i xs)) → WritesFront mid new (text x) → WritesFront old new (flat_map text xs)
+stopped_at_text {X} text old mid new xs i x within here so_far front =
+    let rest : flat_map text (drop i xs) ≡ text x ++ flat_map text (drop (i + 1) xs) = ap (flat_map text) (drop_item xs i x within here) in
+    let all : flat_map text (take i xs) ++ (text x ++ flat_map text (drop (i + 1) xs)) ≡ flat_map text xs =
+    ap (λ (l : List ℕ). flat_map text (take i xs) ++ l) (sym rest) ∙ sym (flat_map-append text (take i xs) (drop i xs)) ∙ ap (flat_map text) (take-append-drop i xs) in
+    subst (WritesFront old new) all
+    (WritesFront-then old mid new (flat_map text (take i xs)) (text x ++ flat_map text (drop (i + 1) xs)) so_far (WritesFront-longer mid new (text x) (flat_map text (drop (i + 1) xs)) front))
+
+-- ---- what was read
+
+-- a line that was read into nothing, and its newline
+pub a_line_read : (old new : Option (List ℕ)) (before all line : List ℕ) (last : Option ℕ) → before ≡ [] → all ≡ line ++ option_to_list last → last ≡ Some 10 → Consumes old new (drop (length before) all) → Consumes old new (line ++ 10 ∷ [])
+a_line_read old new before all line last none parts is read =
+    let behind : drop (length before) all ≡ line ++ 10 ∷ [] =
+    ap (λ (l : List ℕ). drop (length l) all) none ∙ parts ∙ ap (λ (o : Option ℕ). line ++ option_to_list o) is in
+    subst (Consumes old new) behind read

@@ -5,8 +5,8 @@ use Rattle.pf_addr.specs.{Path.Paths.path_text, Writing.Continues}
 use Rattle.pf_form.specs.Form.Words.{Word}
 use Rattle.pf_table.specs.{Entries.PlainEntry, Edits.deletions}
 use Rattle.pf_table.specs.declared.answer.Deletion.{Deletion, TheVariants.{Deleted, Absent}}
-use Rattle.pf_conf.specs.declared.found.FilledTable.{FilledTable}
-use Rattle.pf_load.specs.Lines.{newline}
+use Rattle.pf_conf.specs.declared.{found.Conf.Conf, found.FilledTable.FilledTable, found.Ruleset.Ruleset}
+use Rattle.pf_load.specs.{Lines.newline, Naming.table_paths}
 
 -- each text on a line of its own, behind a mark
 abbrev pub marked : Word → List Word → Word
@@ -49,3 +49,18 @@ absent_by (d ∷ ds) (e ∷ es) = if_absent d e ++ absent_by ds es
 -- those of these entries that a delete from a table wouldn't find there
 abbrev pub absent_in : List PlainEntry → List PlainEntry → List PlainEntry
 absent_in rows es = absent_by (deletions rows es) es
+
+-- ---- what a server is asked: to show what is at a path (pfctl(8), -s and -a)
+
+abbrev pub question : Word → Word → Word
+question what path = what ++ path_text path ++ newline
+
+abbrev pub rules_question : Ruleset → Word
+rules_question r = question (codes "show rules ") r.path
+
+abbrev pub tables_question : Word → Word
+tables_question path = question (codes "show tables ") path
+
+-- the rules of each path of a file, and then the tables of each path at which it fills some
+abbrev pub questions : Conf → Word
+questions c = flat_map rules_question c.rulesets ++ flat_map tables_question (table_paths c.tables)

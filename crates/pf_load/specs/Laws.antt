@@ -1,5 +1,5 @@
 -- What a load leaves (pfctl(8), -f; pf(4), DIOCXBEGIN to DIOCXCOMMIT).
-use Rattle.std.specs.{Prelude.{◌≡◌, ℕ, ◌&&◌, Bool, true, false, List, [], ◌∷◌, ◌++◌, map, take, drop, Some, Ok, Contains}, List.{flat_map, list_any}}
+use Rattle.std.specs.{Prelude.{◌≡◌, ◌&&◌, Bool, true, false, List, [], ◌∷◌, ◌++◌, map, take, drop, Some, Ok, Contains}, List.{flat_map, list_any}}
 use Rattle.pf_addr.specs.Path.{Names.same_name as same_table, Paths.same_path}
 use Rattle.pf_form.specs.Form.Words.{Word}
 use Rattle.pf_rule.specs.Rules.{PlainRule}

@@ -10,4 +10,4 @@ pub use Rattle.pf_form.specs.Form.Words
 pub use Rattle.pf_rule.specs.RuleText
 pub use Rattle.pf_ticket.specs.Names
 pub use Rattle.pf_core.specs.Commands
-pub use Rattle.pf_core.specs.Durable.Changes
+pub use Rattle.pf_core.specs.Durable.Changes as DurableChanges

@@ -1,5 +1,5 @@
 -- The rulesets that a load of a file replaces, as pf(4)'s DIOCXBEGIN and DIOCXCOMMIT take them all at once (pfctl(8), -f), and their tickets.
-use Rattle.std.specs.{Prelude.{ℕ, Bool, List, [], ◌∷◌, ◌++◌, map, fold, find, if◌then◌else◌}, List.list_any, Option.option_map_or}
+use Rattle.std.specs.{Prelude.{Bool, List, [], ◌∷◌, ◌++◌, map, fold, find, if◌then◌else◌}, List.list_any, Option.option_map_or}
 use Rattle.pf_addr.specs.Path.Paths.{same_path}
 use Rattle.pf_form.specs.Form.Words.{Word}
 use Rattle.pf_ticket.specs.declared.name.RulesetName.{RulesetName}

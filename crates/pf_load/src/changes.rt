@@ -1,11 +1,12 @@
 //! What a load would change.
-ghost use Rattle.std.specs.Prelude.{◌≡◌, ◌≤◌, ◌-◌, ◌++◌, length, map, take, drop, IfOk, OnOk};
-ghost use Rattle.pf_addr.specs.Writing.{Continues};
+ghost use Rattle.std.specs.{Prelude.{◌≡◌, ◌≤◌, ◌-◌, ◌++◌, length, map, take, drop, IfOk, OnOk}, Bool.Decides, List.flat_map};
+ghost use Rattle.pf_addr.specs.Writing.{Continues, Writes};
 ghost use Rattle.pf_rule.specs.RuleText.{rule_text};
 ghost use Rattle.pf_table.specs.Edits.{deletions};
 ghost use Rattle.pf_conf.specs.Tables.{entry_text};
 ghost use Rattle.pf_load.specs.Lines.{newline};
-ghost use Rattle.pf_load.specs.Changes.{rules_heading, table_heading, marked, changes_text, WritesDifference, absent_in};
+ghost use Rattle.pf_load.specs.Changes.{rules_heading, table_heading, marked, changes_text, WritesDifference, absent_in, if_absent, question, rules_question, tables_question, questions};
+ghost use Rattle.pf_load.specs.Naming.{table_paths};
 
 use crate::fault::Fault;
 use crate::lines::{entries_of, path_text, write_entry};
@@ -38,16 +39,12 @@ fn is_refusal(line: &[u8]) -> bool {
     line.starts_with(b"err ") && !line.iter().any(|byte| *byte == b'.' || *byte == b':')
 }
 
-/// Asks for the list of what is at a path, and reads its lines but the last.
-fn ask_list<B: BufRead, W: Write>(
+/// Reads the lines of a list but the last, which answer this question.
+fn read_list<B: BufRead>(
     alloc: Global,
-    server: &mut W,
     replies: &mut B,
-    what: &[u8],
-    path: &Path,
+    question: &[u8],
 ) -> Result<Vec<Bytes>, Fault> {
-    let question = question(alloc, what, path)?;
-    send(server, &question)?;
     let mut list = Vec::new(alloc);
     for _ in 0..u64::MAX {
         let line = read_reply(alloc, replies)?;
@@ -55,15 +52,32 @@ fn ask_list<B: BufRead, W: Write>(
             return Ok(list);
         }
         if is_refusal(&line) {
-            return Err(Fault::refused(alloc, first_line(&question).0, &line));
+            return Err(Fault::refused(alloc, first_line(question).0, &line));
         }
         list.push(Items::of(line))?;
     }
     Err(Fault::Ended)
 }
 
+/// Asks for the list of what is at a path, and reads its lines but the last.
+fn ask_list<B: BufRead, W: Write>(
+    alloc: Global,
+    server: &mut W,
+    replies: &mut B,
+    what: &[u8],
+    path: &Path,
+) -> Result<Vec<Bytes>, Fault>
+    ensures { Writes result (W.contents server.old) (W.contents server.new) (question what.now path.now) }
+{
+    let line = question(alloc, what, path)?;
+    send(server, &line)?;
+    read_list(alloc, replies, &line)
+}
+
 /// The line that asks what is at a path.
-fn question(alloc: Global, what: &[u8], path: &Path) -> Result<Vec<u8>, AllocError> {
+fn question(alloc: Global, what: &[u8], path: &Path) -> Result<Vec<u8>, AllocError>
+    ensures { IfOk result (λ line. line.items ≡ question what.now path.now) }
+{
     let mut line = Vec::from_slice(alloc, what)?;
     line.extend_from_slice(path_text(path))?;
     line.push(b'\n')?;
@@ -111,8 +125,13 @@ fn rule_texts(alloc: Global, rules: &[At<Rule>]) -> Result<Vec<Bytes>, AllocErro
     Ok(texts)
 }
 
+fn is_same(one: &Bytes, other: &Bytes) -> bool
+    ensures { Decides result (one.now ≡ other.now) }
+{
+    one.as_slice() == other.as_slice()
+}
+
 /// How many come first that both lists have.
-#[tactic(auto, using(crate::proofs::Steps::more_in_front))]
 fn common_front(old: &[Bytes], new: &[Bytes]) -> usize
     ensures same { take result old.now ≡ take result new.now }
     ensures of_old { result ≤ length old.now }
@@ -120,7 +139,7 @@ fn common_front(old: &[Bytes], new: &[Bytes]) -> usize
 {
     for at in 0..old.len().min(new.len()) {
         let (one, other) = (&old[at], &new[at]);
-        if one.as_slice() != other.as_slice() {
+        if !is_same(one, other) {
             return at;
         }
     }
@@ -128,7 +147,6 @@ fn common_front(old: &[Bytes], new: &[Bytes]) -> usize
 }
 
 /// How many come last that both lists have.
-#[tactic(auto, using(crate::proofs::Steps::more_behind))]
 fn common_back(old: &[Bytes], new: &[Bytes]) -> usize
     ensures same { drop (length old.now - result) old.now ≡ drop (length new.now - result) new.now }
     ensures of_old { result ≤ length old.now }
@@ -136,7 +154,7 @@ fn common_back(old: &[Bytes], new: &[Bytes]) -> usize
 {
     for count in 0..old.len().min(new.len()) {
         let (one, other) = (&old[old.len() - 1 - count], &new[new.len() - 1 - count]);
-        if one.as_slice() != other.as_slice() {
+        if !is_same(one, other) {
             return count;
         }
     }
@@ -271,11 +289,27 @@ fn absent_in(alloc: Global, other: &Table, entries: &[Entry]) -> Result<Vec<Byte
     let answers = answers_of(alloc, other, entries)?;
     let mut absent = Vec::new(alloc);
     for (at, entry) in entries.iter().enumerate() {
-        if answers.get(at) == Some(&Deletion::Absent) {
-            absent.push(entry_text(alloc, *entry)?)?;
-        }
+        add_absent(alloc, &mut absent, answers[at], *entry)?;
     }
     Ok(absent)
+}
+
+/// Appends the text of an entry, if a delete answers that it isn't there.
+fn add_absent(
+    alloc: Global,
+    absent: &mut Vec<Bytes>,
+    answer: Deletion,
+    entry: Entry,
+) -> Result<(), AllocError>
+    ensures { OnOk result (absent.new.items ≡ absent.old.items ++ map entry_text (if_absent answer entry)) }
+{
+    match answer {
+        Deletion::Deleted => Ok(()),
+        Deletion::Absent => {
+            absent.push(entry_text(alloc, entry)?)?;
+            Ok(())
+        }
+    }
 }
 
 /// What a table would answer if these entries were deleted from it.
@@ -322,6 +356,19 @@ fn told(written: io::Result<()>) -> Result<(), Fault> {
     }
 }
 
+/// Writes what a load would change of a ruleset, given the list of the server's rules at its path.
+fn show_ruleset<O: Write>(
+    alloc: Global,
+    list: &[Bytes],
+    ruleset: &Ruleset,
+    out: &mut O,
+) -> Result<(), Fault> {
+    let old = shown_rules(alloc, list)?;
+    let new = rule_texts(alloc, ruleset.rules.as_slice())?;
+    let heading = rules_heading(alloc, &ruleset.path)?;
+    told(write_difference(out, Ok(()), &heading, &old, &new))
+}
+
 /// Writes what a load would change of the rules at a path.
 fn show_rules<B: BufRead, W: Write, O: Write>(
     alloc: Global,
@@ -329,12 +376,27 @@ fn show_rules<B: BufRead, W: Write, O: Write>(
     replies: &mut B,
     ruleset: &Ruleset,
     out: &mut O,
-) -> Result<(), Fault> {
+) -> Result<(), Fault>
+    ensures { Writes result (W.contents server.old) (W.contents server.new) (rules_question «ruleset».now) }
+{
     let list = ask_list(alloc, server, replies, b"show rules ", &ruleset.path)?;
-    let old = shown_rules(alloc, &list)?;
-    let new = rule_texts(alloc, ruleset.rules.as_slice())?;
-    let heading = rules_heading(alloc, &ruleset.path)?;
-    told(write_difference(out, Ok(()), &heading, &old, &new))
+    show_ruleset(alloc, &list, ruleset, out)
+}
+
+/// The same of the rules at each path.
+fn show_rulesets<B: BufRead, W: Write, O: Write>(
+    alloc: Global,
+    server: &mut W,
+    replies: &mut B,
+    rulesets: &[Ruleset],
+    out: &mut O,
+) -> Result<(), Fault>
+    ensures { Writes result (W.contents server.old) (W.contents server.new) (flat_map rules_question rulesets.now) }
+{
+    for ruleset in rulesets {
+        show_rules(alloc, server, replies, ruleset, out)?;
+    }
+    Ok(())
 }
 
 /// Writes what a load would change of a table, given the list of the tables at its path.
@@ -351,6 +413,22 @@ fn show_table<O: Write>(
     told(write_changes(out, Ok(()), &heading, &gone, &come))
 }
 
+/// The same of those tables that are at this path, given the list of the server's.
+fn show_listed<O: Write>(
+    alloc: Global,
+    list: &[Bytes],
+    path: &Path,
+    tables: &[FilledTable],
+    out: &mut O,
+) -> Result<(), Fault> {
+    for table in tables {
+        if table.path.same(path) {
+            show_table(alloc, list, table, out)?;
+        }
+    }
+    Ok(())
+}
+
 /// Writes what a load would change of those tables that are at this path.
 fn show_tables<B: BufRead, W: Write, O: Write>(
     alloc: Global,
@@ -359,19 +437,36 @@ fn show_tables<B: BufRead, W: Write, O: Write>(
     path: &Path,
     tables: &[FilledTable],
     out: &mut O,
-) -> Result<(), Fault> {
+) -> Result<(), Fault>
+    ensures { Writes result (W.contents server.old) (W.contents server.new) (tables_question path.now) }
+{
     let list = ask_list(alloc, server, replies, b"show tables ", path)?;
-    for table in tables {
-        if table.path.same(path) {
-            show_table(alloc, &list, table, out)?;
-        }
+    show_listed(alloc, &list, path, tables, out)
+}
+
+/// The same of the tables at each of these paths.
+fn show_paths<B: BufRead, W: Write, O: Write>(
+    alloc: Global,
+    server: &mut W,
+    replies: &mut B,
+    paths: &[Path],
+    tables: &[FilledTable],
+    out: &mut O,
+) -> Result<(), Fault>
+    ensures { Writes result (W.contents server.old) (W.contents server.new) (flat_map tables_question paths.now) }
+{
+    for path in paths {
+        show_tables(alloc, server, replies, path, tables, out)?;
     }
     Ok(())
 }
 
 /// Asks a server for the rules and tables that a load of this file would replace, and writes what it would change: for each path whose rules
 /// would differ `anchor PATH`, unless it is main's, and below it `- RULE` for each rule that would be gone and `+ RULE` for each that would
-/// come; for each table `table PATH NAME`, and so its entries. The server isn't asked to change anything.
+/// come; for each table `table PATH NAME`, and so its entries.
+///
+/// The server isn't asked to change anything: it is sent `show rules PATH` for each path of the file, and then `show tables PATH` for each
+/// path at which it fills some; after a fault a front of these lines.
 ///
 /// The faults are those of [`load`](crate::load); `Fault::Output`: the changes can't be written.
 pub fn show_changes<B: BufRead, W: Write, O: Write>(
@@ -380,13 +475,12 @@ pub fn show_changes<B: BufRead, W: Write, O: Write>(
     replies: &mut B,
     conf: &Conf,
     out: &mut O,
-) -> Result<(), Fault> {
-    for ruleset in conf.rulesets.as_slice() {
-        show_rules(alloc, server, replies, ruleset, out)?;
-    }
+) -> Result<(), Fault>
+    ensures { Writes result (W.contents server.old) (W.contents server.new) (questions conf.now) }
+{
     let tables = conf.tables.as_slice();
-    for path in &table_paths(alloc, tables)? {
-        show_tables(alloc, server, replies, path, tables, out)?;
-    }
+    show_rulesets(alloc, server, replies, conf.rulesets.as_slice(), out)?;
+    let paths = table_paths(alloc, tables)?;
+    show_paths(alloc, server, replies, &paths, tables, out)?;
     told(out.flush())
 }

@@ -9,8 +9,9 @@
 //! networks are pf_rule's and pf_addr's; what a line does is pf_core's.
 //!
 //! Read `specs/Naming.antt` and `specs/Lines.antt` first, then `specs/Loading.antt`, `specs/Changes.antt` and `specs/Laws.antt`. Proved: the
-//! lines that are written, and that a load which went through sent exactly these with the tickets that it was given. Only tested: what is
-//! done with replies.
+//! lines that are written; that a load which went through sent exactly these with one ticket for each of its rulesets, and one that stopped
+//! a front of them and then of its rollback; and that only questions are sent for what a load would change. Only tested: what is done with
+//! replies.
 #![tactic(auto)]
 
 mod changes;

@@ -40,11 +40,7 @@ pub(crate) fn path_text(path: &Path) -> &[u8]
     if text.is_empty() { b"-" } else { text }
 }
 
-fn write_name<W: Write>(
-    out: &mut W,
-    so_far: io::Result<()>,
-    name: &RulesetName,
-) -> io::Result<()>
+fn write_name<W: Write>(out: &mut W, so_far: io::Result<()>, name: &RulesetName) -> io::Result<()>
     ensures { Continues so_far (W.contents out.old) result (W.contents out.new) (name_text name.now) }
 {
     let so_far = write_more(out, so_far, kind_text(name.kind));
@@ -97,11 +93,7 @@ fn write_begin<W: Write>(
 }
 
 /// Writes the line that commits all that was begun.
-fn write_commit<W: Write>(
-    out: &mut W,
-    so_far: io::Result<()>,
-    begun: &[Begun],
-) -> io::Result<()>
+fn write_commit<W: Write>(out: &mut W, so_far: io::Result<()>, begun: &[Begun]) -> io::Result<()>
     ensures { Continues so_far (W.contents out.old) result (W.contents out.new) (commit_line begun.now) }
 {
     let so_far = write_more(out, so_far, b"commit");
@@ -110,11 +102,7 @@ fn write_commit<W: Write>(
 }
 
 /// Writes the line that drops all that was begun.
-fn write_rollback<W: Write>(
-    out: &mut W,
-    so_far: io::Result<()>,
-    begun: &[Begun],
-) -> io::Result<()>
+fn write_rollback<W: Write>(out: &mut W, so_far: io::Result<()>, begun: &[Begun]) -> io::Result<()>
     ensures { Continues so_far (W.contents out.old) result (W.contents out.new) (rollback_line begun.now) }
 {
     let so_far = write_more(out, so_far, b"rollback");
@@ -368,11 +356,7 @@ pub(crate) fn entries_of(alloc: Global, table: &Table) -> Result<Vec<Entry>, All
     Ok(entries)
 }
 
-fn add_rulesets(
-    text: &mut Vec<u8>,
-    begun: &[Begun],
-    rulesets: &[Ruleset],
-) -> Result<(), AllocError>
+fn add_rulesets(text: &mut Vec<u8>, begun: &[Begun], rulesets: &[Ruleset]) -> Result<(), AllocError>
     ensures { OnOk result (text.new.items ≡ text.old.items ++ rules_lines begun.now rulesets.now) }
 {
     match write_rulesets(text, Ok(()), begun, rulesets) {

@@ -1,6 +1,6 @@
 //! A load.
-ghost use Rattle.std.specs.Prelude.{◌≡◌, ◌<◌, ◌≤◌, ◌++◌, length, map, IfOk};
-ghost use Rattle.pf_addr.specs.Writing.{Writes};
+ghost use Rattle.std.specs.{Prelude.{◌≡◌, ◌<◌, ◌≤◌, ◌++◌, true, length, map, IfOk}, Result.is_err};
+ghost use Rattle.pf_addr.specs.Writing.{Writes, WritesFront};
 ghost use Rattle.pf_load.specs.Lines.{begin_line, load_lines, commit_line, rollback_line};
 ghost use Rattle.pf_load.specs.Naming.{ruleset_names};
 ghost use Rattle.pf_load.specs.Loading.{name_of, Attempts, Loads};
@@ -159,6 +159,13 @@ fn roll_back<B: BufRead, W: Write>(
     Ok(())
 }
 
+/// The same, whatever comes of it: a server that is gone has dropped all of it.
+fn give_up<B: BufRead, W: Write>(alloc: Global, server: &mut W, replies: &mut B, begun: &[Begun])
+    ensures { WritesFront (W.contents server.old) (W.contents server.new) (rollback_line begun.now) }
+{
+    let _ = roll_back(alloc, server, replies, begun);
+}
+
 /// A load that isn't tried again.
 fn attempt<B: BufRead, W: Write>(
     alloc: Global,
@@ -173,14 +180,15 @@ fn attempt<B: BufRead, W: Write>(
     let begun = begin(alloc, server, replies, names)?;
     let done = offer_and_commit(alloc, server, replies, conf, &begun);
     if done.is_err() {
-        // A server that is gone has dropped it.
-        let _ = roll_back(alloc, server, replies, &begun);
+        give_up(alloc, server, replies, &begun);
     }
     done
 }
 
 /// Whether it stopped since somebody else began on the same ruleset, or committed it, meanwhile.
-fn is_busy(done: &Result<Vec<u8>, Fault>) -> bool {
+fn is_busy(done: &Result<Vec<u8>, Fault>) -> bool
+    ensures { result ≡ true → is_err done.now ≡ true }
+{
     match done {
         Ok(_) => false,
         Err(fault) => fault.is_busy(),
@@ -188,7 +196,8 @@ fn is_busy(done: &Result<Vec<u8>, Fault>) -> bool {
 }
 
 /// Loads all that a file means into a server, in one commit, or nothing of it; and returns the server's reply, `applied N` or `stored N`.
-/// Other rulesets and tables stay. It is begun anew so many times if somebody else began or committed one of the rulesets meanwhile.
+/// Other rulesets and tables stay. It is begun anew at most so many times, if somebody else began or committed one of the rulesets
+/// meanwhile. Of each that stops a front is sent, and behind it a front of its rollback.
 ///
 /// `Fault::Refused`: the line was refused, and all that was begun was dropped. `Fault::Ended`: the server ended before it had answered the
 /// commit, which may have been made if it was sent. `Fault::Memory`: out of memory, also here before anything was sent.
@@ -199,7 +208,7 @@ pub fn load<B: BufRead, W: Write>(
     conf: &Conf,
     retries: u32,
 ) -> Result<Vec<u8>, Fault>
-    ensures { Loads conf.now result (W.contents server.old) (W.contents server.new) }
+    ensures { Loads conf.now retries result (W.contents server.old) (W.contents server.new) }
 {
     let names = ruleset_names(alloc, conf)?;
     'tries: for _ in 0..retries {

@@ -49,11 +49,7 @@ pub(crate) fn first_line(lines: &[u8]) -> (&[u8], &[u8])
 }
 
 /// Reads the replies to some lines. `Fault::Refused`: all were read, and this line is the first whose reply isn't `ok`.
-pub(crate) fn heed<B: BufRead>(
-    alloc: Global,
-    replies: &mut B,
-    lines: &[u8],
-) -> Result<(), Fault> {
+pub(crate) fn heed<B: BufRead>(alloc: Global, replies: &mut B, lines: &[u8]) -> Result<(), Fault> {
     let mut refused = Ok(());
     let mut left = lines;
     while !left.is_empty() {

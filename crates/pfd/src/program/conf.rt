@@ -104,7 +104,15 @@ fn show<S: Files<File = File>, W: Write, F: Write>(
         return Err(ConfFault::anchor(alloc, anchor)?);
     };
     let read = |name: &[u8]| read_conf(alloc, files, name);
-    check(alloc, &read, mode_of(task.is_lenient), &base, task.path, writer, faults)
+    check(
+        alloc,
+        &read,
+        mode_of(task.is_lenient),
+        &base,
+        task.path,
+        writer,
+        faults,
+    )
 }
 
 // The rules and tables of the file. What is noted of it goes to the faults.
@@ -115,7 +123,14 @@ fn firewall<S: Files<File = File>, F: Write>(
     faults: &mut F,
 ) -> Result<Firewall, ConfFault> {
     let read = |name: &[u8]| read_conf(alloc, files, name);
-    let taken = take_noting(alloc, &read, mode_of(task.is_lenient), &Path::main(), task.path, faults)?;
+    let taken = take_noting(
+        alloc,
+        &read,
+        mode_of(task.is_lenient),
+        &Path::main(),
+        task.path,
+        faults,
+    )?;
     Ok(Firewall::of(alloc, taken)?)
 }
 

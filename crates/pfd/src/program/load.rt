@@ -59,7 +59,14 @@ fn taken<S: Files<File = File>, F: Write>(
         return Err(ConfFault::anchor(alloc, anchor)?);
     };
     let read = |name: &[u8]| read_conf(alloc, files, name);
-    take_noting(alloc, &read, mode_of(task.is_lenient), &base, task.path, faults)
+    take_noting(
+        alloc,
+        &read,
+        mode_of(task.is_lenient),
+        &base,
+        task.path,
+        faults,
+    )
 }
 
 // Loads it, and writes the server's reply; or writes what would change.

@@ -1,6 +1,6 @@
 use Rattle.std.proofs.Common.{◌≡◌, ◌++◌, map, drop}
 use Rattle.pf_conf.specs.Tables.{entry_text}
-use Rattle.pf_load.specs.Changes.{absent_by, absent_in}
+use Rattle.pf_load.specs.Changes.{absent_by}
 use Rattle.pf_load.proofs.changes.absent_in.Given as goal
 
 abbrev pub invariant-loop-at : goal.invariant-loop-at
