@@ -190,7 +190,9 @@ def options_of(path):
 
 @functools.cache
 def options_of_pfd():
-    return {f"--{it}" for it in re.findall(r'\.long\("([\w-]+)"\)', text_of(f"{TOP}/crates/pfd_words/src/words.rt"))} | {"--help", "--version"}
+    # (the options that say modes have one function)
+    found = re.findall(r'(?:\.long\(|\bmode\(alloc, )"([\w-]+)"\)', text_of(f"{TOP}/crates/pfd_words/src/words.rt"))
+    return {f"--{it}" for it in found} | {"--help", "--version"}
 
 
 @functools.cache

@@ -2,8 +2,9 @@
 
 At an address that may only ask every kind of line is sent, and each wrong one, beside a session that may change all: the one's changes
 are denied and leave nothing, and its questions are answered by what the other did. A peer's stream is sent to each kind of address, and
-a line to those of peers. Of a socket's file it is looked at who may open it, what becomes of it at each end of the server, and that nothing
-is ever removed at its place but the file of a socket at which nobody answers.
+a line to those of peers. Silent clients at these addresses leave a worker to the others, or are sent away. Of a socket's file it is looked
+at who may open it, what becomes of it at each end of the server and where several start at once, and that nothing is ever removed at its
+place but the file of a socket at which nobody answers.
 """
 import os
 import signal
@@ -11,12 +12,15 @@ import socket
 import stat
 import subprocess
 import threading
+import time
 
 from .program import Client, PATIENCE, Result, formatted, new_folder, ran, received, send_all, write
 from .streams import EXAMPLE
 
 SIZE = 1 << 20
 DENIED = "err denied"
+# A user who may not open a socket's file.
+REFUSED = b"refused"
 # Lines that may change something, each with the reply that it gets where that is let in, on a disk that holds nothing.
 CHANGES = (
     ("begin filter -", "ok 1.1"), ("add - 1.1 pass all", "ok"), ("commit filter - 1.1", "applied 1"), ("begin table web", "ok 1.2"),
@@ -145,22 +149,26 @@ def many_at_once(options, folder):
     return result
 
 
-def user_refused(path):
-    """Whether another user may not connect to the socket, or None if this process can't be one."""
+def as_nobody(path, some):
+    """What another user is told at a socket's path, or that it may not connect. None if this process can't be that user."""
     if os.getuid() != 0:
         return None
+    mine, other = os.pipe()
     child = os.fork()
     if child == 0:
         try:
+            os.setgroups([])
             os.setgid(65534)
             os.setuid(65534)
-            connected(path).close()
-            os._exit(1)
+            os.write(other, told(path, some))
         except PermissionError:
-            os._exit(0)
+            os.write(other, REFUSED)
         finally:
-            os._exit(2)
-    return os.waitstatus_to_exitcode(os.waitpid(child, 0)[1]) == 0
+            os._exit(0)
+    os.close(other)
+    with open(mine, "rb") as said:
+        os.waitpid(child, 0)
+        return said.read()
 
 
 def socket_files(options, folder):
@@ -171,10 +179,11 @@ def socket_files(options, folder):
     for words, mode in (((), 0o600), (("--mode", "0660"), 0o660), (("--mode", "666"), 0o666)):
         with Doors(options.program, file, "--listen", path, *words):
             result.compare(f"the mode with {words}", mode, stat.S_IMODE(os.stat(path).st_mode))
-            refused = user_refused(path)
-            if refused is not None:
-                result.compare(f"that another user is refused with {words}", mode != 0o666, refused)
-            result.compare("a session", b"log 0 acked 0 shown 0\n", told(path, b"log\n"))
+            said = b"log 0 acked 0 shown 0\n"
+            came = as_nobody(path, b"log\n")
+            if came is not None:
+                result.compare(f"another user with {words}", said if mode == 0o666 else REFUSED, came)
+            result.compare("a session", said, told(path, b"log\n"))
         result.check("a killed server's file stays", stat.S_ISSOCK(os.stat(path).st_mode))
     # the file that is left there is no hindrance
     with Doors(options.program, file, "--listen", path, "--sessions", 2) as server:
@@ -185,6 +194,101 @@ def socket_files(options, folder):
         told(path, b"")
         server.process.wait()
         result.check("the file is gone once the server has ended", not os.path.exists(path))
+    # what lies there in its stead at the end of the server stays
+    with Doors(options.program, file, "--listen", path, "--sessions", 1) as server:
+        with Client(connected(path)) as session:
+            os.remove(path)
+            write(path, b"kept")
+            result.compare("a session whose socket's file is gone", "log 0 acked 0 shown 0", session.ask("log"))
+        server.process.wait()
+        result.check("another file stays once the server has ended", os.path.isfile(path))
+    return result
+
+
+def modes_of_kinds(options, folder):
+    """Each kind of address has a mode of its own."""
+    result, file = Result(), formatted(options.program, os.path.join(folder, "kinds"), SIZE)
+    paths = [os.path.join(folder, name) for name in ("all.sock", "ask.sock", "peers.sock")]
+    places = ("--listen", paths[0], "--ask", paths[1], "--peers", paths[2])
+    for words, modes in (
+        ((), (0o600, 0o600, 0o600)),
+        (("--mode", "0660"), (0o660, 0o600, 0o600)),
+        (("--ask-mode", "0666"), (0o600, 0o666, 0o600)),
+        (("--mode", "0", "--ask-mode", "00777", "--peers-mode", "640"), (0, 0o777, 0o640)),
+    ):
+        with Doors(options.program, file, *places, *words, lines=3):
+            result.compare(f"the modes with {words}", modes, tuple(stat.S_IMODE(os.stat(path).st_mode) for path in paths))
+    return result
+
+
+def others_may_ask(options, folder):
+    """Another user, who may ask and neither change nor send states."""
+    result, file = Result(), formatted(options.program, os.path.join(folder, "others"), SIZE)
+    os.chmod(folder, 0o755)
+    paths = [os.path.join(folder, name) for name in ("all.sock", "ask.sock", "peers.sock")]
+    with Doors(options.program, file, "--listen", paths[0], "--ask", paths[1], "--peers", paths[2], "--ask-mode", "0666", lines=3):
+        for path, said in zip(paths, (REFUSED, b"log 0 acked 0 shown 0\nerr denied\n", REFUSED)):
+            came = as_nobody(path, b"log\ntset - t 10/8\n")
+            if came is not None:
+                result.compare(f"another user at {os.path.basename(path)}", said, came)
+    return result
+
+
+def silent_ones(options, folder):
+    """Silent clients at each kind of address of a server that sends them away: with half a line, half a message, and nothing."""
+    result, file = Result(), formatted(options.program, os.path.join(folder, "silent"), SIZE)
+    paths = [os.path.join(folder, name) for name in ("all.sock", "ask.sock", "peers.sock")]
+    places = ("--listen", paths[0], "--ask", paths[1], "--peers", paths[2])
+    with Doors(options.program, file, *places, "--idle", 2, "--workers", 8, lines=3):
+        began, waiting, silent = time.monotonic(), [], b"log 0 acked 0 shown 0\n"
+        ones = ((0, b"", b""), (0, b"log\nte", silent), (1, b"log\ntset", silent), (2, b"", b""), (2, EXAMPLE[:50], b""))
+        for number, some, said in ones:
+            stream = connected(paths[number])
+            send_all(stream, some)
+            waiting.append((number, some, said, stream))
+        for number, some, said, stream in waiting:
+            result.compare(f"one that fell silent behind {some[:20]!r} at {places[2 * number]}", said, received(stream))
+            stream.close()
+        lasted = time.monotonic() - began
+        result.check(f"silent ones were sent away after {lasted:.1f} s", 1.5 <= lasted <= 10)
+        result.compare("a session after that", silent, told(paths[0], b"log\n"))
+    return result
+
+
+def guests_leave_a_worker(options, folder):
+    """As many as want to ask, and peers beside them, can't keep out who may change all; a worker that is alone serves all."""
+    result, file = Result(), formatted(options.program, os.path.join(folder, "guests"), SIZE)
+    paths = [os.path.join(folder, name) for name in ("all.sock", "ask.sock", "peers.sock")]
+    places = ("--listen", paths[0], "--ask", paths[1], "--peers", paths[2])
+    with Doors(options.program, file, *places, "--workers", 3, lines=3):
+        guests = [connected(paths[1 + number % 2]) for number in range(12)]
+        for number in range(1, 21):
+            result.compare("a change beside silent guests", b"applied %d\n" % number, told(paths[0], b"tset - t 10/8\n"))
+        for guest in guests[:-1]:
+            guest.close()
+        result.compare("one that asks once others have left", b"log 20 acked 20 shown 20\n", told(paths[1], b"log\n"))
+        guests[-1].close()
+    with Doors(options.program, file, *places, "--workers", 1, lines=3):
+        result.compare("one that asks a worker that is alone", b"log 0 acked 0 shown 0\n", told(paths[1], b"log\n"))
+        result.compare("another one after it", b"applied 1\n", told(paths[0], b"tset - t 10/8\n"))
+    return result
+
+
+def raced(options, folder):
+    """Servers that start at one moment where a dead one's file lies: one of them has the place, and answers there."""
+    result, path = Result(), os.path.join(folder, "raced.sock")
+    files = [formatted(options.program, os.path.join(folder, f"disk{number}"), SIZE) for number in range(3)]
+    for _ in range(options.few(3, 20)):
+        with Doors(options.program, files[0], "--listen", path):
+            pass
+        servers = [subprocess.Popen([options.program, "serve", "--disk", file, "--size", str(SIZE), "--listen", path],
+                                    stdout=subprocess.PIPE, stderr=subprocess.PIPE) for file in files]
+        first = [server.stdout.readline() for server in servers]
+        result.compare("servers that say they listen", 1, sum(line == f"listening {path}\n".encode() for line in first))
+        result.compare("a session of the one that listens", b"log 0 acked 0 shown 0\n", told(path, b"log\n"))
+        for server in servers:
+            server.kill()
+            server.communicate()
     return result
 
 
@@ -218,8 +322,14 @@ def never_removed(options, folder):
     for what, wrong in (("a path that is too long", folder + "/" + "x" * 120), ("a folder that isn't there", folder + "/none/pfd.sock")):
         result.compare(what, (1, b"", b"pfd: input\n"), ran(options.program, *serve, wrong))
         result.check(f"no socket stays beside {what}", not os.path.exists(first))
-    for mode in ("8", "1777", "-1", "", "rw", "0o600"):
-        result.compare(f"the mode {mode!r}", (1, b"", b"pfd: input\n"), ran(options.program, *serve[:-1], f"--mode={mode}"))
+    with open(file, "rb") as opened:
+        before = opened.read()
+    for mode in ("8", "1777", "-1", "+600", "", "rw", "0o600"):
+        for option in ("mode", "ask-mode", "peers-mode"):
+            status, out, told_of = ran(options.program, *serve[:-1], f"--{option}={mode}")
+            result.compare(f"--{option}={mode}", (2, b"", True), (status, out, told_of.startswith(b"error: ")))
+    with open(file, "rb") as opened:
+        result.compare("the disk after that", before, opened.read())
     result.compare("a client at a path where nothing is", (1, b"", b"pfd: input\n"), ran(options.program, "connect", path, given=b"log\n"))
     return result
 
@@ -239,7 +349,8 @@ def connects(options, folder):
 
 def play(options):
     result = Result()
-    for work in (asked_only, peers_only, many_at_once, socket_files, never_removed, connects):
+    for work in (asked_only, peers_only, many_at_once, socket_files, modes_of_kinds, others_may_ask, silent_ones, guests_leave_a_worker,
+                 raced, never_removed, connects):
         with new_folder() as folder:
             result.add(work(options, folder))
     return result

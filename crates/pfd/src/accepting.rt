@@ -11,6 +11,9 @@ pub trait Accept {
 
     /// Waits for the next connection. An error of the kind `ConnectionAborted` is of that connection alone.
     fn accept(&self) -> io::Result<Self::Connection>;
+
+    /// Takes note that a connection that was accepted is served no more.
+    fn release(&self, _connection: &Self::Connection) {}
 }
 
 /// What to do after an accept.

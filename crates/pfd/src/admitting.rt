@@ -1,6 +1,6 @@
 //! What a connection may be, by the address that it came to, and what it is. It knows no socket.
 ghost use Rattle.std.specs.Prelude.{◌≡◌};
-ghost use Rattle.pfd.specs.Admitting.{way_of};
+ghost use Rattle.pfd.specs.Admitting.{is_guest, lets_in, way_of};
 
 // What a peer's stream begins with, and no line does.
 const PEER: u8 = 5;
@@ -16,6 +16,25 @@ pub enum Admits {
     Questions,
     /// Peers' streams alone.
     Peers,
+}
+
+impl Admits {
+    /// Whether its connections are guests, who may do only some of what a session may.
+    pub(crate) fn is_guest(self) -> bool
+        ensures { result ≡ is_guest self }
+    {
+        match self {
+            Admits::Both | Admits::Sessions => false,
+            Admits::Questions | Admits::Peers => true,
+        }
+    }
+
+    /// Whether one more connection is let in beside so many guests, by so many workers. Guests leave one worker to all others.
+    pub(crate) fn lets_in(self, guests: usize, workers: usize) -> bool
+        ensures { result ≡ lets_in self guests workers }
+    {
+        !self.is_guest() || guests == 0 || guests < workers.saturating_sub(1)
+    }
 }
 
 /// How a connection is served.

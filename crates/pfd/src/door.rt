@@ -18,6 +18,9 @@ use std::time::Duration;
 /// The most addresses that a server listens on.
 pub(crate) const MOST_DOORS: usize = 64;
 
+// For so many milliseconds no guest is waited for, before it is seen whether one has left.
+const MOMENT: i32 = 100;
+
 /// A listener.
 #[derive(Drop)]
 pub(crate) enum Listener {
@@ -26,7 +29,7 @@ pub(crate) enum Listener {
 }
 
 impl Listener {
-    fn number(&self) -> i32 {
+    fn descriptor(&self) -> i32 {
         match self {
             Listener::Tcp(listener) => listener.as_raw_fd(),
             Listener::Unix(listener) => listener.as_raw_fd(),
@@ -55,99 +58,128 @@ impl Listener {
     }
 }
 
-/// All listeners of a server. Its connections may be silent for so long.
+// A listener, and what its connections may be.
+#[derive(Drop)]
+struct Door {
+    listener: Listener,
+    admits: Admits,
+}
+
+/// All listeners of a server. Its connections may be silent for so long, and those that are guests leave one worker to the others.
 #[derive(Drop)]
 pub(crate) struct Doors {
-    // each with what its connections may be
-    listeners: Vec<(Listener, Admits)>,
+    all: Vec<Door>,
     idle: Option<Duration>,
-    // which listener is asked first
+    workers: usize,
+    // how many guests are served
+    guests: AtomicUsize,
+    // which door is looked at first
     turn: AtomicUsize,
 }
 
 impl Doors {
-    /// No listener yet. `idle` is in seconds; 0 is without end.
-    pub(crate) fn new(alloc: Global, idle: u32) -> Doors {
+    /// No listener yet, for so many workers. `idle` is in seconds; 0 is without end.
+    pub(crate) fn new(alloc: Global, idle: u32, workers: usize) -> Doors {
         let idle = if idle == 0 {
             None
         } else {
             Some(Duration::from_secs(u64::from(idle)))
         };
         Doors {
-            listeners: Vec::new(alloc),
+            all: Vec::new(alloc),
             idle,
+            workers,
+            guests: AtomicUsize::new(0),
             turn: AtomicUsize::new(0),
         }
     }
 
     /// Listens at one more address. `Input`: there are 64 already, or the system refuses it.
     pub(crate) fn open(&mut self, listener: Listener, admits: Admits) -> Result<(), Fault> {
-        if MOST_DOORS <= self.listeners.len() || listener.never_wait().is_err() {
+        if MOST_DOORS <= self.all.len() || listener.never_wait().is_err() {
             return Err(Fault::Input);
         }
-        match self.listeners.push((listener, admits)) {
+        match self.all.push(Door { listener, admits }) {
             Ok(()) => Ok(()),
             Err(_) => Err(Fault::Memory),
         }
     }
 
-    // Waits until a listener has a connection: what the system says of each.
+    // Waits until a listener has a connection that is let in: what the system says of each. Where guests aren't let in, it waits for a
+    // moment at most, since one that is served may leave.
     fn wait(&self) -> io::Result<[pollfd; MOST_DOORS]> {
-        let mut asked = [pollfd {
+        let guests = self.guests.load(Ordering::SeqCst);
+        let mut polled = [pollfd {
             fd: -1,
             events: POLLIN,
             revents: 0,
         }; MOST_DOORS];
-        for (place, door) in asked.iter_mut().zip(&self.listeners) {
-            place.fd = door.0.number();
-        }
-        for _ in 0..u64::MAX {
-            if 0 <= poll(&mut asked, -1) {
-                return Ok(asked);
-            }
-            if os::errno() != libc::EINTR {
-                break;
+        let mut most = -1;
+        for (place, door) in polled.iter_mut().zip(&self.all) {
+            if door.admits.lets_in(guests, self.workers) {
+                place.fd = door.listener.descriptor();
+            } else {
+                most = MOMENT;
             }
         }
-        Err(io::Error::from(ErrorKind::Other))
+        poll_through(&mut polled, most)?;
+        Ok(polled)
     }
 
-    // A connection of the listener with this number, with its limits.
-    fn take(&self, number: usize) -> io::Result<Arrival> {
-        let Some((listener, admits)) = self.listeners.get(number) else {
+    // A connection of the listener at this index, with its limits.
+    fn take(&self, index: usize) -> io::Result<Arrival> {
+        let Some(door) = self.all.get(index) else {
             return Err(io::Error::from(ErrorKind::WouldBlock));
         };
-        let stream = listener.accept()?;
+        let stream = door.listener.accept()?;
         match limit(&stream, self.idle) {
-            Ok(()) => Ok(Arrival {
-                stream,
-                admits: *admits,
-            }),
+            Ok(()) => Ok(self.let_in(stream, door.admits)),
             // it isn't served without its limits
             Err(_) => Err(io::Error::from(ErrorKind::ConnectionAborted)),
         }
     }
+
+    // A connection that will be served.
+    fn let_in(&self, stream: Stream, admits: Admits) -> Arrival {
+        if admits.is_guest() {
+            self.guests.fetch_add(1, Ordering::SeqCst);
+        }
+        Arrival { stream, admits }
+    }
 }
 
-// The number of the first listener from this one on that has a connection.
-fn ready_from(asked: &[pollfd], start: usize) -> Option<usize>
-    ensures { IfSome result (λ number. number < length asked.now) }
+// Waits for so many milliseconds at most, or at -1 without end, whatever signals come meanwhile.
+fn poll_through(polled: &mut [pollfd], most: i32) -> io::Result<()> {
+    for _ in 0..u64::MAX {
+        if 0 <= poll(polled, most) {
+            return Ok(());
+        }
+        if os::errno() != libc::EINTR {
+            break;
+        }
+    }
+    Err(io::Error::from(ErrorKind::Other))
+}
+
+// The index of the first listener from this one on that has a connection.
+fn ready_from(polled: &[pollfd], start: usize) -> Option<usize>
+    ensures { IfSome result (λ index. index < length polled.now) }
 {
-    for number in start..asked.len() {
-        if asked[number].revents != 0 {
-            return Some(number);
+    for index in start..polled.len() {
+        if polled[index].revents != 0 {
+            return Some(index);
         }
     }
     None
 }
 
-// The number of a listener that has a connection: the first from `turn` on, or the first of all.
-fn first_ready(asked: &[pollfd], turn: usize) -> Option<usize>
-    ensures { IfSome result (λ number. number < length asked.now) }
+// The index of a listener that has a connection: the first from `turn` on, or the first of all.
+fn first_ready(polled: &[pollfd], turn: usize) -> Option<usize>
+    ensures { IfSome result (λ index. index < length polled.now) }
 {
-    match ready_from(asked, turn) {
-        Some(number) => Some(number),
-        None => ready_from(asked, 0),
+    match ready_from(polled, turn) {
+        Some(index) => Some(index),
+        None => ready_from(polled, 0),
     }
 }
 
@@ -162,17 +194,23 @@ impl Accept for Doors {
 
     fn accept(&self) -> io::Result<Arrival> {
         for _ in 0..u64::MAX {
-            let asked = self.wait()?;
-            let Some(number) = first_ready(&asked, self.turn.load(Ordering::SeqCst)) else {
+            let polled = self.wait()?;
+            let Some(index) = first_ready(&polled, self.turn.load(Ordering::SeqCst)) else {
                 continue;
             };
-            self.turn.store(number + 1, Ordering::SeqCst);
-            match self.take(number) {
+            self.turn.store(index + 1, Ordering::SeqCst);
+            match self.take(index) {
                 // its client gave it up meanwhile
                 Err(error) if error.kind() == ErrorKind::WouldBlock => {}
                 accepted => return accepted,
             }
         }
         Err(io::Error::from(ErrorKind::Other))
+    }
+
+    fn release(&self, arrival: &Arrival) {
+        if arrival.admits.is_guest() {
+            self.guests.fetch_sub(1, Ordering::SeqCst);
+        }
     }
 }

@@ -1,11 +1,20 @@
 //! Laws of the program, and those of sessions. Each function does nothing; its contract is the law.
-ghost use Rattle.std.specs.Prelude.{◌≡◌};
+ghost use Rattle.std.specs.Prelude.{◌≡◌, ℕ, List, Ok, Some, not};
+ghost use Rattle.pf_core.specs.declared.command.Command.{Command};
+ghost use Rattle.pf_line.specs.Lines.{line_at, Means};
+ghost use Rattle.pf_session.specs.Server.{Askings.is_denied, Inquiries.is_inquiry};
 ghost use Rattle.pf_session.specs.declared.line_engine.answer_line.TheConstants.{LOOKED_AT};
 ghost use Rattle.pfd_words.specs.declared.words.TheConstants.{HISTORY_LIMIT, MEMORY_SIZE, MOST_HISTORY, MOST_WORKERS, WORKERS};
 
 pub use pf_session::laws::{
     sessions_learn, takes_over, the_last_receipt_has_all, what_is_told_stays_acknowledged,
 };
+
+/// Of the lines that say a command, a session that may only ask is denied just those whose command isn't a question, nor asks how many
+/// changes there are.
+pub fn what_asks_is_let_in()
+    ensures { (line : List ℕ) (c : Command) → Means (line_at line) (Ok (Some c)) → is_denied line ≡ not (is_inquiry c) }
+{}
 
 /// If the words don't say, the history of a session may have 65,536 changes, of 1,048,576 at most, and its disk has 1,048,576 bytes; a
 /// server has 4 workers, of 64 at most. 4,097 bytes of a line are looked at.

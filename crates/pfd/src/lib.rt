@@ -6,7 +6,7 @@
 //! - `stream`: a connection, by TCP or by a Unix socket.
 //! - `socket_file`: the file of a Unix socket.
 //! - `door`: where connections come from, and for how long one may be silent.
-//! - `listener`: TCP connections, each served by a worker as a session or a peer's stream, over one Book that all share.
+//! - `listener`: connections, each served by a worker as a session or a peer's stream, over one Book that all share.
 //! - `client`: the other end of a connection. Only these last five know sockets.
 //! - `fullness`: how full the disk on a file is, and when that is said on standard error.
 //! - `laws`: the limits of the program, and the laws of sessions.

@@ -1,7 +1,8 @@
-//! Connections, and the workers that serve them. No clause can say what a socket gives and takes, so this is only tested.
+//! Connections, and the workers that serve them. No clause can say what a socket gives and takes, so of a connection only its way is proved.
 ghost use Rattle.std.specs.Prelude.{◌≡◌, ◌⊎◌, IfErr};
 ghost use Rattle.pf_addr.specs.Writing.{Writes};
 ghost use Rattle.pf_session.specs.Server.Askings.{denied_text};
+ghost use Rattle.pfd.specs.Admitting.{IsServedAs};
 
 use crate::accepting::{Accept, Acceptor};
 use crate::admitting::{Way, way_of};
@@ -73,39 +74,52 @@ fn serve_connection<
     let Ok(mut writer) = BufWriter::new(alloc, stream) else {
         return Err(EngineFault::Memory);
     };
-    match way_of(arrival.admits, first) {
-        Way::Session => serve(
-            rt,
-            alloc,
-            &mut reader,
-            &mut writer,
-            shared,
-            seer,
-            gate,
-            session,
-        ),
-        Way::Asking => serve_asking(
-            rt,
-            alloc,
-            &mut reader,
-            &mut writer,
-            shared,
-            seer,
-            gate,
-            session,
-        ),
-        Way::Stream => {
-            let served = serve_peer(rt, alloc, &mut reader, &mut writer, shared);
-            if served.is_ok() {
-                drop_rest(stream);
-            }
-            served
-        }
-        Way::Denied => {
-            let turned = turn_away(&mut writer);
-            drop_rest(stream);
-            turned
-        }
+    let way = way_of(arrival.admits, first);
+    let served = serve_as(
+        rt,
+        alloc,
+        way,
+        &mut reader,
+        &mut writer,
+        shared,
+        seer,
+        gate,
+        session,
+    );
+    if way == Way::Denied || way == Way::Stream && served.is_ok() {
+        drop_rest(stream);
+    }
+    served
+}
+
+// Serves what a connection sends, as its way is.
+fn serve_as<
+    W: Wait,
+    D: Disk + Drop,
+    J: Chapter + Numbering,
+    S: Publisher<J> + Drop,
+    G: Gate,
+    R: Read,
+    O: Write,
+>(
+    rt: &W,
+    alloc: Global,
+    way: Way,
+    reader: &mut R,
+    writer: &mut O,
+    shared: &Shared<D, J, S>,
+    seer: &mut Seer<J>,
+    gate: &G,
+    session: u32,
+) -> Result<(), EngineFault>
+    ensures { IsServedAs way (G.passed gate.now session) J.base J.setting result (R.remaining reader.old) (R.remaining reader.new)
+        seer.old seer.new (O.contents writer.old) (O.contents writer.new) }
+{
+    match way {
+        Way::Session => serve(rt, alloc, reader, writer, shared, seer, gate, session),
+        Way::Asking => serve_asking(rt, alloc, reader, writer, shared, seer, gate, session),
+        Way::Stream => serve_peer(rt, alloc, reader, writer, shared),
+        Way::Denied => turn_away(writer),
     }
 }
 
@@ -207,6 +221,7 @@ fn work<W: Wait, A: Accept<Connection = Arrival>, J: Chapter, S: ServeConnection
         };
         // a fault of a connection ends it alone
         let _ = server.serve_connection(alloc, &arrival, &mut seer, session);
+        listener.release(&arrival);
     }
 }
 

@@ -5,7 +5,7 @@ use crate::starting::started;
 use crate::streams::Watch;
 use crate::table::Table;
 use crate::tally::{Case, Outcome, Tally};
-use std::alloc::Global;
+use std::alloc::{AllocError, Global};
 use std::io::{self, ErrorKind, Read, Write};
 use std::net::{Net, Shutdown, TcpListener, TcpStream};
 use std::sync::Wait;
@@ -16,12 +16,20 @@ use std::time::Duration;
 /// How many seconds a client waits for what it is to be told.
 const MOST_SECONDS: u64 = 20;
 
-// A connection to the server.
+// The server's address of this number.
+fn address_of(alloc: Global, server: &Watch, number: usize) -> Result<String, AllocError> {
+    format!(in alloc; "127.0.0.1:{}", server.port(number))
+}
+
+// A connection to the server's address of this number.
 fn connected<N: Net<Listener = TcpListener, Stream = TcpStream>>(
     net: &N,
-    server: &str,
+    alloc: Global,
+    server: &Watch,
+    number: usize,
 ) -> io::Result<TcpStream> {
-    let stream = TcpStream::connect(net, server)?;
+    let address = address_of(alloc, server, number)?;
+    let stream = TcpStream::connect(net, address.as_str())?;
     stream.set_read_timeout(Some(Duration::from_secs(MOST_SECONDS)))?;
     Ok(stream)
 }
@@ -52,17 +60,19 @@ fn told_last(alloc: Global, stream: &mut TcpStream, bytes: &[u8]) -> io::Result<
 fn told_to<N: Net<Listener = TcpListener, Stream = TcpStream>>(
     net: &N,
     alloc: Global,
-    server: &str,
+    server: &Watch,
     clients: &mut Vec<TcpStream>,
     case: &Case,
 ) -> io::Result<Vec<u8>> {
     let line = case.line.as_str();
     let (client, sent) = line.split_once(' ').unwrap_or((line, ""));
+    let (client, address) = client.split_once('@').unwrap_or((client, "1"));
     let sent = line_bytes(alloc, sent)?;
     let wanted = reply_bytes(alloc, case.end.as_str())?.len();
     let number = client.parse::<usize>().unwrap_or(0);
     if number == 0 || number > clients.len() {
-        clients.push(connected(net, server)?)?;
+        let address = address.parse::<usize>().unwrap_or(0);
+        clients.push(connected(net, alloc, server, address)?)?;
     }
     let place = number
         .checked_sub(1)
@@ -82,13 +92,14 @@ fn told_to<N: Net<Listener = TcpListener, Stream = TcpStream>>(
 fn asked<N: Wait + Threads + Net<Listener = TcpListener, Stream = TcpStream> + Sync>(
     machine: &N,
     rt: &HostRuntime,
-    server: &str,
+    server: &Watch,
     clients: &mut Vec<TcpStream>,
     case: &Case,
 ) -> io::Result<Outcome> {
     let alloc = rt.alloc();
     if case.line.starts_with("pfd ") {
-        let line = case.line.replace(alloc, "@", server)?;
+        let address = address_of(alloc, server, 1)?;
+        let line = case.line.replace(alloc, "@", address.as_str())?;
         return Ok(started(machine, rt, line.as_str(), &Watch::new(false))?);
     }
     let told = told_to(machine, alloc, server, clients, case)?;
@@ -106,14 +117,13 @@ fn ask_all<N: Wait + Threads + Net<Listener = TcpListener, Stream = TcpStream> +
     machine: &N,
     rt: &HostRuntime,
     table: &Table,
-    watch: &Watch,
+    server: &Watch,
 ) -> io::Result<Tally> {
     let alloc = rt.alloc();
-    let server = format!(in alloc; "127.0.0.1:{}", watch.port())?;
     let mut clients = Vec::new(alloc);
     let mut tally = Tally::none(alloc);
     for case in &table.cases(alloc)? {
-        let outcome = asked(machine, rt, server.as_str(), &mut clients, case)?;
+        let outcome = asked(machine, rt, server, &mut clients, case)?;
         tally.note(alloc, case, &outcome)?;
     }
     Ok(tally)

@@ -7,6 +7,9 @@ use std::thread;
 /// The most times that a client yields to other threads until a server listens.
 const MOST_TURNS: u32 = 10_000_000;
 
+/// At how many addresses a server listens at most.
+const MOST_ADDRESSES: usize = 3;
+
 /// What a writer tells others of what was written.
 #[derive(Drop)]
 pub(crate) struct Watch {
@@ -14,8 +17,8 @@ pub(crate) struct Watch {
     is_strict: bool,
     /// Something waits to be flushed.
     is_waiting: AtomicBool,
-    /// The port at which a server said that it listens; 0 before that.
-    port: AtomicU32,
+    /// The ports at which a server said that it listens, in the order of its addresses; each is 0 before that.
+    ports: [AtomicU32; MOST_ADDRESSES],
 }
 
 impl Watch {
@@ -23,7 +26,7 @@ impl Watch {
         Watch {
             is_strict,
             is_waiting: AtomicBool::new(false),
-            port: AtomicU32::new(0),
+            ports: [AtomicU32::new(0), AtomicU32::new(0), AtomicU32::new(0)],
         }
     }
 
@@ -32,24 +35,28 @@ impl Watch {
         self.is_waiting.load(Ordering::SeqCst)
     }
 
-    // Takes note of the port in what a server wrote.
-    fn note_port(&self, text: &[u8]) {
-        let text = std::str::from_utf8(text).unwrap_or("").trim_end();
-        if let Some(port) = text.strip_prefix("listening 127.0.0.1:") {
-            let port = port.parse::<u32>().unwrap_or(0);
-            self.port.store(port, Ordering::SeqCst);
+    // Takes note of the ports in all that a server wrote.
+    fn note_ports(&self, text: &[u8]) {
+        let text = std::str::from_utf8(text).unwrap_or("");
+        for (line, noted) in text.lines().zip(&self.ports) {
+            if let Some(port) = line.strip_prefix("listening 127.0.0.1:") {
+                noted.store(port.parse::<u32>().unwrap_or(0), Ordering::SeqCst);
+            }
         }
     }
 
-    /// The port of a server, once it listens; 0 if it doesn't in time.
-    pub(crate) fn port(&self) -> u32 {
+    /// The port of a server's address of this number, from 1 on, once it listens there; 0 if it doesn't in time.
+    pub(crate) fn port(&self, number: usize) -> u32 {
+        let Some(port) = self.ports.get(number.saturating_sub(1)) else {
+            return 0;
+        };
         for _ in 0..MOST_TURNS {
-            if self.port.load(Ordering::SeqCst) != 0 {
+            if port.load(Ordering::SeqCst) != 0 {
                 break;
             }
             thread::yield_now();
         }
-        self.port.load(Ordering::SeqCst)
+        port.load(Ordering::SeqCst)
     }
 }
 
@@ -154,7 +161,7 @@ impl Write for Tight<'_> {
         }
         self.flushes -= 1;
         self.watch.is_waiting.store(false, Ordering::SeqCst);
-        self.watch.note_port(self.text);
+        self.watch.note_ports(self.text);
         Ok(())
     }
 }

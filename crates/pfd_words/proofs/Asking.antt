@@ -1,10 +1,11 @@
 -- Lemmas on what the words ask for.
-use Rattle.std.proofs.Common.{◌≡◌, ◌∙◌, ◌<◌, ap, ap₂, arith, lit<, refl, sym, ℕ, true, List, [], ◌∷◌, Option, Some, None, Result, Ok, Err, codes, slice_index, subst, Bor}
+use Rattle.std.proofs.Common.{◌≡◌, ◌∙◌, ◌<◌, ap, ap₂, arith, lit<, refl, sym, ℕ, true, List, [], ◌∷◌, Option, Some, None, Result, Ok, Err, codes, inl, inr, slice_index, subst, Bor}
 use Rattle.std.specs.{Prelude.{option_map, unwrap_or}, Str.Parse.ParsesUnsigned}
 use Rattle.clap.specs.Words.{ReadsOne, Row, Text, is_simple, subcommand_of, takes}
 use Rattle.clap.proofs.OnLiterals.{clap_on_literals}
+use Rattle.clap.specs.declared.error.kind.ErrorKind.{ErrorKind, TheVariants.OutOfMemory}
 use Rattle.pfd_words.specs.declared.words.{Task.Task, Task.TheVariants.{Run, RunOn, Format, Show, Serve, Connect}, TheConstants.{MEMORY_SIZE, HISTORY_LIMIT}}
-use Rattle.pfd_words.specs.Words.{IsAsked, IsPlainRun, MaySayNumber, SaysNumber, plain_run, program_words}
+use Rattle.pfd_words.specs.Words.{IsAsked, IsPlainRun, IsRefused, IsRefusedMode, MaySayNumber, SaysNumber, plain_run, program_words}
 
 -- ---- `pfd run`
 
@@ -46,6 +47,26 @@ alone words task is asked =
     let met_it : subcommand_of program_words words ≡ Some (codes "run", []) = ap (subcommand_of program_words) is.1 ∙ met is.0 in
     is_run task (subst (λ (m : Option (Text × List Row)). IsAsked m task) met_it asked)
 
+-- ---- refusals
+
+pub of_memory : (met : Option (Text × List Row)) (kind : ErrorKind) → kind ≡ OutOfMemory → IsRefused met kind
+of_memory met kind is = inl (inl is)
+
+-- a mode that isn't there is refused only when out of memory
+none_refused : (name id : Text) (kind : ErrorKind) → IsRefusedMode id (Some (name, [])) kind → kind ≡ OutOfMemory
+none_refused name id kind (inl memory) = memory
+none_refused name id kind (inr wrong) = absurd wrong.1
+
+run_refused : (kind : ErrorKind) → IsRefused (Some (codes "run", [])) kind → kind ≡ OutOfMemory
+run_refused kind (inl mode) = none_refused (codes "run") (codes "mode") kind mode
+run_refused kind (inr (inl mode)) = none_refused (codes "run") (codes "ask-mode") kind mode
+run_refused kind (inr (inr mode)) = none_refused (codes "run") (codes "peers-mode") kind mode
+
+pub by_memory : (words : List Text) (kind : ErrorKind) → IsPlainRun words → IsRefused (subcommand_of program_words words) kind → kind ≡ OutOfMemory
+by_memory words kind is why =
+    let met_it : subcommand_of program_words words ≡ Some (codes "run", []) = ap (subcommand_of program_words) is.1 ∙ met is.0 in
+    run_refused kind (subst (λ (m : Option (Text × List Row)). IsRefused m kind) met_it why)
+
 -- ---- options
 
 -- a subcommand that was found with these options has some name
@@ -54,7 +75,7 @@ named None rows is = absurd (cc (is))
 named (Some (name, others)) rows is = let e : others ≡ rows = cc (is) in (name, ap (λ (r : List Row). Some (name, r)) e)
 
 -- a text is the option's, or a default without one
-pub text_read : (o : Option (Bor Text)) (d : Bor Text) (text : Text) (v : Option Text) → d.now ≡ text → option_map (λ s. s.now) o ≡ v
+text_read : (o : Option (Bor Text)) (d : Bor Text) (text : Text) (v : Option Text) → d.now ≡ text → option_map (λ s. s.now) o ≡ v
     → (unwrap_or o d).now ≡ unwrap_or v text
 text_read None d text v default is = default ∙ ap (λ (x : Option Text). unwrap_or x text) is
 text_read (Some s) d text v default is = ap (λ (x : Option Text). unwrap_or x text) is

@@ -1,9 +1,10 @@
 -- The program's command line, as clap reads it, and what it asks for.
-use Rattle.std.specs.{Prelude.{◌≡◌, ◌≤◌, ℕ, true, List, [], ◌∷◌, Option, Some, None, codes, map, option_and_then, option_map, pos, unwrap_or}, Str.Parse.{IsNumeral, digits_value, without_leading_plus}}
+use Rattle.std.specs.{Prelude.{◌≡◌, ◌≤◌, ℕ, true, ◌⊎◌, List, [], ◌∷◌, IsSomeAnd, MatchOption, Option, Some, None, codes, map, option_and_then, option_map, pos, unwrap_or}, Str.Parse.{IsNumeral, digits_value, without_leading_plus}}
 use Rattle.clap.specs.{Simple.on_top, Words.{App, Row, Rule, Text, new_app, all_of, new_rule, one_of, first_of, with_rule, with_subcommand}}
 use Rattle.clap.specs.declared.builder.action.ArgAction.TheVariants.{Append}
 use Rattle.clap.specs.declared.builder.value_parser.ValueParser.TheVariants.{Signed}
-use Rattle.pfd_words.specs.declared.words.{Service.Service, Task.Task, Task.TheVariants.{Run, RunOn, Format, Show, Serve, Connect}, TheConstants.{MEMORY_SIZE, HISTORY_LIMIT, MOST_HISTORY, WORKERS, MOST_WORKERS}}
+use Rattle.clap.specs.declared.error.kind.ErrorKind.{ErrorKind, TheVariants.{OutOfMemory, ValueValidation}}
+use Rattle.pfd_words.specs.declared.words.{Service.Service, Task.Task, Task.TheVariants.{Run, RunOn, Format, Show, Serve, Connect}, TheConstants.{MEMORY_SIZE, HISTORY_LIMIT, MOST_HISTORY, WORKERS, MOST_WORKERS, OWNER_MODE, MOST_MODE}}
 
 -- ---- the subcommands and their options
 
@@ -33,8 +34,8 @@ peers_rule = record (new_rule (codes "peers")) { long = Some (codes "peers"); va
 abbrev pub ask_rule : Rule
 ask_rule = record (new_rule (codes "ask")) { long = Some (codes "ask"); value_names = 1; action = Some Append }
 
-abbrev pub mode_rule : Rule
-mode_rule = record (new_rule (codes "mode")) { long = Some (codes "mode"); value_names = 1 }
+abbrev pub mode_rule : Text → Rule
+mode_rule name = record (new_rule name) { long = Some name; value_names = 1 }
 
 abbrev pub workers_rule : Rule
 workers_rule = number_rule (codes "workers") 1 64
@@ -65,10 +66,13 @@ abbrev pub bounded_words : App
 bounded_words = with_rule (with_rule server_words history_rule) sessions_rule
 
 abbrev pub limited_words : App
-limited_words = with_rule (with_rule bounded_words idle_rule) mode_rule
+limited_words = with_rule (with_rule bounded_words idle_rule) (mode_rule (codes "mode"))
+
+abbrev pub asking_words : App
+asking_words = with_rule (with_rule limited_words ask_rule) (mode_rule (codes "ask-mode"))
 
 abbrev pub serve_words : App
-serve_words = with_rule (with_rule limited_words peers_rule) ask_rule
+serve_words = with_rule (with_rule asking_words peers_rule) (mode_rule (codes "peers-mode"))
 
 abbrev pub connect_words : App
 connect_words = with_rule (new_app (codes "connect")) (record (new_rule (codes "address")) { value_names = 1; required = true })
@@ -133,16 +137,35 @@ SaysIdle met n = SaysNumber 0 4294967295 0 (digits_in (codes "idle") met) n
 abbrev pub SaysTexts : Text → Option (Text × List Row) → List Text → Type 0
 SaysTexts id met texts = texts ≡ unwrap_or (option_and_then (λ m. all_of id m.1) met) []
 
--- the mode of a Unix socket's file: only its owner may connect, if nothing else is said
-abbrev pub SaysMode : Option (Text × List Row) → Text → Type 0
-SaysMode met mode = mode ≡ unwrap_or (text_in (codes "mode") met) (codes "0600")
+-- a text is the mode of a file in octal digits, as chmod(1) has it, and says no more than who may read, write and search
+pub record IsMode (text : Text) (mode : ℕ) : Type 0 where
+  pub digits : IsNumeral 8 text
+  pub value : mode ≡ digits_value 8 text
+  pub most : mode ≤ MOST_MODE
+
+abbrev pub IsNoMode : Text → Type 0
+IsNoMode text = (mode : ℕ) → ¬ (IsMode text mode)
+
+-- the mode of Unix sockets' files: only their owner may connect, if nothing else is said
+abbrev pub SaysMode : Text → Option (Text × List Row) → ℕ → Type 0
+SaysMode id met mode = MatchOption (text_in id met) (mode ≡ OWNER_MODE) (λ text. IsMode text mode)
+
+-- an option's mode is refused: memory ran out, or its text is none
+abbrev pub IsRefusedMode : Text → Option (Text × List Row) → ErrorKind → Type 0
+IsRefusedMode id met kind = (kind ≡ OutOfMemory) ⊎ ((kind ≡ ValueValidation) × IsSomeAnd (text_in id met) IsNoMode)
+
+-- what clap took is refused, by one of the modes
+abbrev pub IsRefused : Option (Text × List Row) → ErrorKind → Type 0
+IsRefused met kind = IsRefusedMode (codes "mode") met kind ⊎ IsRefusedMode (codes "ask-mode") met kind ⊎ IsRefusedMode (codes "peers-mode") met kind
 
 -- what `serve` asks for
 pub record AsksService (met : Option (Text × List Row)) (service : Service) : Type 0 where
   pub addresses : SaysTexts (codes "listen") met (map (λ s. s.now) service.addresses.items)
   pub peers : SaysTexts (codes "peers") met (map (λ s. s.now) service.peers.items)
   pub askers : SaysTexts (codes "ask") met (map (λ s. s.now) service.askers.items)
-  pub mode : SaysMode met service.mode.now
+  pub mode : SaysMode (codes "mode") met service.mode
+  pub peers_mode : SaysMode (codes "peers-mode") met service.peers_mode
+  pub ask_mode : SaysMode (codes "ask-mode") met service.ask_mode
   pub path : SaysPath met service.path.now
   pub size : SaysSize met 0 service.size
   pub workers : SaysWorkers met service.workers

@@ -1,8 +1,8 @@
 //! The subcommands with their options, as clap's commands, and the task that a command line asks for.
-ghost use Rattle.std.specs.Prelude.{◌≡◌, ◌≤◌, IfErr, IfOk, List, ℕ, Some, [], codes, false, map, option_map, string_bytes, unwrap_or};
-ghost use Rattle.clap.specs.Words.{all_of, app_of, found_of, kind_of, one_of, first_of, rows_of, rule_of, subcommand_of, subcommand_rows_of};
+ghost use Rattle.std.specs.Prelude.{◌≡◌, ◌≤◌, IfErr, IfOk, List, MatchOption, ℕ, Some, [], codes, false, map, option_map, string_bytes, true, unwrap_or};
+ghost use Rattle.clap.specs.Words.{all_of, app_of, found_of, kind_of, one_of, first_of, rows_of, rule_of, subcommand_of, subcommand_rows_of, takes};
 ghost use Rattle.clap.specs.declared.builder.command.Command.TheViews.{out-Command};
-ghost use Rattle.pfd_words.specs.Words.{IsPlainRun, plain_run, HasHistory, IsAsked, MaySayNumber, SaysNumber, disk_rule, history_rule, size_rule, listen_rule, workers_rule, sessions_rule, idle_rule, mode_rule, peers_rule, ask_rule, run_words, format_words, show_words, place_words, server_words, bounded_words, limited_words, serve_words, connect_words, program_words};
+ghost use Rattle.pfd_words.specs.Words.{IsPlainRun, plain_run, HasHistory, IsAsked, IsMode, IsNoMode, IsRefused, IsRefusedMode, MaySayNumber, SaysMode, SaysNumber, disk_rule, history_rule, size_rule, listen_rule, workers_rule, sessions_rule, idle_rule, mode_rule, peers_rule, ask_rule, run_words, format_words, show_words, place_words, server_words, bounded_words, limited_words, asking_words, serve_words, connect_words, program_words};
 
 use clap::error::ErrorKind;
 use clap::{Arg, ArgAction, ArgMatches, Command, Error, value_parser};
@@ -28,6 +28,12 @@ const MOST_SESSIONS: usize = 4_294_967_295;
 
 const MOST_SECONDS: usize = 4_294_967_295;
 
+// The mode of a socket's file to which only its owner may connect. Definitions cite it.
+const OWNER_MODE: u32 = 0o600;
+
+// The greatest mode of a socket's file. Definitions cite it.
+const MOST_MODE: u32 = 0o777;
+
 /// The program's version, which `pfd --version` writes after its name.
 const VERSION: &str = "0.1.0";
 
@@ -40,8 +46,12 @@ pub struct Service<'a> {
     pub peers: Vec<&'a str>,
     /// Further addresses, at which sessions may ask and change nothing.
     pub askers: Vec<&'a str>,
-    /// The mode of the files of Unix sockets among them, in octal, as it was typed: it may not be one.
-    pub mode: &'a str,
+    /// The mode of the files of Unix sockets among `addresses`, 0 to 0777.
+    pub mode: u32,
+    /// The same among `peers`.
+    pub peers_mode: u32,
+    /// The same among `askers`.
+    pub ask_mode: u32,
     /// The path of the file that is the disk.
     pub path: &'a str,
     /// How many bytes the file must have, any number up to 4,294,967,295.
@@ -155,13 +165,12 @@ fn ask<'a>(alloc: Global) -> Arg<'a>
         .help("A further address, at which clients may ask and change nothing; may be said again")
 }
 
-fn mode<'a>(alloc: Global) -> Arg<'a>
-    ensures rule { rule_of result ≡ mode_rule }
+// The mode of sockets, by the option of this name.
+fn mode<'a>(alloc: Global, name: &'a str) -> Arg<'a>
+    ensures rule { rule_of result ≡ mode_rule name.entry.now }
     ensures local { result.global ≡ false }
 {
-    Arg::new(alloc, "mode").long("mode").value_name("MODE").help(
-        "The mode of a Unix socket's file, in octal [default: 0600]",
-    )
+    Arg::new(alloc, name).long(name).value_name("MODE")
 }
 
 fn workers<'a>(alloc: Global) -> Arg<'a>
@@ -232,14 +241,14 @@ fn show_words<'a>(alloc: Global) -> Result<Command<'a>, AllocError>
         .arg(disk(alloc).required(true))
 }
 
-// The options of `serve`, added two at a time by the next five functions.
+// The options of `serve`, added two at a time by the next six functions.
 
 fn place_words<'a>(alloc: Global) -> Result<Command<'a>, AllocError>
     ensures app { IfOk result (λ c. app_of c ≡ place_words) }
     ensures local { IfOk result (λ c. (out-Command c).has_globals ≡ false) }
 {
     Command::new(alloc, "serve")
-        .about("Answers the lines of TCP connections over the disk on a file")
+        .about("Answers the lines of connections over the disk on a file")
         .arg(listen(alloc).required(true))?
         .arg(disk(alloc).required(true))
 }
@@ -266,14 +275,26 @@ fn limited_words<'a>(alloc: Global) -> Result<Command<'a>, AllocError>
     ensures app { IfOk result (λ c. app_of c ≡ limited_words) }
     ensures local { IfOk result (λ c. (out-Command c).has_globals ≡ false) }
 {
-    bounded_words(alloc)?.arg(idle(alloc))?.arg(mode(alloc))
+    let mode = mode(alloc, "mode").help(
+        "The mode of the files of --listen's Unix sockets, in octal [default: 0600]",
+    );
+    bounded_words(alloc)?.arg(idle(alloc))?.arg(mode)
+}
+
+fn asking_words<'a>(alloc: Global) -> Result<Command<'a>, AllocError>
+    ensures app { IfOk result (λ c. app_of c ≡ asking_words) }
+    ensures local { IfOk result (λ c. (out-Command c).has_globals ≡ false) }
+{
+    let mode = mode(alloc, "ask-mode").help("The same of --ask's");
+    limited_words(alloc)?.arg(ask(alloc))?.arg(mode)
 }
 
 fn serve_words<'a>(alloc: Global) -> Result<Command<'a>, AllocError>
     ensures app { IfOk result (λ c. app_of c ≡ serve_words) }
     ensures local { IfOk result (λ c. (out-Command c).has_globals ≡ false) }
 {
-    limited_words(alloc)?.arg(peers(alloc))?.arg(ask(alloc))
+    let mode = mode(alloc, "peers-mode").help("The same of --peers'");
+    asking_words(alloc)?.arg(peers(alloc))?.arg(mode)
 }
 
 fn connect_words<'a>(alloc: Global) -> Result<Command<'a>, AllocError>
@@ -283,7 +304,7 @@ fn connect_words<'a>(alloc: Global) -> Result<Command<'a>, AllocError>
     let address = Arg::new(alloc, "address")
         .value_name("ADDR")
         .required(true)
-        .help("The server's address and port, as serve prints it");
+        .help("The server's address, as serve prints it");
     Command::new(alloc, "connect")
         .about("Sends standard input to a server, and its replies to standard output")
         .arg(address)
@@ -304,23 +325,27 @@ fn program_words<'a>(alloc: Global) -> Result<Command<'a>, AllocError>
 }
 
 /// Reads a command line, which begins with the program's own name. The error has the text for the user: help, the version, what is wrong
-/// with the words, or that memory ran out. The word `run` alone is refused only when out of memory.
+/// with the words, or that memory ran out. The word `run` alone is refused only when out of memory; words that clap takes are refused at a
+/// mode, too, that isn't octal digits or is above 0777.
 pub fn read_words<'a>(alloc: Global, words: &'a [String]) -> Result<Task<'a>, Error>
     ensures asked { IfOk result (λ task. IsAsked (subcommand_of program_words (map string_bytes words.entry.now)) task) }
     ensures history { IfOk result HasHistory }
     ensures run { IsPlainRun (map string_bytes words.entry.now) → IfErr result (λ e. kind_of e ≡ ErrorKind.OutOfMemory) }
     ensures alone { IsPlainRun (map string_bytes words.entry.now) → IfOk result (λ task. task ≡ plain_run) }
+    ensures refused { takes program_words (map string_bytes words.entry.now) ≡ true →
+        IfErr result (λ e. IsRefused (subcommand_of program_words (map string_bytes words.entry.now)) (kind_of e)) }
 {
     match program_words(alloc)?.try_get_matches_from(words) {
-        Ok(matches) => Ok(task_of(alloc, &matches)?),
+        Ok(matches) => task_of(alloc, &matches),
         Err(error) => Err(error),
     }
 }
 
 // The task of the subcommand that clap found. There always is one, with its required options. Only the addresses of `serve` take memory.
-fn task_of<'a>(alloc: Global, matches: &ArgMatches<'a>) -> Result<Task<'a>, AllocError>
+fn task_of<'a>(alloc: Global, matches: &ArgMatches<'a>) -> Result<Task<'a>, Error>
     ensures asked { IfOk result (λ task. IsAsked (subcommand_rows_of matches.now) task) }
     ensures history { IfOk result HasHistory }
+    ensures refused { IfErr result (λ e. IsRefused (subcommand_rows_of matches.now) (kind_of e)) }
 {
     match matches.subcommand() {
         Some(("format", found)) => Ok(Task::Format {
@@ -362,20 +387,26 @@ fn session_in<'a>(found: &ArgMatches<'a>) -> Task<'a>
 }
 
 // The task of `serve`.
-fn server_in<'a>(alloc: Global, found: &ArgMatches<'a>) -> Result<Task<'a>, AllocError>
+fn server_in<'a>(alloc: Global, found: &ArgMatches<'a>) -> Result<Task<'a>, Error>
     ensures asked { IfOk result (λ task. IsAsked (Some (codes "serve", rows_of (found_of found.now))) task) }
     ensures history { IfOk result HasHistory }
+    ensures refused { IfErr result (λ e. IsRefused (Some (codes "serve", rows_of (found_of found.now))) (kind_of e)) }
 {
     let addresses = texts_in(alloc, found, "listen")?;
     let peers = texts_in(alloc, found, "peers")?;
     let askers = texts_in(alloc, found, "ask")?;
+    let mode = mode_in(alloc, found, "mode")?;
+    let ask_mode = mode_in(alloc, found, "ask-mode")?;
+    let peers_mode = mode_in(alloc, found, "peers-mode")?;
     let sessions = number_in(found, "sessions", 0).min(MOST_SESSIONS);
     let idle = number_in(found, "idle", 0).min(MOST_SECONDS);
     Ok(Task::Serve(Service {
         addresses,
         peers,
         askers,
-        mode: mode_in(found),
+        mode,
+        peers_mode,
+        ask_mode,
         path: text_in(found, "disk"),
         size: number_in(found, "size", 0),
         workers: number_in(found, "workers", WORKERS).clamp(1, MOST_WORKERS),
@@ -399,11 +430,43 @@ fn texts_in<'a>(
     }
 }
 
-// The mode that is said, or the one by which only the owner may connect.
-fn mode_in<'a>(found: &ArgMatches<'a>) -> &'a str
-    ensures { result.now ≡ unwrap_or (first_of (codes "mode") (rows_of (found_of found.now))) (codes "0600") }
+// The mode that an option of `serve` says, or without it the one by which only the owner may connect.
+fn mode_in(alloc: Global, found: &ArgMatches<'_>, option: &str) -> Result<u32, Error>
+    ensures mode { IfOk result (λ mode. SaysMode option.now (Some (codes "serve", rows_of (found_of found.now))) mode) }
+    ensures refused { IfErr result (λ e. IsRefusedMode option.now (Some (codes "serve", rows_of (found_of found.now))) (kind_of e)) }
 {
-    found.get_str("mode").unwrap_or("0600")
+    let Some(text) = found.get_str(option) else {
+        return Ok(OWNER_MODE);
+    };
+    match mode_of(text) {
+        Some(mode) => Ok(mode),
+        None => Err(wrong_mode(alloc, option, text)?),
+    }
+}
+
+// The mode that a text says, if it says one.
+fn mode_of(text: &str) -> Option<u32>
+    ensures { MatchOption result (IsNoMode text.now) (λ mode. IsMode text.now mode) }
+{
+    // a number may begin with a plus
+    if text.starts_with('+') {
+        return None;
+    }
+    match u32::from_str_radix(text, 8) {
+        Ok(mode) if mode <= MOST_MODE => Some(mode),
+        _ => None,
+    }
+}
+
+// The error for an option's text that is no mode.
+fn wrong_mode(alloc: Global, option: &str, text: &str) -> Result<Error, AllocError>
+    ensures { IfOk result (λ e. kind_of e ≡ ErrorKind.ValueValidation) }
+{
+    let message = format!(in alloc;
+        "invalid value '{text}' for '--{option} <MODE>': a mode is 0 to 0777, in octal digits"
+    )?;
+    let mut command = serve_words(alloc)?.bin_name("pfd serve")?;
+    command.error(ErrorKind::ValueValidation, message.as_str())
 }
 
 // The text of an option that must be there.

@@ -12,7 +12,7 @@ use crate::fullness::notice::Notice;
 use crate::fullness::watched::Watched;
 use crate::listener::serve_listener;
 use crate::program::ended::told;
-use crate::socket_file::listen_at;
+use crate::socket_file::{SocketFile, listen_at};
 use crate::stream::is_path;
 use pf_addr::write_more;
 use pf_book::book::Book;
@@ -23,7 +23,7 @@ use pf_view::{ViewFault, views};
 use pfd_files::{Fault, open_file};
 use pfd_words::Service;
 use std::alloc::Global;
-use std::fs::{self, File, Files};
+use std::fs::{File, Files};
 use std::io::{self, Write};
 use std::marker::Brand;
 use std::net::{Net, TcpListener, TcpStream};
@@ -109,7 +109,7 @@ fn serve_opening<
         &notice,
         faults,
     );
-    remove_sockets(files, &listening.names);
+    remove_sockets(files, &listening.sockets);
     told(served)
 }
 
@@ -189,96 +189,120 @@ fn serve_and_say<
     served
 }
 
-// What is listened on: the listeners, and what each address is called.
+// What is listened on: the listeners, what each address is called, and the files of the Unix sockets among them.
 #[derive(Drop)]
-struct Listening {
+struct Listening<'a> {
     doors: Doors,
     names: Vec<String>,
+    sockets: Vec<SocketFile<'a>>,
 }
 
 // Listens on all addresses, and writes which ones it got. If it can't, no file of a socket stays that it made.
-fn open_doors<N: Net<Listener = TcpListener, Stream = TcpStream>, S: Files<File = File>, W: Write>(
+fn open_doors<
+    'a,
+    N: Net<Listener = TcpListener, Stream = TcpStream>,
+    S: Files<File = File>,
+    W: Write,
+>(
     net: &N,
     alloc: Global,
     files: &S,
-    service: &Service<'_>,
+    service: &Service<'a>,
     writer: &mut W,
-) -> Result<Listening, Fault>
+) -> Result<Listening<'a>, Fault>
     ensures { (bounds : List (List ℕ)) × Writes result (W.contents writer.old) (W.contents writer.new) (flat_map listening_text bounds) }
 {
     let all = listen_to_all(net, alloc, files, service)?;
     match tell_all(writer, all.names.as_slice()) {
         Ok(()) => Ok(all),
         Err(_) => {
-            remove_sockets(files, &all.names);
+            remove_sockets(files, &all.sockets);
             Err(Fault::Output)
         }
     }
 }
 
 // Listens on all addresses. Clients can connect then.
-fn listen_to_all<N: Net<Listener = TcpListener, Stream = TcpStream>, S: Files<File = File>>(
+fn listen_to_all<'a, N: Net<Listener = TcpListener, Stream = TcpStream>, S: Files<File = File>>(
     net: &N,
     alloc: Global,
     files: &S,
-    service: &Service<'_>,
-) -> Result<Listening, Fault> {
+    service: &Service<'a>,
+) -> Result<Listening<'a>, Fault> {
     let mut all = Listening {
-        doors: Doors::new(alloc, service.idle),
+        doors: Doors::new(alloc, service.idle, service.workers),
         names: Vec::new(alloc),
+        sockets: Vec::new(alloc),
     };
     match listen_to_kinds(net, alloc, files, service, &mut all) {
         Ok(()) => Ok(all),
         Err(fault) => {
-            remove_sockets(files, &all.names);
+            remove_sockets(files, &all.sockets);
             Err(fault)
         }
     }
 }
 
 // Listens on the addresses of each kind.
-fn listen_to_kinds<N: Net<Listener = TcpListener, Stream = TcpStream>, S: Files<File = File>>(
+fn listen_to_kinds<'a, N: Net<Listener = TcpListener, Stream = TcpStream>, S: Files<File = File>>(
     net: &N,
     alloc: Global,
     files: &S,
-    service: &Service<'_>,
-    all: &mut Listening,
+    service: &Service<'a>,
+    all: &mut Listening<'a>,
 ) -> Result<(), Fault> {
-    let Some(mode) = mode_of(service.mode) else {
-        return Err(Fault::Input);
-    };
     let admits = if service.peers.is_empty() {
         Admits::Both
     } else {
         Admits::Sessions
     };
-    listen_to_each(net, alloc, files, &service.addresses, admits, mode, all)?;
+    listen_to_each(
+        net,
+        alloc,
+        files,
+        &service.addresses,
+        admits,
+        service.mode,
+        all,
+    )?;
     listen_to_each(
         net,
         alloc,
         files,
         &service.askers,
         Admits::Questions,
-        mode,
+        service.ask_mode,
         all,
     )?;
-    listen_to_each(net, alloc, files, &service.peers, Admits::Peers, mode, all)
+    listen_to_each(
+        net,
+        alloc,
+        files,
+        &service.peers,
+        Admits::Peers,
+        service.peers_mode,
+        all,
+    )
 }
 
-// Listens on these addresses, whose connections may be this.
-fn listen_to_each<N: Net<Listener = TcpListener, Stream = TcpStream>, S: Files<File = File>>(
+// Listens on these addresses, whose connections may be this. The files of sockets among them get this mode.
+fn listen_to_each<'a, N: Net<Listener = TcpListener, Stream = TcpStream>, S: Files<File = File>>(
     net: &N,
     alloc: Global,
     files: &S,
-    addresses: &[&str],
+    addresses: &[&'a str],
     admits: Admits,
     mode: u32,
-    all: &mut Listening,
+    all: &mut Listening<'a>,
 ) -> Result<(), Fault> {
     for address in addresses {
-        let (listener, name) = listen(net, alloc, files, address, mode)?;
+        let address = *address;
+        let (listener, name) = if is_path(address) {
+            listen_unix(net, alloc, files, address, mode, &mut all.sockets)?
+        } else {
+            listen_tcp(net, alloc, address)?
+        };
         if all.names.push(name).is_err() {
-            remove_socket(files, address);
             return Err(Fault::Memory);
         }
         all.doors.open(listener, admits)?;
@@ -286,31 +310,36 @@ fn listen_to_each<N: Net<Listener = TcpListener, Stream = TcpStream>, S: Files<F
     Ok(())
 }
 
-// The mode that is said in octal, if it says who may read, write and search, and no more.
-fn mode_of(text: &str) -> Option<u32> {
-    match u32::from_str_radix(text, 8) {
-        Ok(mode) if mode <= 0o777 => Some(mode),
-        _ => None,
-    }
-}
-
-// Listens on an address, or on a Unix socket at a path: the listener, and what its address is called.
-fn listen<N: Net<Listener = TcpListener, Stream = TcpStream>, S: Files<File = File>>(
+// Listens on a Unix socket at a path, whose file is noted: the listener, and the path.
+fn listen_unix<'a, N: Net<Listener = TcpListener, Stream = TcpStream>, S: Files<File = File>>(
     net: &N,
     alloc: Global,
     files: &S,
-    address: &str,
+    path: &'a str,
     mode: u32,
+    sockets: &mut Vec<SocketFile<'a>>,
 ) -> Result<(Listener, String), Fault> {
-    if is_path(address) {
-        let Ok(name) = String::from_str(alloc, address) else {
-            return Err(Fault::Memory);
-        };
-        return match listen_at(net, files, address, mode) {
-            Ok(listener) => Ok((Listener::Unix(listener), name)),
-            Err(_) => Err(Fault::Input),
-        };
+    let Ok(name) = String::from_str(alloc, path) else {
+        return Err(Fault::Memory);
+    };
+    let Ok((listener, file)) = listen_at(net, files, path, mode) else {
+        return Err(Fault::Input);
+    };
+    match sockets.push(file) {
+        Ok(()) => Ok((Listener::Unix(listener), name)),
+        Err(failed) => {
+            failed.value.remove(files);
+            Err(Fault::Memory)
+        }
     }
+}
+
+// Listens on an address: the listener, and what its address is called.
+fn listen_tcp<N: Net<Listener = TcpListener, Stream = TcpStream>>(
+    net: &N,
+    alloc: Global,
+    address: &str,
+) -> Result<(Listener, String), Fault> {
     let Ok(listener) = TcpListener::bind(net, address) else {
         return Err(Fault::Input);
     };
@@ -323,17 +352,10 @@ fn listen<N: Net<Listener = TcpListener, Stream = TcpStream>, S: Files<File = Fi
     }
 }
 
-// Removes the file of a socket at this address, if it is a path. One that can't be removed is found by the next server.
-fn remove_socket<S: Files<File = File>>(files: &S, address: &str) {
-    if is_path(address) {
-        let _ = fs::remove_file(files, address);
-    }
-}
-
-// Removes the files of the server's sockets, by what their addresses are called.
-fn remove_sockets<S: Files<File = File>>(files: &S, names: &[String]) {
-    for name in names {
-        remove_socket(files, name);
+// Removes the files of the server's sockets.
+fn remove_sockets<S: Files<File = File>>(files: &S, sockets: &[SocketFile<'_>]) {
+    for socket in sockets {
+        socket.remove(files);
     }
 }
 
