@@ -84,7 +84,7 @@ first-words [] = refl
 first-words (b ∷ bs) = by (is_blank b) refl (first-words bs) where
   by : (blank : Bool) → is_blank b ≡ blank → first_of (words_of bs) ≡ cut (skipped bs)
       → first_of (filter (λ w. nat_lt 0 (length w)) (cond blank ([] ∷ slice_split is_blank bs) (onto_first b (slice_split is_blank bs))))
-          ≡ cut (cond blank (skipped bs) (b ∷ bs))
+      ≡ cut (cond blank (skipped bs) (b ∷ bs))
   by true is rest = rest
   by false is rest = first-kept b (slice_split is_blank bs) ∙ ap (λ (w : List ℕ). b ∷ w) (first-split bs)
       ∙ sym (ap (λ (blank : Bool). cond blank [] (b ∷ cut bs)) is)

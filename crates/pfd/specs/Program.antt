@@ -111,8 +111,11 @@ abbrev pub listening_text : List ℕ → List ℕ
 listening_text address = codes "listening " ++ (address ++ 10 ∷ [])
 
 -- These addresses are listened on, and a line is written for each.
+abbrev pub HasListened : {A : Type 0} → Result A Fault → Option (List ℕ) → Option (List ℕ) → Type 0
+HasListened result held held' = (bounds : List (List ℕ)) × Writes result held held' (flat_map listening_text bounds)
+
 abbrev pub IsListening : Result (Unit {0}) Fault → Option (List ℕ) → Option (List ℕ) → Type 0
-IsListening result held held' = (bounds : List (List ℕ)) × Writes result held held' (flat_map listening_text bounds)
+IsListening result held held' = HasListened result held held'
 
 -- What was asked was done. Lines are read only for a session and to be sent to a server; formatting a disk writes nothing, and a server
 -- writes where it listens. The functions count the faults of disks in memory, give what a disk on a file reads as, and count the faults

@@ -17,5 +17,6 @@
 mod words;
 
 pub use words::{
-    HISTORY_LIMIT, MEMORY_SIZE, MOST_HISTORY, MOST_WORKERS, Service, Task, WORKERS, read_words,
+    HISTORY_LIMIT, Limits, MEMORY_SIZE, MOST_HISTORY, MOST_RENEWAL, MOST_WORKERS, RENEWAL, Service,
+    Task, WORKERS, read_words,
 };
