@@ -3,10 +3,15 @@ use crate::fullness::gauge::Gauge;
 use crate::fullness::notice::Notice;
 use crate::renewal::Renewal;
 use pf_book::{Front, Naming, Publisher, Shower, Token};
-use pf_core::{Change, Durable};
-use pf_store::group_length;
+use pf_anchor::ruleset_length;
+use pf_core::{Change, ChangeKind, Durable, Item};
 use std::alloc::AllocError;
 use std::sync::{Arc, Mutex, Wait};
+
+// How many bytes an entry takes where it is kept, and a step of the states at most.
+const ENTRY_LEN: u64 = 20;
+
+const STEP_LEN: u64 = 96;
 
 /// A shower that takes note of what is kept with each change that it is offered, leaves a notice if it is to be said how full the disk is,
 /// and counts the changes of the opening, which may have a renewal come due. That costs a change some sums, and it waits for no writer.
@@ -45,12 +50,40 @@ impl Age {
     }
 }
 
-// How many bytes the record of these changes has.
+// How many bytes these changes take where they are kept, but for what surrounds them.
 fn bytes_of(changes: &[Arc<Change>]) -> u64 {
-    match group_length(changes) {
-        Some(bytes) => bytes as u64,
-        None => u64::MAX,
+    let mut bytes: u64 = 0;
+    for change in changes {
+        bytes = bytes.saturating_add(bytes_in(change));
     }
+    bytes
+}
+
+fn bytes_in(change: &Change) -> u64 {
+    match change.kind() {
+        ChangeKind::Commit(items) => bytes_of_items(items),
+        ChangeKind::Add { entries, .. }
+        | ChangeKind::Delete { entries, .. }
+        | ChangeKind::Set { entries, .. } => of_each(entries.as_slice().len(), ENTRY_LEN),
+        ChangeKind::States(steps) => of_each(steps.as_slice().len(), STEP_LEN),
+        ChangeKind::Remove(_) | ChangeKind::Expire(_) => 0,
+    }
+}
+
+fn bytes_of_items(items: &[Item]) -> u64 {
+    let mut bytes: u64 = 0;
+    for item in items {
+        let more = match item {
+            Item::Rules(placed) => u64::from(ruleset_length(placed)),
+            Item::Tables { tables, .. } => of_each(tables.len(), ENTRY_LEN),
+        };
+        bytes = bytes.saturating_add(more);
+    }
+    bytes
+}
+
+fn of_each(count: usize, length: u64) -> u64 {
+    (count as u64).saturating_mul(length)
 }
 
 impl<J: Naming, R: Wait + Copy + Drop> Publisher<J> for Watched<'_, J, R> {
