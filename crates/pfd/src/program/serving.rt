@@ -1,24 +1,25 @@
 //! The program's server. No clause can say what it listens on and serves, so this is only tested.
-ghost use Rattle.std.specs.Prelude.{◌≡◌, ◌+◌, IfOk, OnOk, flat_map, length, string_bytes, vec_len};
+ghost use Rattle.std.specs.Prelude.{◌≡◌, ◌≢◌, ◌+◌, IfOk, None, OnOk, flat_map, length, string_bytes, vec_len};
 ghost use Rattle.pf_addr.specs.Writing.{Writes};
 ghost use Rattle.pf_book.specs.{Books.{IsNamed, world_book}, Receipts.IsReached};
 ghost use Rattle.pfd_words.specs.Words.{CanServe};
-ghost use Rattle.pfd.specs.Program.{IsListening, address_count, listening_text};
+ghost use Rattle.pfd.specs.Program.{Announces, IsListening, address_count, left_to_announce, listening_text};
 
 use crate::admitting::Admits;
 use crate::door::{Doors, Listener};
 use crate::fullness::gauge::{Gauge, tell_fullness};
 use crate::fullness::notice::Notice;
-use crate::fullness::watched::Watched;
-use crate::listener::serve_listener;
+use crate::fullness::watched::{Age, Watched};
+use crate::listener::{Reception, serve_until};
 use crate::program::ended::told;
+use crate::renewal::Renewal;
 use crate::socket_file::{SocketFile, listen_at};
 use crate::stream::is_path;
 use pf_addr::write_more;
 use pf_book::book::Book;
 use pf_book::shared::Shared;
 use pf_book::{Chapter, Disk, NewCalls, Numbering, Opening, Publisher, Seer};
-use pf_session::{EngineFault, OpenGate};
+use pf_session::{EngineFault, OpenGate, renew};
 use pf_view::{ViewFault, views};
 use pfd_files::{Fault, open_file};
 use pfd_words::Service;
@@ -27,15 +28,42 @@ use std::fs::{File, Files};
 use std::io::{self, Write};
 use std::marker::Brand;
 use std::net::{Net, TcpListener, TcpStream};
-use std::sync::Wait;
+use std::sync::{Mutex, Wait};
 use std::thread;
 use std::thread::Threads;
 
 // A Book that is watched for how full its disk gets.
 type WatchedBook<'a, D, J, N> = Book<D, J, Watched<'a, J, &'a N>>;
 
+// What goes from one opening to the next.
+#[derive(Drop)]
+struct House<'a> {
+    reception: Reception,
+    renewal: Renewal,
+    gauge: Mutex<Gauge>,
+    // none before the first opening
+    listening: Option<Listening<'a>>,
+}
+
+impl<'a> House<'a> {
+    fn new(alloc: Global, service: &Service<'a>) -> Result<House<'a>, Fault>
+        ensures { IfOk result (λ house. house.listening ≡ None) }
+    {
+        let Ok(reception) = Reception::new(alloc, service.sessions, service.workers) else {
+            return Err(Fault::Memory);
+        };
+        Ok(House {
+            reception,
+            renewal: Renewal::new(service.renewal),
+            gauge: Mutex::new(Gauge::new(service.size as u64 / 2)),
+            listening: None,
+        })
+    }
+}
+
 /// Serves connections over the disk that lies on a file. Faults are found in this order: of the file, of the disk, of the address, of the
-/// writer, and at last one of the listener. How full the disk is goes to `faults`, from a thread of its own once clients are served.
+/// writer, and at last one of the listener, or of an opening that renews the history. How full the disk is goes to `faults`, from a thread of
+/// its own once clients are served.
 pub(crate) fn serve_file<
     N: Wait + Threads + Net<Listener = TcpListener, Stream = TcpStream> + Sync,
     S: Files<File = File>,
@@ -54,18 +82,80 @@ pub(crate) fn serve_file<
 {
     let disk = open_file(alloc, files, service.path, Some(service.size))?;
     match Opening::open(alloc, disk) {
-        Ok(opening) => {
-            let calls = NewCalls::open();
-            serve_opening::<Brand, _, _, _, _, _>(
-                machine, alloc, files, opening, calls, service, writer, faults,
-            )
-        }
+        Ok(opening) => serve_house(machine, alloc, files, opening, service, writer, faults),
         Err((fault, _disk)) => Err(Fault::from(fault)),
     }
 }
 
-// The same over what was opened.
+// The same over what was opened first.
+fn serve_house<
+    D: Disk + Drop + Send,
+    N: Wait + Threads + Net<Listener = TcpListener, Stream = TcpStream> + Sync,
+    S: Files<File = File>,
+    W: Write,
+    F: Write + Send,
+>(
+    machine: &N,
+    alloc: Global,
+    files: &S,
+    opening: Opening<D>,
+    service: &Service<'_>,
+    writer: &mut W,
+    faults: &mut F,
+) -> Result<(), Fault>
+    requires { CanServe service.now }
+    ensures { IsListening service.now result (W.contents writer.old) (W.contents writer.new) }
+{
+    let mut house = House::new(alloc, service)?;
+    let served = serve_openings(
+        machine, alloc, files, opening, service, &mut house, writer, faults,
+    );
+    if let Some(listening) = &house.listening {
+        remove_sockets(files, &listening.sockets);
+    }
+    served
+}
+
+// Serves in one opening after the other.
+fn serve_openings<
+    'a,
+    D: Disk + Drop + Send,
+    N: Wait + Threads + Net<Listener = TcpListener, Stream = TcpStream> + Sync,
+    S: Files<File = File>,
+    W: Write,
+    F: Write + Send,
+>(
+    machine: &N,
+    alloc: Global,
+    files: &S,
+    first: Opening<D>,
+    service: &Service<'a>,
+    house: &mut House<'a>,
+    writer: &mut W,
+    faults: &mut F,
+) -> Result<(), Fault>
+    requires service { CanServe service.now }
+    requires new { house.old.listening ≡ None }
+    ensures { IsListening service.now result (W.contents writer.old) (W.contents writer.new) }
+{
+    let mut opening = first;
+    for _ in machine.forever() {
+        let calls = NewCalls::open();
+        let renewed = serve_opening::<Brand, _, _, _, _, _>(
+            machine, alloc, files, opening, calls, service, house, writer, faults,
+        )?;
+        match renewed {
+            Some(next) => opening = next,
+            None => return Ok(()),
+        }
+    }
+    unreachable!()
+}
+
+// Serves in one opening, until its history is to be renewed, and opens the disk again; or until no more is to be served: then there is no
+// further opening. In the first one it listens, once there is a Book.
 fn serve_opening<
+    'a,
     J: Chapter + Numbering + Send + Sync,
     D: Disk + Drop + Send,
     N: Wait + Threads + Net<Listener = TcpListener, Stream = TcpStream> + Sync,
@@ -78,49 +168,92 @@ fn serve_opening<
     files: &S,
     opening: Opening<D>,
     calls: NewCalls,
-    service: &Service<'_>,
+    service: &Service<'a>,
+    house: &mut House<'a>,
     writer: &mut W,
     faults: &mut F,
-) -> Result<(), Fault>
+) -> Result<Option<Opening<D>>, Fault>
     requires service { CanServe service.now }
     requires name { IsNamed J.base J.history J.setting opening service.now.history }
     requires calls { calls ≡ J.register }
-    ensures { IsListening service.now result (W.contents writer.old) (W.contents writer.new) }
+    ensures written { Announces (left_to_announce service.now house.old.listening) result (W.contents writer.old) (W.contents writer.new) }
+    ensures listens { OnOk result (house.new.listening ≢ None) }
 {
-    let mut gauge = Gauge::new(service.size as u64 / 2);
-    tell_fullness(&mut gauge, opening.durable(), faults);
+    house.renewal.begin();
+    tell_fullness(&mut *house.gauge.lock(machine), opening.durable(), faults);
     let Ok(notice) = Notice::new(alloc) else {
         return Err(Fault::Memory);
     };
-    let watched = watch::<J, _, _>(machine, alloc, opening, service, gauge, &notice);
+    let watched = watch::<J, _, _>(
+        machine,
+        alloc,
+        opening,
+        service,
+        &house.gauge,
+        &notice,
+        &house.renewal,
+    );
     let (book, seers) = match watched {
         Ok(made) => made,
         Err(fault) => return Err(fault),
     };
     let shared = Shared::new(book, calls);
-    let listening = open_doors(machine, alloc, files, service, writer)?;
+    if house.listening.is_none() {
+        house.listening = Some(open_doors(machine, alloc, files, service, writer)?);
+    }
+    let Some(listening) = &house.listening else {
+        unreachable!()
+    };
     let served = serve_and_say(
         machine,
         alloc,
         &listening.doors,
+        &house.reception,
         &shared,
         seers,
-        service.sessions,
+        &house.renewal,
         &notice,
         faults,
     );
-    remove_sockets(files, &listening.sockets);
-    told(served)
+    go_further(machine, alloc, shared, served, &house.reception)
 }
 
-// A Book over what was opened, which leaves a notice of how full its disk gets, and its seers.
+// The next opening, if a connection paused or may come.
+fn go_further<J: Chapter + Numbering, D: Disk + Drop, S: Publisher<J> + Drop, M: Wait>(
+    rt: &M,
+    alloc: Global,
+    shared: Shared<D, J, S>,
+    served: Result<Vec<Seer<J>>, EngineFault>,
+    reception: &Reception,
+) -> Result<Option<Opening<D>>, Fault> {
+    let seers = match served {
+        Ok(seers) => seers,
+        Err(fault) => {
+            told(Err(fault))?;
+            return Ok(None);
+        }
+    };
+    if reception.goes_on(rt) {
+        return match renew(alloc, shared.close(), &seers) {
+            Ok(opening) => Ok(Some(opening)),
+            Err((fault, _disk)) => Err(Fault::from(fault)),
+        };
+    }
+    if reception.has_failed(rt) {
+        return Err(Fault::Input);
+    }
+    Ok(None)
+}
+
+// A Book over what was opened, which leaves a notice of how full its disk gets and has a renewal come due, and its seers.
 fn watch<'a, J: Chapter, D: Disk + Drop, N: Wait>(
     machine: &'a N,
     alloc: Global,
     opening: Opening<D>,
     service: &Service<'_>,
-    gauge: Gauge,
+    gauge: &'a Mutex<Gauge>,
     notice: &'a Notice,
+    renewal: &'a Renewal,
 ) -> Result<(WatchedBook<'a, D, J, N>, Vec<Seer<J>>), Fault>
     requires service { CanServe service.now }
     requires name { IsNamed J.base J.history J.setting opening service.now.history }
@@ -145,6 +278,8 @@ fn watch<'a, J: Chapter, D: Disk + Drop, N: Wait>(
         shower,
         gauge,
         notice,
+        renewal,
+        age: Age::NONE,
     };
     match Book::over(alloc, named, service.history, watched) {
         Ok(book) => Ok((book, seers)),
@@ -160,7 +295,8 @@ fn unshown(fault: ViewFault) -> Fault {
     }
 }
 
-// Serves connections, while a thread of its own says how full the disk gets. Where no such thread can be made, that is said at the end.
+// Serves connections until a pause or to their end, while a thread of its own says how full the disk gets. Where no such thread can be made,
+// that is said at the end. It gives the seers back.
 fn serve_and_say<
     M: Wait + Threads + Sync,
     D: Disk + Drop + Send,
@@ -171,17 +307,20 @@ fn serve_and_say<
     rt: &M,
     alloc: Global,
     doors: &Doors,
+    reception: &Reception,
     shared: &Shared<D, J, S>,
     seers: Vec<Seer<J>>,
-    sessions: u32,
+    renewal: &Renewal,
     notice: &Notice,
     faults: &mut F,
-) -> Result<(), EngineFault> {
+) -> Result<Vec<Seer<J>>, EngineFault> {
     let (_, served) = thread::join(
         rt,
         || notice.say_all(rt, faults),
         || {
-            let served = serve_listener(rt, alloc, doors, shared, seers, &OpenGate, sessions);
+            let served = serve_until(
+                rt, alloc, doors, reception, shared, seers, &OpenGate, renewal,
+            );
             notice.end(rt);
             served
         },
@@ -232,7 +371,12 @@ fn listen_to_all<'a, N: Net<Listener = TcpListener, Stream = TcpStream>, S: File
     ensures { IfOk result (λ all. vec_len all.names ≡ address_count service.now) }
 {
     let mut all = Listening {
-        doors: Doors::new(alloc, service.idle, service.workers),
+        doors: Doors::new(
+            alloc,
+            service.idle,
+            service.workers,
+            service.renewal.is_some(),
+        ),
         names: Vec::new(alloc),
         sockets: Vec::new(alloc),
     };

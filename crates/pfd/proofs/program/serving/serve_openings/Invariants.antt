@@ -1,0 +1,20 @@
+use Rattle.std.proofs.Common.{ℕ, List}
+use Rattle.std.specs.{Prelude.flat_map, Io.KnownBytes.Appends}
+use Rattle.pf_book.specs.Books.{setting_of}
+use Rattle.pfd.specs.Program.{listening_text}
+use Rattle.pfd.proofs.program.serving.serve_openings.Given as goal
+
+-- each opening is named by what it gave, its history, and what it keeps within
+abbrev pub ghosts-serve_opening-J-Naming : goal.ghosts-serve_opening-J-Naming
+ghosts-serve_opening-J-Naming g a = record { base = a.opening.given; history = a.opening.history }
+
+abbrev pub ghosts-serve_opening-J-Chapter : goal.ghosts-serve_opening-J-Chapter
+ghosts-serve_opening-J-Chapter g a = record { setting = setting_of a.opening a.service.now.history }
+
+abbrev pub ghosts-serve_opening-J-Numbering : goal.ghosts-serve_opening-J-Numbering
+ghosts-serve_opening-J-Numbering g a = record { register = a.calls }
+
+-- the addresses that were said so far
+abbrev pub invariant-loop : goal.invariant-loop
+invariant-loop g l = ((goal.iterator-loop g).can_next l.iterator' × (goal.iterator-loop g).is_finite l.iterator')
+    × ((bounds : List (List ℕ)) × Appends (g.W.Write.contents l.fn.writer) (g.W.Write.contents l.writer) (flat_map listening_text bounds))
