@@ -1,6 +1,8 @@
 //! A connection that is served, whatever opening it is in. No clause can say what a socket gives and takes, so this is only tested.
+ghost use Rattle.std.specs.Prelude.{◌≡◌, IfOk};
 ghost use Rattle.pf_addr.specs.Writing.{Writes};
 ghost use Rattle.pf_session.specs.Server.Askings.{denied_text};
+ghost use Rattle.pfd.specs.Connections.{BeginsAs, IsServedFrom};
 
 use crate::admitting::{Way, way_of};
 use crate::patience::Patience;
@@ -21,7 +23,7 @@ const MOST_DROPPED: usize = 64;
 
 /// How far a connection has come.
 #[derive(Drop)]
-enum Stage {
+pub(crate) enum Stage {
     /// Nothing came yet.
     Silent,
     /// It is a session.
@@ -84,12 +86,16 @@ impl Connection {
         gate: &G,
         pause: &P,
     ) -> Result<LeftOff, EngineFault> {
+        // what it was given before comes first: one that doesn't read has no more done
+        if self.send_rest(pause)? == LeftOff::Paused {
+            return Ok(LeftOff::Paused);
+        }
         if let Stage::Silent = self.stage {
             if self.begin(alloc, pause)? == LeftOff::Paused {
                 return Ok(LeftOff::Paused);
             }
         }
-        if self.serve_stage(rt, alloc, shared, seer, gate, pause)? == LeftOff::Paused {
+        if self.go_on(rt, alloc, shared, seer, gate, pause)? == LeftOff::Paused {
             return Ok(LeftOff::Paused);
         }
         self.end(pause)
@@ -135,36 +141,27 @@ impl Connection {
 
     // Settles what it is, by its first byte. One that isn't admitted is told so.
     fn settle<P: Pause>(&mut self, alloc: Global, first: u8, pause: &P) -> Result<(), EngineFault> {
-        let stage = match way_of(self.arrival.admits, first) {
-            Way::Session => match LineSession::new(alloc, self.number) {
-                Ok(session) => Stage::Session(session),
-                Err(AllocError) => return Err(EngineFault::Memory),
-            },
-            Way::Asking => match LineSession::new(alloc, self.number) {
-                Ok(session) => Stage::Asking(session),
-                Err(AllocError) => return Err(EngineFault::Memory),
-            },
-            Way::Stream => match PeerStream::new(alloc) {
-                Ok(stream) => Stage::Peer(stream),
-                Err(AllocError) => return Err(EngineFault::Memory),
-            },
-            Way::Denied => {
-                let mut writer = Outgoing {
-                    stream: &self.arrival.stream,
-                    unsent: &mut self.unsent,
-                    patience: self.arrival.patience,
-                    pause,
-                };
-                turn_away(&mut writer)?;
-                Stage::Leaving(MOST_DROPPED)
+        let way = way_of(self.arrival.admits, first);
+        if way == Way::Denied {
+            let mut writer = Outgoing {
+                stream: &self.arrival.stream,
+                unsent: &mut self.unsent,
+                patience: self.arrival.patience,
+                pause,
+            };
+            turn_away(&mut writer)?;
+        }
+        match stage_of(alloc, way, self.number) {
+            Ok(stage) => {
+                self.stage = stage;
+                Ok(())
             }
-        };
-        self.stage = stage;
-        Ok(())
+            Err(AllocError) => Err(EngineFault::Memory),
+        }
     }
 
     // Serves what it is, until a pause or its reader's end.
-    fn serve_stage<
+    fn go_on<
         W: Wait,
         D: Disk + Drop,
         J: Chapter + Numbering,
@@ -192,40 +189,17 @@ impl Connection {
             patience: self.arrival.patience,
             pause,
         };
-        match &mut self.stage {
-            Stage::Session(session) => go_on(
-                rt,
-                alloc,
-                session,
-                &mut reader,
-                &mut writer,
-                shared,
-                seer,
-                gate,
-                pause,
-            ),
-            Stage::Asking(session) => go_on_asking(
-                rt,
-                alloc,
-                session,
-                &mut reader,
-                &mut writer,
-                shared,
-                seer,
-                gate,
-                pause,
-            ),
-            Stage::Peer(stream) => go_on_peer(
-                rt,
-                alloc,
-                stream,
-                &mut reader,
-                &mut writer,
-                shared,
-                pause,
-            ),
-            Stage::Silent | Stage::Leaving(_) | Stage::Over => Ok(LeftOff::Ended),
-        }
+        serve_stage(
+            rt,
+            alloc,
+            &mut self.stage,
+            &mut reader,
+            &mut writer,
+            shared,
+            seer,
+            gate,
+            pause,
+        )
     }
 
     // Ends it: what it was given is sent, and of a peer's stream, or of what was denied, what still comes is dropped.
@@ -292,6 +266,54 @@ impl Connection {
             }
         }
         Ok(LeftOff::Ended)
+    }
+}
+
+// How a connection begins that is served so, with the number of its session.
+fn stage_of(alloc: Global, way: Way, number: u32) -> Result<Stage, AllocError>
+    ensures { IfOk result (λ stage. BeginsAs way number stage) }
+{
+    match way {
+        Way::Session => Ok(Stage::Session(LineSession::new(alloc, number)?)),
+        Way::Asking => Ok(Stage::Asking(LineSession::new(alloc, number)?)),
+        Way::Stream => Ok(Stage::Peer(PeerStream::new(alloc)?)),
+        Way::Denied => Ok(Stage::Leaving(MOST_DROPPED)),
+    }
+}
+
+// Serves what a connection sends, from where it is until a pause or its reader's end.
+fn serve_stage<
+    W: Wait,
+    D: Disk + Drop,
+    J: Chapter + Numbering,
+    S: Publisher<J> + Drop,
+    G: Gate,
+    P: Pause,
+    R: Read,
+    O: Write,
+>(
+    rt: &W,
+    alloc: Global,
+    stage: &mut Stage,
+    reader: &mut R,
+    writer: &mut O,
+    shared: &Shared<D, J, S>,
+    seer: &mut Seer<J>,
+    gate: &G,
+    pause: &P,
+) -> Result<LeftOff, EngineFault>
+    ensures { IsServedFrom stage.old stage.new (G.passed gate.now) J.base J.setting result (R.remaining reader.old) (R.remaining reader.new)
+        seer.old seer.new (O.contents writer.old) (O.contents writer.new) }
+{
+    match stage {
+        Stage::Session(session) => go_on(
+            rt, alloc, session, reader, writer, shared, seer, gate, pause,
+        ),
+        Stage::Asking(session) => go_on_asking(
+            rt, alloc, session, reader, writer, shared, seer, gate, pause,
+        ),
+        Stage::Peer(stream) => go_on_peer(rt, alloc, stream, reader, writer, shared, pause),
+        Stage::Silent | Stage::Leaving(_) | Stage::Over => Ok(LeftOff::Ended),
     }
 }
 

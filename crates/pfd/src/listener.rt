@@ -226,11 +226,12 @@ fn work_all<
 /// ended; with 0 it never does.
 ///
 /// A worker serves one connection at a time; further ones wait until a worker is free. Sessions are numbered from 1 in the order in which
-/// their connections were accepted, and the number stays at 4,294,967,295 once it has come so far. A connection whose first byte is 5 is
-/// a peer's stream, as in [`go_on_peer`](pf_session::go_on_peer), any other a session, as in [`go_on`](pf_session::go_on) or, where it may only ask, in [`go_on_asking`](pf_session::go_on_asking). One that
-/// isn't admitted where it came is told `err denied`, and closed. What ends one before its client does, as a reset or a lack of memory,
-/// ends it alone. What a peer sends after a fault of its stream, or one that was denied, is dropped before its connection is closed, in at
-/// most 64 reads of 16,384 bytes, and until nothing comes for a second, so that it can read of its fault.
+/// their connections were accepted, and the number stays at 4,294,967,295 once it has come so far. A connection whose first byte is 5 is a
+/// peer's stream, as in [`go_on_peer`](pf_session::go_on_peer), any other a session, as in [`go_on`](pf_session::go_on) or, where it may
+/// only ask, in [`go_on_asking`](pf_session::go_on_asking). One that isn't admitted where it came is told `err denied`, and closed. What
+/// ends one before its client does, as a reset or a lack of memory, ends it alone. What a peer sends after a fault of its stream, or one
+/// that was denied, is dropped before its connection is closed, in at most 64 reads of 16,384 bytes, and until nothing comes for a second,
+/// so that it can read of its fault.
 ///
 /// Each worker has a thread, if the system gives it one; workers without one begin when others have ended.
 ///

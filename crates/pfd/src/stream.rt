@@ -165,7 +165,7 @@ pub(crate) struct Incoming<'a, P: Pause> {
     pub(crate) pause: &'a P,
 }
 
-/// What a connection is given. Where it takes nothing and a pause is due, what is written is kept, and no write waits.
+/// What a connection is given. Where a pause is due, what is written is kept, and a flush waits once.
 #[derive(Drop)]
 pub(crate) struct Outgoing<'a, P: Pause> {
     pub(crate) stream: &'a Stream,
@@ -268,18 +268,18 @@ impl<P: Pause> Read for Incoming<'_, P> {
 }
 
 impl<P: Pause> Outgoing<'_, P> {
-    // Sends some of what is kept. Returns whether the connection took some of it.
-    fn send_some(&mut self) -> io::Result<bool> {
+    // Sends some of what is kept, if the connection takes it.
+    fn send_some(&mut self) -> io::Result<()> {
         match self.stream.send(&self.unsent.bytes[self.unsent.taken..]) {
             Ok(0) => Err(io::Error::from(ErrorKind::WriteZero)),
             Ok(n) => {
                 self.unsent.taken += n;
                 self.unsent.silent = 0;
-                Ok(true)
+                Ok(())
             }
             Err(error) => {
                 if error.kind() == ErrorKind::Interrupted {
-                    return Ok(true);
+                    return Ok(());
                 }
                 if !has_waited(&error) {
                     return Err(error);
@@ -288,21 +288,24 @@ impl<P: Pause> Outgoing<'_, P> {
                 if self.patience.is_over(self.unsent.silent) {
                     return Err(error);
                 }
-                Ok(false)
+                Ok(())
             }
         }
     }
 
-    // Sends what is kept, or as much as is taken until a pause is due.
+    // Sends what is kept. Where a pause is due it tries once: a connection that takes little at a time doesn't hold a pause up.
     fn send(&mut self) -> io::Result<()> {
+        let mut has_tried = false;
         for _ in 0..u64::MAX {
             if self.unsent.bytes.len() <= self.unsent.taken {
                 self.unsent.clear_taken();
                 return Ok(());
             }
-            if !self.send_some()? && self.pause.is_due() {
+            if has_tried && self.pause.is_due() {
                 return Ok(());
             }
+            self.send_some()?;
+            has_tried = true;
         }
         Err(io::Error::from(ErrorKind::Other))
     }
@@ -310,7 +313,7 @@ impl<P: Pause> Outgoing<'_, P> {
 
 impl<P: Pause> Write for Outgoing<'_, P> {
     fn write(&mut self, buf: &[u8]) -> io::Result<usize> {
-        if KEPT < self.unsent.bytes.len().saturating_add(buf.len()) {
+        if KEPT < self.unsent.bytes.len().saturating_add(buf.len()) && !self.pause.is_due() {
             self.send()?;
         }
         match self.unsent.bytes.extend_from_slice(buf) {

@@ -198,9 +198,7 @@ fn serve_opening<
         Err(fault) => return Err(fault),
     };
     let shared = Shared::new(book, calls);
-    if house.listening.is_none() {
-        house.listening = Some(open_doors(machine, alloc, files, service, writer)?);
-    }
+    listen_once(machine, alloc, files, service, &mut house.listening, writer)?;
     let Some(listening) = &house.listening else {
         unreachable!()
     };
@@ -334,6 +332,35 @@ struct Listening<'a> {
     doors: Doors,
     names: Vec<String>,
     sockets: Vec<SocketFile<'a>>,
+}
+
+// Listens, if it isn't listened yet.
+fn listen_once<
+    'a,
+    N: Net<Listener = TcpListener, Stream = TcpStream>,
+    S: Files<File = File>,
+    W: Write,
+>(
+    net: &N,
+    alloc: Global,
+    files: &S,
+    service: &Service<'a>,
+    listening: &mut Option<Listening<'a>>,
+    writer: &mut W,
+) -> Result<(), Fault>
+    ensures written { Announces (left_to_announce service.now listening.old) result (W.contents writer.old) (W.contents writer.new) }
+    ensures listens { OnOk result (listening.new ≢ None) }
+{
+    if listening.is_some() {
+        return Ok(());
+    }
+    match open_doors(net, alloc, files, service, writer) {
+        Ok(opened) => {
+            *listening = Some(opened);
+            Ok(())
+        }
+        Err(fault) => Err(fault),
+    }
 }
 
 // Listens on all addresses, and writes which ones it got. If it can't, no file of a socket stays that it made.

@@ -6,22 +6,25 @@ use Rattle.pfd.specs.Program.{listening_text}
 use Rattle.pfd.proofs.Listening.{where_ok}
 use Rattle.pfd.proofs.program.serving.serve_opening.Goals as goal
 
-pub returns-in_default : goal.returns-in_default
-returns-in_default g c = let held = g.W.Write.contents c.args.writer.now in ([], whole_front held held [] (appends_none held), tt)
+pub returns-in_default-clause-written : goal.returns-in_default-clause-written
+returns-in_default-clause-written g c = let held = g.W.Write.contents c.args.writer.now in ([], whole_front held held [] (appends_none held), tt)
 
-pub returns-in-Err : goal.returns-in-Err
-returns-in-Err g c = let held = g.W.Write.contents c.args.writer.now in ([], whole_front held held [] (appends_none held), tt)
+pub returns-in-Err-clause-written : goal.returns-in-Err-clause-written
+returns-in-Err-clause-written g c = let held = g.W.Write.contents c.args.writer.now in ([], whole_front held held [] (appends_none held), tt)
 
-pub returns-in_err-listening : goal.returns-in_err-listening
-returns-in_err-listening g c =
-    let (bounds, front, none) = c.in_err-listening.ensures in
+pub returns-in_err-listen_once-clause-written : goal.returns-in_err-listen_once-clause-written
+returns-in_err-listen_once-clause-written g c =
+    let (bounds, front, none) = c.in_err-listen_once.ensures.written in
     let (e, failed, same) = err_from_is_err_and c.from_residual.result c.from_residual.ensures.1 in
     (bounds, rw failed front, rw failed tt)
 
-pub returns : goal.returns
-returns g c =
-    let (bounds, out, each) = c.in_ok-listening.ensures in (
+pub returns-clause-written : goal.returns-clause-written
+returns-clause-written g c =
+    let (bounds, out, each) = c.in_ok-listen_once.ensures.written in (
       bounds,
-      whole_writes c.told.result (g.W.Write.contents c.args.writer.now) (g.W.Write.contents c.open_doors.new.writer) (flat_map listening_text bounds) out,
-      where_ok c.told.result _ each,
+      whole_writes c.go_further.result (g.W.Write.contents c.args.writer.now) (g.W.Write.contents c.listen_once.new.writer) (flat_map listening_text bounds) out,
+      where_ok c.go_further.result _ each,
     )
+
+pub returns-clause-listens : goal.returns-clause-listens
+returns-clause-listens g c = where_ok c.go_further.result _ c.in_ok-listen_once.ensures.listens

@@ -1,7 +1,6 @@
 use Rattle.std.proofs.Common.{ℕ, List}
-use Rattle.std.specs.{Prelude.flat_map, Io.KnownBytes.Appends}
 use Rattle.pf_book.specs.Books.{setting_of}
-use Rattle.pfd.specs.Program.{listening_text}
+use Rattle.pfd.proofs.Listening.{HasAnnounced}
 use Rattle.pfd.proofs.program.serving.serve_openings.Given as goal
 
 -- each opening is named by what it gave, its history, and what it keeps within
@@ -14,7 +13,7 @@ ghosts-serve_opening-J-Chapter g a = record { setting = setting_of a.opening a.s
 abbrev pub ghosts-serve_opening-J-Numbering : goal.ghosts-serve_opening-J-Numbering
 ghosts-serve_opening-J-Numbering g a = record { register = a.calls }
 
--- the addresses that were said so far
+-- the addresses that were said so far, and those that are left
 abbrev pub invariant-loop : goal.invariant-loop
 invariant-loop g l = ((goal.iterator-loop g).can_next l.iterator' × (goal.iterator-loop g).is_finite l.iterator')
-    × ((bounds : List (List ℕ)) × Appends (g.W.Write.contents l.fn.writer) (g.W.Write.contents l.writer) (flat_map listening_text bounds))
+    × HasAnnounced l.service.now l.house.listening (g.W.Write.contents l.fn.writer) (g.W.Write.contents l.writer)
