@@ -2,7 +2,7 @@
 ghost use Rattle.std.specs.Prelude.{◌≡◌, ◌≤◌, IfErr, IfOk, List, MatchOption, ℕ, Some, [], codes, false, map, option_map, string_bytes, true, unwrap_or};
 ghost use Rattle.clap.specs.Words.{app_of, found_of, kind_of, one_of, first_of, rows_of, rule_of, subcommand_of, subcommand_rows_of, takes};
 ghost use Rattle.clap.specs.declared.builder.command.Command.TheViews.{out-Command};
-ghost use Rattle.pfd_words.specs.Words.{IsPlainRun, plain_run, HasHistory, IsAsked, IsMode, IsNoMode, IsRefused, IsRefusedMode, MaySayNumber, SaysLimits, SaysMode, SaysNumber, disk_rule, history_rule, size_rule, listen_rule, workers_rule, sessions_rule, idle_rule, mode_rule, peers_rule, ask_rule, renew_rule, renew_bytes_rule, run_words, format_words, show_words, place_words, server_words, bounded_words, renewed_words, limited_words, asking_words, serve_words, connect_words, engine_words, to_rule, retry_rule, placed_words, load_words, AsksLoad, reading_words, program_words};
+ghost use Rattle.pfd_words.specs.Words.{IsPlainRun, plain_run, HasHistory, IsAsked, IsHistory, IsMode, IsNoMode, IsRefused, IsRefusedMode, MaySayNumber, SaysLimits, SaysMode, SaysNumber, disk_rule, history_rule, size_rule, listen_rule, workers_rule, sessions_rule, idle_rule, mode_rule, peers_rule, ask_rule, renew_rule, renew_bytes_rule, run_words, format_words, show_words, place_words, server_words, bounded_words, renewed_words, limited_words, asking_words, serve_words, connect_words, engine_words, to_rule, retry_rule, placed_words, load_words, AsksLoad, reading_words, program_words};
 
 use crate::conf::{
     ConfTask, check_words, conf_words, cover_words, coverage_in, explain_words, matches_in,
@@ -574,7 +574,8 @@ fn server_in<'a>(alloc: Global, found: &ArgMatches<'a>) -> Result<Task<'a>, Erro
 
 // How many changes the history may have, and when it is renewed: never, if it is said how many there may be.
 fn limits_in(found: &ArgMatches<'_>) -> (usize, Option<Limits>)
-    ensures { SaysLimits (Some (codes "serve", rows_of (found_of found.now))) result.0 result.1 }
+    ensures says { SaysLimits (Some (codes "serve", rows_of (found_of found.now))) result.0 result.1 }
+    ensures history { IsHistory result.0 }
 {
     if let Some(history) = number_if_any(found, "history") {
         return (history.clamp(1, MOST_HISTORY), None);
