@@ -1,10 +1,8 @@
 -- The lines that tell where a server listens.
-use Rattle.std.proofs.Common.{◌≡◌, ℕ, ◌+◌, List, [], ◌∷◌, ◌++◌, length, arith, Option, Some, None, Result, Ok, Err, map, refl, ap}
-use Rattle.std.proofs.lemmas.{List.length-append, List.Concat.flat_map-append}
+use Rattle.std.proofs.Common.{◌≡◌, ℕ, ◌+◌, List, [], ◌∷◌, ◌++◌, length, Option, Some, None, Result, Ok, Err, map, refl, ap}
 use Rattle.std.specs.{Prelude.{◌≢◌, OnOk, flat_map}, Io.KnownBytes.Appends}
-use Rattle.pf_addr.specs.Writing.{Writes, Writes-then}
 use Rattle.pfd_words.specs.declared.words.Service.{Service}
-use Rattle.pfd.specs.Program.{Announces, address_count, left_to_announce, listening_text}
+use Rattle.pfd.specs.Program.{address_count, left_to_announce, listening_text}
 
 -- a text for each of these is one for each of what they are called
 pub texts-mapped : {A B C : Type 0} (text : B → List C) (called : A → B) (xs : List A) → flat_map (λ x. text (called x)) xs ≡ flat_map text (map called xs)
@@ -20,18 +18,6 @@ where_ok (Err e) P holds = tt
 abbrev pub HasAnnounced : {A : Type 0} → Service → Option A → Option (List ℕ) → Option (List ℕ) → Type 0
 HasAnnounced service listening held held' =
     (bounds : List (List ℕ)) × Appends held held' (flat_map listening_text bounds) × (length bounds + left_to_announce service listening ≡ address_count service)
-
--- further lines behind those
-pub announces_more : {A E : Type 0} (r : Result A E) (old mid new : Option (List ℕ)) (left total : ℕ) (bounds more : List (List ℕ))
-    → Appends old mid (flat_map listening_text bounds) → length bounds + left ≡ total
-    → Writes r mid new (flat_map listening_text more) → OnOk r (length more ≡ left)
-    → Writes r old new (flat_map listening_text (bounds ++ more)) × OnOk r (length (bounds ++ more) ≡ total)
-announces_more {E = E} (Ok x) old mid new left total bounds more said count out each = (
-  rw (flat_map-append listening_text bounds more) (Writes-then {E = E} (Ok x) old mid new _ _ said out),
-  omega (arith, length-append bounds more, count, each),
-)
-announces_more {A = A} (Err e) old mid new left total bounds more said count out each =
-    (rw (flat_map-append listening_text bounds more) (Writes-then {A = A} (Err e) old mid new _ _ said out), tt)
 
 -- where it is listened, nothing is left to be said
 pub none_left : {A : Type 0} (service : Service) (listening : Option A) → listening ≢ None → left_to_announce service listening ≡ 0
