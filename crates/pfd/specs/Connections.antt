@@ -28,11 +28,11 @@ abbrev pub IsServedFrom : Stage → Stage → (ℕ → ℕ → Type 0) → Plain
 IsServedFrom (Session old) stage passed base setting result unread still_unread known known' held held' =
     (new : LineSession) × (stage ≡ Session new) × (new.number ≡ old.number) × (last : Option PlainReceipt)
     × ((begun : List ℕ) → HasBegun old.intake begun → IsSharedPart (passed old.number) base setting result (begun ++ old.intake.ahead) new.intake
-        unread still_unread old.line new.line None last known known' held held')
+    unread still_unread old.line new.line None last known known' held held')
 IsServedFrom (Asking old) stage passed base setting result unread still_unread known known' held held' =
     (new : LineSession) × (stage ≡ Asking new) × (new.number ≡ old.number) × (last : Option PlainReceipt)
     × ((begun : List ℕ) → HasBegun old.intake begun → IsAskingPart (passed old.number) base setting result (begun ++ old.intake.ahead) new.intake
-        unread still_unread old.line new.line None last known known' held held')
+    unread still_unread old.line new.line None last known known' held held')
 IsServedFrom (Peer old) stage passed base setting result unread still_unread known known' held held' =
     (known' ≡ known) × ((new : Option (List ℕ)) × (stage ≡ Peer new)
     × (GoesOn old → (last : Option PlainReceipt) × IsStreamPart (Takes base setting) old result new unread still_unread None last held held'))

@@ -114,19 +114,10 @@ listening_text address = codes "listening " ++ (address ++ 10 ∷ [])
 abbrev pub address_count : Service → ℕ
 address_count service = vec_len service.addresses + vec_len service.askers + vec_len service.peers
 
--- A line is written for each address that is listened on. Where all goes well they are so many.
-abbrev pub Announces : {A : Type 0} → ℕ → Result A Fault → Option (List ℕ) → Option (List ℕ) → Type 0
-Announces count result held held' =
-    (bounds : List (List ℕ)) × Writes result held held' (flat_map listening_text bounds) × OnOk result (length bounds ≡ count)
-
--- the same for all that the words say
+-- These addresses are listened on, and a line is written for each. Where all goes well they are as many as the words say.
 abbrev pub IsListening : {A : Type 0} → Service → Result A Fault → Option (List ℕ) → Option (List ℕ) → Type 0
-IsListening service result held held' = Announces (address_count service) result held held'
-
--- how many lines there are to be written: none if it is listened already
-abbrev pub left_to_announce : {A : Type 0} → Service → Option A → ℕ
-left_to_announce service None = address_count service
-left_to_announce service (Some listening) = 0
+IsListening service result held held' =
+    (bounds : List (List ℕ)) × Writes result held held' (flat_map listening_text bounds) × OnOk result (length bounds ≡ address_count service)
 
 -- What was asked was done. Lines are read only for a session and to be sent to a server; formatting a disk writes nothing, and a server
 -- writes where it listens. What is asked of a pf.conf is answered as pfd_conf says, and one is loaded as pf_load says. The functions count the faults of disks in memory, give

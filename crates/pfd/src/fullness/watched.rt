@@ -2,8 +2,8 @@
 use crate::fullness::gauge::Gauge;
 use crate::fullness::notice::Notice;
 use crate::renewal::Renewal;
-use pf_book::{Front, Naming, Publisher, Shower, Token};
 use pf_anchor::ruleset_length;
+use pf_book::{Front, Naming, Publisher, Shower, Token};
 use pf_core::{Change, ChangeKind, Durable, Item};
 use std::alloc::AllocError;
 use std::sync::{Arc, Mutex, Wait};

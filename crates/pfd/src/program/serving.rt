@@ -1,9 +1,9 @@
 //! The program's server. No clause can say what it listens on and serves, so this is only tested.
-ghost use Rattle.std.specs.Prelude.{◌≡◌, ◌≢◌, ◌+◌, IfOk, None, OnOk, flat_map, length, string_bytes, vec_len};
+ghost use Rattle.std.specs.Prelude.{◌≡◌, ◌+◌, IfOk, OnOk, flat_map, length, string_bytes, vec_len};
 ghost use Rattle.pf_addr.specs.Writing.{Writes};
 ghost use Rattle.pf_book.specs.{Books.{IsNamed, world_book}, Receipts.IsReached};
 ghost use Rattle.pfd_words.specs.Words.{CanServe};
-ghost use Rattle.pfd.specs.Program.{Announces, IsListening, address_count, left_to_announce, listening_text};
+ghost use Rattle.pfd.specs.Program.{IsListening, address_count, listening_text};
 
 use crate::admitting::Admits;
 use crate::door::{Doors, Listener};
@@ -23,7 +23,7 @@ use pf_session::{EngineFault, OpenGate, renew};
 use pf_view::{ViewFault, views};
 use pfd_files::{Fault, open_file};
 use pfd_words::Service;
-use std::alloc::Global;
+use std::alloc::{AllocError, Global};
 use std::fs::{File, Files};
 use std::io::{self, Write};
 use std::marker::Brand;
@@ -37,26 +37,21 @@ type WatchedBook<'a, D, J, N> = Book<D, J, Watched<'a, J, &'a N>>;
 
 // What goes from one opening to the next.
 #[derive(Drop)]
-struct House<'a> {
+struct House {
     reception: Reception,
     renewal: Renewal,
     gauge: Mutex<Gauge>,
-    // none before the first opening
-    listening: Option<Listening<'a>>,
+    notice: Notice,
 }
 
-impl<'a> House<'a> {
-    fn new(alloc: Global, service: &Service<'a>) -> Result<House<'a>, Fault>
-        ensures { IfOk result (λ house. house.listening ≡ None) }
-    {
-        let Ok(reception) = Reception::new(alloc, service.sessions, service.workers) else {
-            return Err(Fault::Memory);
-        };
+impl House {
+    // With the gauge of the disk.
+    fn new(alloc: Global, service: &Service<'_>, gauge: Gauge) -> Result<House, AllocError> {
         Ok(House {
-            reception,
+            reception: Reception::new(alloc, service.sessions, service.workers)?,
             renewal: Renewal::new(service.renewal),
-            gauge: Mutex::new(Gauge::new(service.size as u64 / 2)),
-            listening: None,
+            gauge: Mutex::new(gauge),
+            notice: Notice::new(alloc)?,
         })
     }
 }
@@ -106,45 +101,68 @@ fn serve_house<
     requires { CanServe service.now }
     ensures { IsListening service.now result (W.contents writer.old) (W.contents writer.new) }
 {
-    let mut house = House::new(alloc, service)?;
-    let served = serve_openings(
-        machine, alloc, files, opening, service, &mut house, writer, faults,
+    let mut gauge = Gauge::new(service.size as u64 / 2);
+    tell_fullness(&mut gauge, opening.durable(), faults);
+    let Ok(house) = House::new(alloc, service, gauge) else {
+        return Err(Fault::Memory);
+    };
+    let listening = open_doors(machine, alloc, files, service, writer)?;
+    let served = serve_and_say(
+        machine,
+        alloc,
+        opening,
+        service,
+        &listening.doors,
+        &house,
+        faults,
     );
-    if let Some(listening) = &house.listening {
-        remove_sockets(files, &listening.sockets);
-    }
+    remove_sockets(files, &listening.sockets);
+    served
+}
+
+// Serves connections, while a thread of its own says how full the disk gets: no change and no renewal waits for what reads that. Where no such
+// thread can be made, it is said at the end.
+fn serve_and_say<D: Disk + Drop + Send, N: Wait + Threads + Sync, F: Write + Send>(
+    machine: &N,
+    alloc: Global,
+    opening: Opening<D>,
+    service: &Service<'_>,
+    doors: &Doors,
+    house: &House,
+    faults: &mut F,
+) -> Result<(), Fault>
+    requires { CanServe service.now }
+{
+    let (_, served) = thread::join(
+        machine,
+        || house.notice.say_all(machine, faults),
+        || {
+            let served = serve_openings(machine, alloc, opening, service, doors, house);
+            house.notice.end(machine);
+            served
+        },
+    );
     served
 }
 
 // Serves in one opening after the other.
-fn serve_openings<
-    'a,
-    D: Disk + Drop + Send,
-    N: Wait + Threads + Net<Listener = TcpListener, Stream = TcpStream> + Sync,
-    S: Files<File = File>,
-    W: Write,
-    F: Write + Send,
->(
+fn serve_openings<D: Disk + Drop + Send, N: Wait + Threads + Sync>(
     machine: &N,
     alloc: Global,
-    files: &S,
     first: Opening<D>,
-    service: &Service<'a>,
-    house: &mut House<'a>,
-    writer: &mut W,
-    faults: &mut F,
+    service: &Service<'_>,
+    doors: &Doors,
+    house: &House,
 ) -> Result<(), Fault>
-    requires service { CanServe service.now }
-    requires new { house.old.listening ≡ None }
-    ensures { IsListening service.now result (W.contents writer.old) (W.contents writer.new) }
+    requires { CanServe service.now }
 {
     let mut opening = first;
     for _ in machine.forever() {
         let calls = NewCalls::open();
-        let renewed = serve_opening::<Brand, _, _, _, _, _>(
-            machine, alloc, files, opening, calls, service, house, writer, faults,
+        let next = serve_opening::<Brand, _, _>(
+            machine, alloc, opening, calls, service, doors, house,
         )?;
-        match renewed {
+        match next {
             Some(next) => opening = next,
             None => return Ok(()),
         }
@@ -153,65 +171,36 @@ fn serve_openings<
 }
 
 // Serves in one opening, until its history is to be renewed, and opens the disk again; or until no more is to be served: then there is no
-// further opening. In the first one it listens, once there is a Book.
+// further opening.
 fn serve_opening<
-    'a,
     J: Chapter + Numbering + Send + Sync,
     D: Disk + Drop + Send,
-    N: Wait + Threads + Net<Listener = TcpListener, Stream = TcpStream> + Sync,
-    S: Files<File = File>,
-    W: Write,
-    F: Write + Send,
+    N: Wait + Threads + Sync,
 >(
     machine: &N,
     alloc: Global,
-    files: &S,
     opening: Opening<D>,
     calls: NewCalls,
-    service: &Service<'a>,
-    house: &mut House<'a>,
-    writer: &mut W,
-    faults: &mut F,
+    service: &Service<'_>,
+    doors: &Doors,
+    house: &House,
 ) -> Result<Option<Opening<D>>, Fault>
     requires service { CanServe service.now }
     requires name { IsNamed J.base J.history J.setting opening service.now.history }
     requires calls { calls ≡ J.register }
-    ensures written { Announces (left_to_announce service.now house.old.listening) result (W.contents writer.old) (W.contents writer.new) }
-    ensures listens { OnOk result (house.new.listening ≢ None) }
 {
     house.renewal.begin();
-    tell_fullness(&mut *house.gauge.lock(machine), opening.durable(), faults);
-    let Ok(notice) = Notice::new(alloc) else {
-        return Err(Fault::Memory);
-    };
-    let watched = watch::<J, _, _>(
-        machine,
-        alloc,
-        opening,
-        service,
-        &house.gauge,
-        &notice,
-        &house.renewal,
-    );
-    let (book, seers) = match watched {
-        Ok(made) => made,
-        Err(fault) => return Err(fault),
-    };
+    let (book, seers) = watch::<J, _, _>(machine, alloc, opening, service, house)?;
     let shared = Shared::new(book, calls);
-    listen_once(machine, alloc, files, service, &mut house.listening, writer)?;
-    let Some(listening) = &house.listening else {
-        unreachable!()
-    };
-    let served = serve_and_say(
+    let served = serve_until(
         machine,
         alloc,
-        &listening.doors,
+        doors,
         &house.reception,
         &shared,
         seers,
+        &OpenGate,
         &house.renewal,
-        &notice,
-        faults,
     );
     go_further(machine, alloc, shared, served, &house.reception)
 }
@@ -249,9 +238,7 @@ fn watch<'a, J: Chapter, D: Disk + Drop, N: Wait>(
     alloc: Global,
     opening: Opening<D>,
     service: &Service<'_>,
-    gauge: &'a Mutex<Gauge>,
-    notice: &'a Notice,
-    renewal: &'a Renewal,
+    house: &'a House,
 ) -> Result<(WatchedBook<'a, D, J, N>, Vec<Seer<J>>), Fault>
     requires service { CanServe service.now }
     requires name { IsNamed J.base J.history J.setting opening service.now.history }
@@ -274,9 +261,9 @@ fn watch<'a, J: Chapter, D: Disk + Drop, N: Wait>(
     let watched = Watched {
         rt: machine,
         shower,
-        gauge,
-        notice,
-        renewal,
+        gauge: &house.gauge,
+        notice: &house.notice,
+        renewal: &house.renewal,
         age: Age::NONE,
     };
     match Book::over(alloc, named, service.history, watched) {
@@ -293,74 +280,12 @@ fn unshown(fault: ViewFault) -> Fault {
     }
 }
 
-// Serves connections until a pause or to their end, while a thread of its own says how full the disk gets. Where no such thread can be made,
-// that is said at the end. It gives the seers back.
-fn serve_and_say<
-    M: Wait + Threads + Sync,
-    D: Disk + Drop + Send,
-    J: Chapter + Numbering + Send + Sync,
-    S: Publisher<J> + Drop + Send,
-    F: Write + Send,
->(
-    rt: &M,
-    alloc: Global,
-    doors: &Doors,
-    reception: &Reception,
-    shared: &Shared<D, J, S>,
-    seers: Vec<Seer<J>>,
-    renewal: &Renewal,
-    notice: &Notice,
-    faults: &mut F,
-) -> Result<Vec<Seer<J>>, EngineFault> {
-    let (_, served) = thread::join(
-        rt,
-        || notice.say_all(rt, faults),
-        || {
-            let served = serve_until(
-                rt, alloc, doors, reception, shared, seers, &OpenGate, renewal,
-            );
-            notice.end(rt);
-            served
-        },
-    );
-    served
-}
-
 // What is listened on: the listeners, what each address is called, and the files of the Unix sockets among them.
 #[derive(Drop)]
 struct Listening<'a> {
     doors: Doors,
     names: Vec<String>,
     sockets: Vec<SocketFile<'a>>,
-}
-
-// Listens, if it isn't listened yet.
-fn listen_once<
-    'a,
-    N: Net<Listener = TcpListener, Stream = TcpStream>,
-    S: Files<File = File>,
-    W: Write,
->(
-    net: &N,
-    alloc: Global,
-    files: &S,
-    service: &Service<'a>,
-    listening: &mut Option<Listening<'a>>,
-    writer: &mut W,
-) -> Result<(), Fault>
-    ensures written { Announces (left_to_announce service.now listening.old) result (W.contents writer.old) (W.contents writer.new) }
-    ensures listens { OnOk result (listening.new ≢ None) }
-{
-    if listening.is_some() {
-        return Ok(());
-    }
-    match open_doors(net, alloc, files, service, writer) {
-        Ok(opened) => {
-            *listening = Some(opened);
-            Ok(())
-        }
-        Err(fault) => Err(fault),
-    }
 }
 
 // Listens on all addresses, and writes which ones it got. If it can't, no file of a socket stays that it made.

@@ -1,6 +1,4 @@
-use Rattle.std.proofs.Common.{ℕ, List}
 use Rattle.pf_book.specs.Books.{setting_of}
-use Rattle.pfd.proofs.Listening.{HasAnnounced}
 use Rattle.pfd.proofs.program.serving.serve_openings.Given as goal
 
 -- each opening is named by what it gave, its history, and what it keeps within
@@ -12,8 +10,3 @@ ghosts-serve_opening-J-Chapter g a = record { setting = setting_of a.opening a.s
 
 abbrev pub ghosts-serve_opening-J-Numbering : goal.ghosts-serve_opening-J-Numbering
 ghosts-serve_opening-J-Numbering g a = record { register = a.calls }
-
--- the addresses that were said so far, and those that are left
-abbrev pub invariant-loop : goal.invariant-loop
-invariant-loop g l = ((goal.iterator-loop g).can_next l.iterator' × (goal.iterator-loop g).is_finite l.iterator')
-    × HasAnnounced l.service.now l.house.listening (g.W.Write.contents l.fn.writer) (g.W.Write.contents l.writer)
