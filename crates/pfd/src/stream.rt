@@ -241,12 +241,12 @@ impl<P: Pause> Incoming<'_, P> {
                     if !has_waited(&error) {
                         return Err(error);
                     }
-                    if self.pause.is_due() {
-                        return Err(io::Error::from(ErrorKind::Interrupted));
-                    }
                     self.received.silent = self.received.silent.saturating_add(1);
                     if self.patience.is_over(self.received.silent) {
                         return Err(error);
+                    }
+                    if self.pause.is_due() {
+                        return Err(io::Error::from(ErrorKind::Interrupted));
                     }
                 }
             }
