@@ -125,6 +125,12 @@ module _ {S : Type 0} (Takes : List ℕ → S → S → List ℕ → Type 0) whe
     front = q.front;
   }
 
+  -- more bytes behind
+  pub failed-more : (more : List ℕ) {text : List ℕ} {a b : S} {h i : Option (List ℕ)} → Failed (Chain Takes) text a b h i → Failed (Chain Takes) (text ++ more) a b h i
+  failed-more more f =
+      let (others, rest, cut) = cut-more more f.cut in
+      record { lines = f.lines ++ others; rest = rest; cut = cut; cut_off = cut-longer others f.cut_off }
+
   pub answers-behind : {A E : Type 0} (r : Result A E) {xs : List (List ℕ)} (ys : List (List ℕ)) {a b : S} (c : S) {h i : Option (List ℕ)} (j : Option (List ℕ)) → Answered (Chain Takes) xs a b h i → Answers (Chain Takes) r ys b c i j → Answers (Chain Takes) r (xs ++ ys) a c h j
   answers-behind (Ok x) ys c j p q = answered-behind p q
   answers-behind (Err e) {xs} ys c j p q = cut-behind p q

@@ -2,7 +2,7 @@
 use Rattle.std.proofs.Common.{◌≡◌, ◌∙◌, ℕ, ◌++◌, Bool, true, false, List, [], ◌∷◌, Option, Some, None, Result, Ok, Err, inl, inr, refl, sym, ap, subst, append-nil}
 use Rattle.std.specs.Prelude.{if◌then◌else◌}
 use Rattle.pf_core.specs.declared.{command.Command.Command, command.Command.TheVariants.{Transact, Edit, States, Ask, History}, command.HistoryCommand.TheVariants.{Log, Publish}, command.Question.Question, reply.Answer.Answer as Told, reply.Refusal.Refusal, reply.Reply.Reply, reply.Reply.TheVariants.{Answer, Applied, Stored, Refused}}
-use Rattle.pf_core.specs.{Calls.call, Commands.answer_of, Durable.Changes.{PlainDurable, PlainChange}, Worlds.{CurrentOpening, Setting, Upshot, State, up, down, called, acked_by, due, durable_of, group_in, heard, is_fault, pending_by, shown_by, shown_by_answer, told_of_history, IsLegal, LegalCall, LegalReply, StandsIn}}
+use Rattle.pf_core.specs.{Calls.call, Commands.answer_of, Durable.Changes.{PlainDurable, PlainChange}, Worlds.{CurrentOpening, Setting, Upshot, State, down, called, acked_by, due, durable_of, group_in, heard, is_fault, pending_by, shown_by, shown_by_answer, told_of_history, IsLegal, LegalCall, LegalReply, StandsIn}}
 use Rattle.pf_core.proofs.{LongerWorlds.in-two, Showing.shows-nothing}
 use Rattle.pf_book.specs.Receipts.{PlainReceipt, IsAnswered}
 use Rattle.pf_session.specs.declared.server.asking.Asker.{Asker}

@@ -19,3 +19,6 @@ mod TakingOver
 pub mod Flushing
 pub mod JoinedCalls
 pub mod Asking
+pub mod Pausing
+pub mod GoingOn
+pub mod Renewed

@@ -8,7 +8,7 @@ use Rattle.pf_core.specs.{Durable.Changes.PlainDurable, Worlds.Setting}
 use Rattle.pf_book.specs.Receipts.{PlainReceipt}
 use Rattle.pf_session.specs.declared.{line_engine.fault.EngineFault.EngineFault, server.stream.Progress.Progress, server.stream.Progress.TheVariants.{On, Over}}
 use Rattle.pf_session.specs.declared.line_engine.fault.EngineFault.TheVariants as fault
-use Rattle.pf_session.specs.{LineEngine.Sessions.{Answered, CutOff}, Server.Streams.{ArePieces, GoesOn, IsPiece, IsStream, Part, Piece, RunsAll, RunsFed, RunsParts, StreamSoFar, Takes, TakesPart, TakesPiece, TellsEnd, TellsFault, end_text, messages_of, parts_in, told, told_text, wrong}}
+use Rattle.pf_session.specs.{LineEngine.Sessions.{Answered, CutOff}, Server.Streams.{ArePieces, GoesOn, IsPiece, IsStreamFrom, Part, Piece, RunsAll, RunsFed, RunsParts, StreamSoFar, Takes, TakesPart, TakesPiece, TellsEnd, TellsFault, end_text, messages_of, parts_in, told, told_text, wrong}}
 use Rattle.pf_session.proofs.Chains.{chain-one, chain-then}
 
 -- where bytes stay, the front of no text is written
@@ -141,22 +141,22 @@ bytes-more pieces p = flat_map-append (λ (q : Piece). q.bytes) pieces (p ∷ []
 module _ (base : PlainDurable) (setting : Setting) where
   -- ---- a stream so far
 
-  pub nothing-yet : (unread : Option (List ℕ)) (last : Option PlainReceipt) (held left : Option (List ℕ)) → left ≡ Some [] → StreamSoFar (Takes base setting) unread unread left last last held held
-  nothing-yet unread last held left is = record { pieces = []; are = is; going = ([], is); read = Consumes-nil unread; answered = none-answered base setting last held }
+  pub nothing-yet : (unread : Option (List ℕ)) (last : Option PlainReceipt) (held left : Option (List ℕ)) → GoesOn left → StreamSoFar (Takes base setting) left unread unread left last last held held
+  nothing-yet unread last held left goes = record { pieces = []; are = refl; going = goes; read = Consumes-nil unread; answered = none-answered base setting last held }
 
-  module _ {unread at left : Option (List ℕ)} {a b : Option PlainReceipt} {h i : Option (List ℕ)} (s : StreamSoFar (Takes base setting) unread at left a b h i) where
+  module _ {before unread at left : Option (List ℕ)} {a b : Option PlainReceipt} {h i : Option (List ℕ)} (s : StreamSoFar (Takes base setting) before unread at left a b h i) where
     -- a flush, or a read that was interrupted
-    pub flushed-so_far : (j : Option (List ℕ)) → Keeps i j → StreamSoFar (Takes base setting) unread at left a b h j
+    pub flushed-so_far : (j : Option (List ℕ)) → Keeps i j → StreamSoFar (Takes base setting) before unread at left a b h j
     flushed-so_far j keeps = record { pieces = s.pieces; are = s.are; going = s.going; read = s.read; answered = answered-kept base setting j keeps s.answered }
 
-    pub interrupted-so_far : (still : Option (List ℕ)) → Keeps at still → StreamSoFar (Takes base setting) unread still left a b h i
+    pub interrupted-so_far : (still : Option (List ℕ)) → Keeps at still → StreamSoFar (Takes base setting) before unread still left a b h i
     interrupted-so_far still keeps = record { pieces = s.pieces; are = s.are; going = s.going; read = Consumes-kept unread at still _ s.read keeps; answered = s.answered }
 
     -- no more comes
     nothing-more : (still : Option (List ℕ)) → Consumes at still [] → Consumes unread still (flat_map (λ (p : Piece). p.bytes) s.pieces ++ [])
     nothing-more still none = Consumes-trans unread at still (flat_map (λ (p : Piece). p.bytes) s.pieces) [] s.read none
 
-    pub flush-ends : (j : Option (List ℕ)) → Keeps i j → IsStream (Takes base setting) (Err fault.Write) unread at a b h j
+    pub flush-ends : (j : Option (List ℕ)) → Keeps i j → IsStreamFrom (Takes base setting) before (Err fault.Write) unread at a b h j
     flush-ends j keeps = record {
       pieces = s.pieces;
       left = left;
@@ -169,7 +169,7 @@ module _ (base : PlainDurable) (setting : Setting) where
       ends = inr (refl, inl (flush-cut base setting j (kept-front i j keeps) (none-answered base setting b i)));
     }
 
-    pub read-ends : (still : Option (List ℕ)) → Keeps at still → IsStream (Takes base setting) (Err fault.Read) unread still a b h i
+    pub read-ends : (still : Option (List ℕ)) → Keeps at still → IsStreamFrom (Takes base setting) before (Err fault.Read) unread still a b h i
     read-ends still keeps = record {
       pieces = s.pieces;
       left = left;
@@ -184,10 +184,10 @@ module _ (base : PlainDurable) (setting : Setting) where
 
     -- a piece with which it goes on
     pub on-so_far : (still : Option (List ℕ)) (bytes : List ℕ) (left' : Option (List ℕ)) (c : Option PlainReceipt) (j : Option (List ℕ)) → Consumes at still bytes → TakesPiece (Takes base setting) (Ok On) bytes left left' b c i j
-        → StreamSoFar (Takes base setting) unread still left' a c h j
+        → StreamSoFar (Takes base setting) before unread still left' a c h j
     on-so_far still bytes left' c j read (inl (p, of, is, (none, all))) = record {
       pieces = s.pieces ++ p ∷ [];
-      are = pieces-more s.pieces p (Some []) left left' s.are is;
+      are = pieces-more s.pieces p before left left' s.are is;
       going = goes-on left p left' none is;
       read = rw (bytes-more s.pieces p, of) (Consumes-trans unread at still (flat_map (λ (q : Piece). q.bytes) s.pieces) bytes s.read read);
       answered = rw (parts-more s.pieces p) (answered-then base setting s.answered all);
@@ -196,11 +196,11 @@ module _ (base : PlainDurable) (setting : Setting) where
 
     -- a piece with a fault
     pub over-ends : (still : Option (List ℕ)) (bytes : List ℕ) (left' : Option (List ℕ)) (c : Option PlainReceipt) (j : Option (List ℕ)) → Consumes at still bytes → TakesPiece (Takes base setting) (Ok Over) bytes left left' b c i j
-        → IsStream (Takes base setting) (Ok tt) unread still a c h j
+        → IsStreamFrom (Takes base setting) before (Ok tt) unread still a c h j
     over-ends still bytes left' c j read (inl (p, of, is, ((f, some), all))) = record {
       pieces = s.pieces ++ p ∷ [];
       left = None;
-      are = subst (λ (l : Option (List ℕ)). ArePieces (Some []) (s.pieces ++ p ∷ []) l) (goes-no-further left p left' f some is) (pieces-more s.pieces p (Some []) left left' s.are is);
+      are = subst (λ (l : Option (List ℕ)). ArePieces before (s.pieces ++ p ∷ []) l) (goes-no-further left p left' f some is) (pieces-more s.pieces p before left left' s.are is);
       mid = c;
       shown = j;
       answered = rw (parts-more s.pieces p) (answered-then base setting s.answered all);
@@ -212,7 +212,7 @@ module _ (base : PlainDurable) (setting : Setting) where
 
     -- a piece at which it fails
     pub err-ends : (why : EngineFault) (still : Option (List ℕ)) (bytes : List ℕ) (left' : Option (List ℕ)) (c : Option PlainReceipt) (j : Option (List ℕ)) → length bytes ≤ 131072 → Consumes at still bytes → TakesPiece (Takes base setting) (Err why) bytes left left' b c i j
-        → IsStream (Takes base setting) (Err why) unread still a c h j
+        → IsStreamFrom (Takes base setting) before (Err why) unread still a c h j
     err-ends fault.Read still bytes left' c j few read (inl (p, of, is, ran)) = absurd ran
     err-ends fault.Read still bytes left' c j few read (inr (bad, waits)) = absurd (cc (bad))
     err-ends fault.Write still bytes left' c j few read (inl (p, of, is, cut)) = record {
@@ -250,13 +250,13 @@ module _ (base : PlainDurable) (setting : Setting) where
     end-cut [] j front = fault-cut base setting None j (none-answered base setting b i) front
     end-cut (x ∷ rest) j front = fault-cut base setting (Some Ended) j (none-answered base setting b i) front
 
-    pub end-ends : (r : Result (Unit {0}) EngineFault) (still j : Option (List ℕ)) → Consumes at still [] → IsAtEnd still → TellsEnd r (finished left) i j → IsStream (Takes base setting) r unread still a b h j
+    pub end-ends : (r : Result (Unit {0}) EngineFault) (still j : Option (List ℕ)) → Consumes at still [] → IsAtEnd still → TellsEnd r (finished left) i j → IsStreamFrom (Takes base setting) before r unread still a b h j
     end-ends (Ok u) still j read end tells =
         let (rest, is) = s.going in
         record {
           pieces = s.pieces;
           left = Some rest;
-          are = subst (λ (l : Option (List ℕ)). ArePieces (Some []) s.pieces l) is s.are;
+          are = subst (λ (l : Option (List ℕ)). ArePieces before s.pieces l) is s.are;
           mid = b;
           shown = i;
           answered = s.answered;
@@ -270,7 +270,7 @@ module _ (base : PlainDurable) (setting : Setting) where
         record {
           pieces = s.pieces;
           left = Some rest;
-          are = subst (λ (l : Option (List ℕ)). ArePieces (Some []) s.pieces l) is s.are;
+          are = subst (λ (l : Option (List ℕ)). ArePieces before s.pieces l) is s.are;
           mid = b;
           shown = i;
           answered = s.answered;

@@ -7,3 +7,4 @@ pub mod Lines
 pub mod Takeover
 pub mod Streams
 pub mod Asking
+pub mod GoingOn

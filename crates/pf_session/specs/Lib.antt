@@ -1,6 +1,7 @@
 pub mod LineEngine
 pub mod Telling
 pub mod Serving
+pub mod Renewing
 pub mod Server
 pub mod Laws
 -- what public clauses cite of the crates below

@@ -2,3 +2,4 @@ pub mod Chains
 pub mod Lines
 pub mod Sessions
 pub mod Pieces
+pub mod Intakes

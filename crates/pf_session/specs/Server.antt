@@ -4,3 +4,4 @@ pub mod Inquiries
 pub mod Askings
 pub mod AskingRuns
 pub mod Streams
+pub mod Parts

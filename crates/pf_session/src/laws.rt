@@ -1,6 +1,6 @@
 //! Laws of a Book and of sessions. Each function does nothing; its contract is the law.
 ghost use Rattle.std.specs.Prelude.{ℕ};
-ghost use Rattle.pf_session.specs.Laws.{Acknowledged.{AcknowledgesNoLess, AcknowledgesTold, FindsAcknowledged}, Receipts.{SitsWithin, TakesWithin}, Sittings.{LearnsNoLess, LearnsApplied}, Streams.AreOneStream, Takeover.{TakesOver, FreshTakesOver}};
+ghost use Rattle.pf_session.specs.{Laws.{Acknowledged.{AcknowledgesNoLess, AcknowledgesTold, FindsAcknowledged}, GoingOn.{BeginsAlone, GoesOnElsewhere, IsWhole, StreamsBeginAlone, StreamsGoOnElsewhere}, Receipts.{SitsWithin, TakesWithin}, Sittings.{LearnsNoLess, LearnsApplied}, Streams.AreOneStream, Takeover.{TakesOver, FreshTakesOver}}, Server.{Askings.AsksLines, Sittings.TakesLines}};
 
 use crate::server::Gate;
 use pf_disk::Disk;
@@ -42,4 +42,25 @@ pub fn the_last_receipt_has_all<G: Gate>()
 /// as a whole.
 pub fn pieces_are_one_stream()
     ensures { AreOneStream }
+{}
+
+/// A session that pauses in one opening and goes on in the next writes the replies to its lines, in order, as if it had never paused: what it
+/// had read and not answered is read first. Its lines are numbered on. So it is with any number of openings, since the next one may be
+/// several; and the text of a session that came to its reader's end is the replies to the lines of all that it read.
+///
+/// What each opening gave is what the one before kept, and has all that the session's seer saw and learnt before, and all that was
+/// acknowledged at its last reply there. So a `judge` behind a pause is answered by no less than one before it.
+pub fn sessions_go_on<G: Gate>()
+    ensures alone { (gate : G) (session : ℕ) → BeginsAlone (TakesLines (G.passed gate session)) }
+    ensures on { (gate : G) (session : ℕ) → GoesOnElsewhere (TakesLines (G.passed gate session)) }
+    ensures whole { (gate : G) (session : ℕ) → IsWhole (TakesLines (G.passed gate session)) }
+    ensures asking_alone { (gate : G) (session : ℕ) → BeginsAlone (AsksLines (G.passed gate session)) }
+    ensures asking_on { (gate : G) (session : ℕ) → GoesOnElsewhere (AsksLines (G.passed gate session)) }
+    ensures asking_whole { (gate : G) (session : ℕ) → IsWhole (AsksLines (G.passed gate session)) }
+{}
+
+/// So does a peer's stream: what came of a message before a pause is the begin of that message behind it.
+pub fn streams_go_on()
+    ensures alone { StreamsBeginAlone }
+    ensures on { StreamsGoOnElsewhere }
 {}

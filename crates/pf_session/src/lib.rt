@@ -6,6 +6,7 @@
 //! - `engine`: the lines of one reader, by a `Book` of `pf_book`, one history over a device.
 //! - `server`: the lines of many readers at once, and peers' streams, by one Book that they share. Each session judges packets by a seer of
 //!   its own, and waits for the Book only with its other commands. A session may be one that asks and changes nothing.
+//! - `renewing`: one opening after the other, in one process.
 //! - `laws`: what follows for a peer's export that a Book is given, and for what replies say to sessions and peers.
 //!
 //! The crate knows no text of a command or a reply, which are `pf_line`'s, but `err gone`, `err denied`, and the words with which questions
@@ -13,7 +14,9 @@
 //! program, no files and no sockets.
 //!
 //! Proved: a session's bytes are the replies to its lines in order, and the Book gets the calls that they mean, however the session ends
-//! (`serve_alone`, `serve_from`, `serve_peer_from`); and a session that may only ask leaves the Book as it was (`serve_asking`).
+//! (`serve_alone`, `serve_from`, `serve_peer_from`); and a session that may only ask leaves the Book as it was (`serve_asking`). A session
+//! may pause in one opening and go on in the next, and so it is over all of them (`go_on`, `laws::sessions_go_on`); what the next opening
+//! gives is what was acknowledged before (`renew`).
 //! Only tests of other crates show that memory runs out only if a growth was refused, that the writer is flushed before each read, and
 //! that no other calls are made.
 //!
@@ -23,11 +26,14 @@
 mod engine;
 pub mod laws;
 pub mod line_engine;
+mod renewing;
 mod server;
 mod telling;
 
 pub use engine::serve_alone;
-pub use line_engine::EngineFault;
+pub use line_engine::{EngineFault, LeftOff, NoPause, Pause};
+pub use renewing::renew;
 pub use server::{
-    Gate, OpenGate, deny, serve, serve_asking, serve_from, serve_peer, serve_peer_from,
+    Gate, LineSession, OpenGate, PeerStream, deny, go_on, go_on_asking, go_on_peer, serve,
+    serve_asking, serve_from, serve_peer, serve_peer_from,
 };

@@ -1,11 +1,16 @@
-//! The engine: cuts the bytes of a reader into lines, has each answered, and has the replies written; over whatever answers a line.
+//! The engine: cuts the bytes of a reader into lines, has each answered, and has the replies written; over whatever answers a line. A session
+//! may pause between two lines, and go on later, also by another answerer.
 
 mod answer_line;
 mod engine;
 mod fault;
+mod intake;
 pub mod laws;
+mod left_off;
 mod pieces;
 
 pub use answer_line::{AnswerLine, LOOKED_AT};
-pub use engine::serve;
+pub use engine::{go_on, serve};
 pub use fault::EngineFault;
+pub use intake::Intake;
+pub use left_off::{LeftOff, NoPause, Pause};

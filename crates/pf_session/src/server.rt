@@ -2,6 +2,7 @@
 //!
 //! - `gate`: what a session passes before each line.
 //! - `caller`: what a session and a stream call.
+//! - `line_session`: a session without what belongs to an opening.
 //! - `session`: a session's lines, by the Book and the session's seer.
 //! - `run`: lines of a session that are run together.
 //! - `inquiry`: what may be asked and changes nothing.
@@ -14,12 +15,14 @@ mod caller;
 mod denial;
 mod gate;
 mod inquiry;
+mod line_session;
 mod run;
 mod session;
 mod stream;
 
-pub use asking::serve_asking;
+pub use asking::{go_on_asking, serve_asking};
 pub use denial::deny;
 pub use gate::{Gate, OpenGate};
-pub use session::{serve, serve_from};
-pub use stream::{serve_peer, serve_peer_from};
+pub use line_session::LineSession;
+pub use session::{go_on, serve, serve_from};
+pub use stream::{PeerStream, go_on_peer, serve_peer, serve_peer_from};

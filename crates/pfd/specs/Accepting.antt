@@ -1,6 +1,6 @@
 -- Which connections a listener serves, and under which numbers.
-use Rattle.std.specs.{Prelude.{◌≡◌, ◌≢◌, ℕ, ◌+◌, Bool, true, false, not, ◌&&◌, ◌||◌, ◌==◌, ◌⊎◌, nat_lt, min, Option, Some, None, Result, Ok, Err}, IoError.error_kind}
-use Rattle.std.specs.declared.{io.Error.Error, io.ErrorKind.TheVariants.ConnectionAborted}
+use Rattle.std.specs.{Prelude.{◌≡◌, ℕ, ◌+◌, Bool, true, false, not, ◌&&◌, ◌||◌, ◌==◌, ◌⊎◌, nat_lt, min, Option, Some, None, Result, Ok, Err}, IoError.error_kind}
+use Rattle.std.specs.declared.{io.Error.Error, io.ErrorKind.TheVariants.{ConnectionAborted, Interrupted}}
 use Rattle.pfd.specs.declared.accepting.{Acceptor.Acceptor, Taken.Taken, Taken.TheVariants.{Serve, Again, End}}
 
 -- before the first accept
@@ -19,15 +19,20 @@ next_session a = record a { accepted = min (a.accepted + 1) 4294967295 }
 abbrev pub failed : Acceptor → Acceptor
 failed a = record a { has_failed = true }
 
--- What becomes of what an accept gave: a connection is served under the next number, one that its client gave up is passed over, and after
--- any other error no more are accepted.
+-- the client gave its connection up, or none came for a while
+abbrev pub IsPassedOver : Error → Type 0
+IsPassedOver error = (error_kind error ≡ ConnectionAborted) ⊎ (error_kind error ≡ Interrupted)
+
+-- What becomes of what an accept gave: a connection is served under the next number, one that its client gave up is passed over, as where none
+-- came, and after any other error no more are accepted.
 abbrev pub IsTaken : {C : Type 0} → Result C Error → Acceptor → Acceptor → Taken C → Type 0
 IsTaken (Ok connection) old new taken = (new ≡ next_session old) × (taken ≡ Serve connection new.accepted)
 IsTaken (Err error) old new taken =
-    ((error_kind error ≡ ConnectionAborted) × (new ≡ old) × (taken ≡ Again))
-    ⊎ ((error_kind error ≢ ConnectionAborted) × (new ≡ failed old) × (taken ≡ End))
+    (IsPassedOver error × (new ≡ old) × (taken ≡ Again)) ⊎ (¬ IsPassedOver error × (new ≡ failed old) × (taken ≡ End))
 
--- The next connection has the next number, where one more is accepted; there is none where no more are, or where an accept failed.
-abbrev pub FindsNext : {C : Type 0} → Acceptor → Acceptor → Option (C × ℕ) → Type 0
-FindsNext old new (Some found) = (accepts_more old ≡ true) × (new ≡ next_session old) × (found.1 ≡ new.accepted)
-FindsNext old new None = ((accepts_more old ≡ false) × (new ≡ old)) ⊎ ((accepts_more old ≡ true) × (new ≡ failed old))
+-- The next connection has the next number, where one more is accepted; there is none where no more are, where an accept failed, or where a
+-- pause is due.
+abbrev pub FindsNext : {C : Type 0} → Type 0 → Acceptor → Acceptor → Option (C × ℕ) → Type 0
+FindsNext MayPause old new (Some found) = (accepts_more old ≡ true) × (new ≡ next_session old) × (found.1 ≡ new.accepted)
+FindsNext MayPause old new None =
+    ((accepts_more old ≡ false) × (new ≡ old)) ⊎ ((accepts_more old ≡ true) × ((new ≡ failed old) ⊎ (MayPause × (new ≡ old))))

@@ -1,11 +1,5 @@
--- What a connection is, by the address that it came to and its first byte, and how it is served.
-use Rattle.std.specs.Prelude.{◌≡◌, ℕ, ◌-◌, ◌==◌, ◌||◌, not, nat_lt, Bool, true, false, if◌then◌else◌, List, Option, None, Result}
-use Rattle.pf_addr.specs.Writing.{Writes}
-use Rattle.pf_core.specs.{Durable.Changes.PlainDurable, Worlds.Setting}
-use Rattle.pf_view.specs.Seers.{PlainSeer}
-use Rattle.pf_book.specs.Receipts.{PlainReceipt}
-use Rattle.pf_session.specs.declared.line_engine.fault.EngineFault.{EngineFault}
-use Rattle.pf_session.specs.Server.{Askings.{IsAskingSession, denied_text}, Sittings.IsSharedSession, Streams.{IsStream, Takes}}
+-- What a connection is, by the address that it came to and its first byte.
+use Rattle.std.specs.Prelude.{◌≡◌, ℕ, ◌-◌, ◌==◌, ◌||◌, not, nat_lt, Bool, true, false, if◌then◌else◌}
 use Rattle.pfd.specs.declared.admitting.{Admits.Admits, Admits.TheVariants.{Both, Sessions, Questions, Peers}, Way.Way, Way.TheVariants.{Session, Asking, Stream, Denied}}
 
 -- a peer's stream, where one is admitted
@@ -36,16 +30,3 @@ is_guest Peers = true
 -- A guest is let in while another worker is left to those that are none. A worker that is alone serves all.
 abbrev pub lets_in : Admits → ℕ → ℕ → Bool
 lets_in admits guests workers = not (is_guest admits) || guests == 0 || nat_lt guests (workers - 1)
-
--- What was done for what a connection sent: it had a session, whole or one that asks, or its messages were run as a peer's, or it was
--- denied, and nothing of it was read. Only a session has its seer learn.
-abbrev pub IsServedAs : Way → (ℕ → Type 0) → PlainDurable → Setting → Result (Unit {0}) EngineFault
-    → Option (List ℕ) → Option (List ℕ) → PlainSeer → PlainSeer → Option (List ℕ) → Option (List ℕ) → Type 0
-IsServedAs Session passed base setting result unread still_unread known known' held held' =
-    (last : Option PlainReceipt) × IsSharedSession passed base setting result unread still_unread None last known known' held held'
-IsServedAs Asking passed base setting result unread still_unread known known' held held' =
-    (last : Option PlainReceipt) × IsAskingSession passed base setting result unread still_unread None last known known' held held'
-IsServedAs Stream passed base setting result unread still_unread known known' held held' =
-    (known' ≡ known) × ((last : Option PlainReceipt) × IsStream (Takes base setting) result unread still_unread None last held held')
-IsServedAs Denied passed base setting result unread still_unread known known' held held' =
-    (known' ≡ known) × (still_unread ≡ unread) × Writes result held held' denied_text

@@ -1,5 +1,6 @@
 pub mod Accepting
 pub mod Admitting
+pub mod Connections
 pub mod Program
 pub mod Client
 pub mod Fullness

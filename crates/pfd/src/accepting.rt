@@ -2,6 +2,7 @@
 ghost use Rattle.std.specs.Prelude.{◌≡◌};
 ghost use Rattle.pfd.specs.Accepting.{FindsNext, IsTaken, accepts_more, new_acceptor};
 
+use pf_session::Pause;
 use std::io::{self, ErrorKind};
 
 /// What connections come from.
@@ -9,7 +10,8 @@ pub trait Accept {
     /// A connection.
     type Connection;
 
-    /// Waits for the next connection. An error of the kind `ConnectionAborted` is of that connection alone.
+    /// Waits for the next connection. An error of the kind `ConnectionAborted` is of that connection alone; after one of the kind
+    /// `Interrupted` there was none for a while.
     fn accept(&self) -> io::Result<Self::Connection>;
 
     /// Takes note that a connection that was accepted is served no more.
@@ -20,7 +22,7 @@ pub trait Accept {
 pub(crate) enum Taken<C> {
     /// Serve this connection as the session of this number.
     Serve(C, u32),
-    /// Accept again: the client gave the connection up before it was accepted.
+    /// Accept again: the client gave the connection up before it was accepted, or there was none for a while.
     Again,
     /// Accept no more: the accept failed.
     End,
@@ -52,8 +54,8 @@ impl Acceptor {
         self.has_failed
     }
 
-    // Whether another connection is accepted.
-    fn accepts_more(&self) -> bool
+    /// Whether another connection is accepted.
+    pub(crate) fn accepts_more(&self) -> bool
         ensures { result ≡ accepts_more self.now }
     {
         !self.has_failed && (self.sessions == 0 || self.accepted < self.sessions)
@@ -69,7 +71,9 @@ impl Acceptor {
                 Taken::Serve(connection, self.accepted)
             }
             Err(error) => {
-                if error.kind() == ErrorKind::ConnectionAborted {
+                if error.kind() == ErrorKind::ConnectionAborted
+                    || error.kind() == ErrorKind::Interrupted
+                {
                     Taken::Again
                 } else {
                     self.has_failed = true;
@@ -80,14 +84,21 @@ impl Acceptor {
     }
 
     /// The next connection, with the number of its session. `None`: an accept failed, now or before, or as many connections as there may be
-    /// were accepted.
-    pub(crate) fn next<A: Accept>(&mut self, listener: &A) -> Option<(A::Connection, u32)>
-        ensures { FindsNext self.old self.new result }
+    /// were accepted, or a pause is due.
+    pub(crate) fn next<A: Accept, P: Pause>(
+        &mut self,
+        listener: &A,
+        pause: &P,
+    ) -> Option<(A::Connection, u32)>
+        ensures { FindsNext (P.may_pause pause.now) self.old self.new result }
     {
         if !self.accepts_more() {
             return None;
         }
         for _ in 0..u64::MAX {
+            if pause.is_due() {
+                return None;
+            }
             match self.take(listener.accept()) {
                 Taken::Serve(connection, session) => return Some((connection, session)),
                 Taken::Again => {}

@@ -3,6 +3,7 @@ ghost use Rattle.std.specs.Prelude.{◌<◌, length, IfSome};
 
 use crate::accepting::Accept;
 use crate::admitting::Admits;
+use crate::patience::Patience;
 use crate::stream::{Arrival, Stream};
 use libc::net::{POLLIN, poll};
 use libc::types::pollfd;
@@ -14,6 +15,9 @@ use std::os::fd::AsRawFd;
 use std::os::unix::net::UnixListener;
 use std::sync::atomic::{AtomicUsize, Ordering};
 use std::time::Duration;
+
+// An accept that may be interrupted waits for so many milliseconds.
+const LOOK: i32 = 200;
 
 /// The most addresses that a server listens on.
 pub(crate) const MOST_DOORS: usize = 64;
@@ -69,7 +73,9 @@ struct Door {
 #[derive(Drop)]
 pub(crate) struct Doors {
     all: Vec<Door>,
-    idle: Option<Duration>,
+    patience: Patience,
+    // how many milliseconds an accept waits; without end, if it is negative
+    wait: i32,
     workers: usize,
     // how many guests are served
     guests: AtomicUsize,
@@ -78,16 +84,13 @@ pub(crate) struct Doors {
 }
 
 impl Doors {
-    /// No listener yet, for so many workers. `idle` is in seconds; 0 is without end.
-    pub(crate) fn new(alloc: Global, idle: u32, workers: usize) -> Doors {
-        let idle = if idle == 0 {
-            None
-        } else {
-            Some(Duration::from_secs(u64::from(idle)))
-        };
+    /// No listener yet, for so many workers. `idle` is in seconds; 0 is without end. `looks`: an accept is `Interrupted`, and reads and
+    /// writes of connections look up, after a fifth of a second.
+    pub(crate) fn new(alloc: Global, idle: u32, workers: usize, looks: bool) -> Doors {
         Doors {
             all: Vec::new(alloc),
-            idle,
+            patience: Patience::new(idle, looks),
+            wait: if looks { LOOK } else { -1 },
             workers,
             guests: AtomicUsize::new(0),
             turn: AtomicUsize::new(0),
@@ -114,7 +117,7 @@ impl Doors {
             events: POLLIN,
             revents: 0,
         }; MOST_DOORS];
-        let mut most = -1;
+        let mut most = self.wait;
         for (place, door) in polled.iter_mut().zip(&self.all) {
             if door.admits.lets_in(guests, self.workers) {
                 place.fd = door.listener.descriptor();
@@ -132,7 +135,7 @@ impl Doors {
             return Err(io::Error::from(ErrorKind::WouldBlock));
         };
         let stream = door.listener.accept()?;
-        match limit(&stream, self.idle) {
+        match limit(&stream, self.patience.span()) {
             Ok(()) => Ok(self.let_in(stream, door.admits)),
             // it isn't served without its limits
             Err(_) => Err(io::Error::from(ErrorKind::ConnectionAborted)),
@@ -144,7 +147,11 @@ impl Doors {
         if admits.is_guest() {
             self.guests.fetch_add(1, Ordering::SeqCst);
         }
-        Arrival { stream, admits }
+        Arrival {
+            stream,
+            admits,
+            patience: self.patience,
+        }
     }
 }
 
@@ -184,9 +191,9 @@ fn first_ready(polled: &[pollfd], turn: usize) -> Option<usize>
 }
 
 // Has a read fail if nothing comes for so long, and a write if nothing is taken.
-fn limit(stream: &Stream, idle: Option<Duration>) -> io::Result<()> {
-    stream.limit_reads(idle)?;
-    stream.limit_writes(idle)
+fn limit(stream: &Stream, span: Option<Duration>) -> io::Result<()> {
+    stream.limit_reads(span)?;
+    stream.limit_writes(span)
 }
 
 impl Accept for Doors {
@@ -196,7 +203,10 @@ impl Accept for Doors {
         for _ in 0..u64::MAX {
             let polled = self.wait()?;
             let Some(index) = first_ready(&polled, self.turn.load(Ordering::SeqCst)) else {
-                continue;
+                if self.wait < 0 {
+                    continue;
+                }
+                return Err(io::Error::from(ErrorKind::Interrupted));
             };
             self.turn.store(index + 1, Ordering::SeqCst);
             match self.take(index) {

@@ -3,11 +3,15 @@
 //! - `program`: does what the program's words ask, which `pfd_words` reads, and ends with a status.
 //! - `accepting`: which connections are served, and under which numbers, by what accepting them gives.
 //! - `admitting`: what a connection may be, by the address that it came to, and what it is.
-//! - `stream`: a connection, by TCP or by a Unix socket.
+//! - `patience`: how long a connection may be silent.
+//! - `renewal`: when a server's Book is renewed.
+//! - `stream`: a connection, by TCP or by a Unix socket, and what it was given and didn't take.
+//! - `connection`: a connection that is served, whatever opening it is in.
 //! - `socket_file`: the file of a Unix socket.
 //! - `door`: where connections come from, and for how long one may be silent.
-//! - `listener`: connections, each served by a worker as a session or a peer's stream, over one Book that all share.
-//! - `client`: the other end of a connection. Only these last five know sockets.
+//! - `listener`: connections, each served by a worker as a session or a peer's stream, over one Book that all share, and those that go from
+//!   one opening to the next.
+//! - `client`: the other end of a connection. Only these last six know sockets.
 //! - `fullness`: how full the disk on a file is, and when that is said on standard error.
 //! - `laws`: the limits of the program, and the laws of sessions.
 //!
@@ -27,11 +31,14 @@
 mod accepting;
 mod admitting;
 mod client;
+mod connection;
 mod door;
 mod fullness;
 pub mod laws;
 mod listener;
+mod patience;
 mod program;
+mod renewal;
 mod socket_file;
 mod stream;
 

@@ -1,25 +1,18 @@
 //! Connections, and the workers that serve them. No clause can say what a socket gives and takes, so of a connection only its way is proved.
 ghost use Rattle.std.specs.Prelude.{◌≡◌, ◌⊎◌, IfErr};
-ghost use Rattle.pf_addr.specs.Writing.{Writes};
-ghost use Rattle.pf_session.specs.Server.Askings.{denied_text};
-ghost use Rattle.pfd.specs.Admitting.{IsServedAs};
 
 use crate::accepting::{Accept, Acceptor};
-use crate::admitting::{Way, way_of};
-use crate::stream::{Arrival, Begun, Stream};
+use crate::connection::Connection;
+use crate::stream::Arrival;
 use pf_book::shared::Shared;
 use pf_book::{Chapter, Disk, Numbering, Publisher, Seer};
-use pf_session::{EngineFault, Gate, deny, serve, serve_asking, serve_peer};
-use std::alloc::Global;
-use std::io::{self, BufWriter, Read, Write};
-use std::net::{Shutdown, TcpListener};
+use pf_session::{EngineFault, Gate, LeftOff, NoPause, Pause};
+use std::alloc::{AllocError, Global};
+use std::collections::VecDeque;
+use std::net::TcpListener;
 use std::sync::{Mutex, Wait};
-use std::thread;
 use std::thread::Threads;
-use std::time::Duration;
-
-// At most so many reads are made of what a peer sends after a fault.
-const MOST_DROPPED: usize = 64;
+use std::{io, thread};
 
 impl Accept for TcpListener {
     type Connection = Arrival;
@@ -32,127 +25,75 @@ impl Accept for TcpListener {
     }
 }
 
-// Drops what a peer sends after a fault, for some reads, until it sends nothing for a second or closes: the system resets a connection
-// that is closed with unread bytes, and the peer might not read of its fault.
-fn drop_rest(stream: &Stream) {
-    let _ = stream.shutdown(Shutdown::Write);
-    if stream.limit_reads(Some(Duration::from_secs(1))).is_err() {
-        return;
+/// What goes from one opening to the next: how many connections were accepted, and those that paused.
+#[derive(Drop)]
+pub(crate) struct Reception {
+    acceptor: Mutex<Acceptor>,
+    // with room for one of each worker
+    paused: Mutex<VecDeque<Connection>>,
+}
+
+impl Reception {
+    /// Nothing was accepted yet, of so many connections, or without end if it is 0. `AllocError`: out of memory for what pauses.
+    pub(crate) fn new(
+        alloc: Global,
+        sessions: u32,
+        workers: usize,
+    ) -> Result<Reception, AllocError> {
+        Ok(Reception {
+            acceptor: Mutex::new(Acceptor::new(sessions)),
+            paused: Mutex::new(VecDeque::with_capacity(alloc, workers)?),
+        })
     }
-    let mut reader = stream;
-    let mut piece = [0u8; 16_384];
-    for _ in 0..MOST_DROPPED {
-        match reader.read(&mut piece) {
-            Ok(0) | Err(_) => return,
-            Ok(_) => {}
+
+    /// Whether an accept failed.
+    pub(crate) fn has_failed<W: Wait>(&self, rt: &W) -> bool {
+        self.acceptor.lock(rt).has_failed()
+    }
+
+    /// Whether a connection paused, or another one is accepted.
+    pub(crate) fn goes_on<W: Wait>(&self, rt: &W) -> bool {
+        !self.paused.lock(rt).is_empty() || self.acceptor.lock(rt).accepts_more()
+    }
+
+    // The next connection for a worker that is free, if there is one: those that paused come first.
+    fn next<W: Wait, A: Accept<Connection = Arrival>, P: Pause>(
+        &self,
+        rt: &W,
+        alloc: Global,
+        listener: &A,
+        pause: &P,
+    ) -> Option<Connection> {
+        if let Some(connection) = self.paused.lock(rt).pop_front() {
+            return Some(connection);
         }
+        for _ in rt.forever() {
+            let (accepted, session) = self.acceptor.lock(rt).next(listener, pause)?;
+            match Connection::new(alloc, accepted, session) {
+                Ok(connection) => return Some(connection),
+                // it is closed
+                Err(arrival) => listener.release(&arrival),
+            }
+        }
+        unreachable!()
+    }
+
+    // Keeps a connection that paused.
+    fn keep<W: Wait>(&self, rt: &W, connection: Connection) {
+        // there is room for it
+        let _ = self.paused.lock(rt).push_back(connection);
     }
 }
 
-// Serves a connection to its end.
-fn serve_connection<
-    W: Wait,
-    D: Disk + Drop,
-    J: Chapter + Numbering,
-    S: Publisher<J> + Drop,
-    G: Gate,
->(
-    rt: &W,
-    alloc: Global,
-    arrival: &Arrival,
-    shared: &Shared<D, J, S>,
-    seer: &mut Seer<J>,
-    gate: &G,
-    session: u32,
-) -> Result<(), EngineFault> {
-    let stream = &arrival.stream;
-    let Some((first, mut reader)) = Begun::of(stream) else {
-        return Ok(());
-    };
-    // a reply goes out at once, and doesn't wait for the next
-    stream.hasten();
-    let Ok(mut writer) = BufWriter::new(alloc, stream) else {
-        return Err(EngineFault::Memory);
-    };
-    let way = way_of(arrival.admits, first);
-    let served = serve_as(
-        rt,
-        alloc,
-        way,
-        &mut reader,
-        &mut writer,
-        shared,
-        seer,
-        gate,
-        session,
-    );
-    if way == Way::Denied || way == Way::Stream && served.is_ok() {
-        drop_rest(stream);
-    }
-    served
-}
-
-// Serves what a connection sends, as its way is.
-fn serve_as<
-    W: Wait,
-    D: Disk + Drop,
-    J: Chapter + Numbering,
-    S: Publisher<J> + Drop,
-    G: Gate,
-    R: Read,
-    O: Write,
->(
-    rt: &W,
-    alloc: Global,
-    way: Way,
-    reader: &mut R,
-    writer: &mut O,
-    shared: &Shared<D, J, S>,
-    seer: &mut Seer<J>,
-    gate: &G,
-    session: u32,
-) -> Result<(), EngineFault>
-    ensures { IsServedAs way (G.passed gate.now session) J.base J.setting result (R.remaining reader.old) (R.remaining reader.new)
-        seer.old seer.new (O.contents writer.old) (O.contents writer.new) }
-{
-    match way {
-        Way::Session => serve(rt, alloc, reader, writer, shared, seer, gate, session),
-        Way::Asking => serve_asking(rt, alloc, reader, writer, shared, seer, gate, session),
-        Way::Stream => serve_peer(rt, alloc, reader, writer, shared),
-        Way::Denied => turn_away(writer),
-    }
-}
-
-// Says that what came isn't let in.
-fn say_denied<O: Write>(writer: &mut O) -> io::Result<()>
-    ensures { Writes result (O.contents writer.old) (O.contents writer.new) denied_text }
-{
-    match deny(writer) {
-        Ok(()) => writer.flush(),
-        Err(error) => Err(error),
-    }
-}
-
-// The same, as a connection's end.
-fn turn_away<O: Write>(writer: &mut O) -> Result<(), EngineFault>
-    ensures { Writes result (O.contents writer.old) (O.contents writer.new) denied_text }
-{
-    match say_denied(writer) {
-        Ok(()) => Ok(()),
-        Err(_) => Err(EngineFault::Write),
-    }
-}
-
-/// What serves a connection to its end, with a seer of the opening `J`.
+/// What serves connections in the opening `J`.
 trait ServeConnection<J: Chapter> {
-    /// Serves the session of this number, or a peer's stream.
+    /// Serves a connection from where it is, until a pause or its end.
     fn serve_connection(
         &self,
         alloc: Global,
-        arrival: &Arrival,
+        connection: &mut Connection,
         seer: &mut Seer<J>,
-        session: u32,
-    ) -> Result<(), EngineFault>;
+    ) -> Result<LeftOff, EngineFault>;
 }
 
 /// What serves connections by one Book. Workers needn't name a device, nor what waits.
@@ -164,10 +105,12 @@ struct Server<
     J: Chapter + Numbering,
     S: Publisher<J> + Drop,
     G: Gate,
+    P: Pause,
 > {
     rt: &'a W,
     shared: &'a Shared<D, J, S>,
     gate: &'a G,
+    pause: &'a P,
 }
 
 impl<
@@ -177,77 +120,104 @@ impl<
     J: Chapter + Numbering,
     S: Publisher<J> + Drop,
     G: Gate,
-> ServeConnection<J> for Server<'a, W, D, J, S, G> {
+    P: Pause,
+> ServeConnection<J> for Server<'a, W, D, J, S, G, P> {
     fn serve_connection(
         &self,
         alloc: Global,
-        arrival: &Arrival,
+        connection: &mut Connection,
         seer: &mut Seer<J>,
-        session: u32,
-    ) -> Result<(), EngineFault> {
-        serve_connection(
-            self.rt,
-            alloc,
-            arrival,
-            self.shared,
-            seer,
-            self.gate,
-            session,
-        )
+    ) -> Result<LeftOff, EngineFault> {
+        connection.serve(self.rt, alloc, self.shared, seer, self.gate, self.pause)
     }
 }
 
-// The next connection for a worker that is free, if there is one.
-fn next_connection<W: Wait, A: Accept<Connection = Arrival>>(
-    rt: &W,
-    listener: &A,
-    acceptor: &Mutex<Acceptor>,
-) -> Option<(Arrival, u32)> {
-    acceptor.lock(rt).next(listener)
-}
-
-// Serves one connection after the other, with one seer.
-fn work<W: Wait, A: Accept<Connection = Arrival>, J: Chapter, S: ServeConnection<J>>(
+// Serves one connection after the other, with one seer, until a pause or until there are no more. It gives the seer back.
+fn work<W: Wait, A: Accept<Connection = Arrival>, J: Chapter, S: ServeConnection<J>, P: Pause>(
     rt: &W,
     alloc: Global,
     listener: &A,
-    acceptor: &Mutex<Acceptor>,
+    reception: &Reception,
     server: &S,
+    pause: &P,
     mut seer: Seer<J>,
-) {
+) -> Seer<J> {
     for _ in rt.forever() {
-        let Some((arrival, session)) = next_connection(rt, listener, acceptor) else {
-            return;
+        if pause.is_due() {
+            return seer;
+        }
+        let Some(mut connection) = reception.next(rt, alloc, listener, pause) else {
+            return seer;
         };
         // a fault of a connection ends it alone
-        let _ = server.serve_connection(alloc, &arrival, &mut seer, session);
-        listener.release(&arrival);
+        match server.serve_connection(alloc, &mut connection, &mut seer) {
+            Ok(LeftOff::Paused) => reception.keep(rt, connection),
+            _ => listener.release(connection.arrival()),
+        }
     }
+    unreachable!()
 }
 
-// Has each of these seers work in a thread. `Err(Memory)`: out of memory for the threads.
+/// Serves the connections of a listener by one worker for each seer, until a pause is due, or until no more connections are accepted and
+/// those that were have ended. It gives the seers back. Connections that paused before go on first, and those that pause then are kept in
+/// the reception.
+///
+/// Each worker has a thread, if the system gives it one; workers without one begin when others have ended. `Err(Memory)`: out of memory for
+/// the threads.
+pub(crate) fn serve_until<
+    M: Wait + Threads + Sync,
+    A: Accept<Connection = Arrival> + Sync,
+    D: Disk + Drop + Send,
+    J: Chapter + Numbering + Send + Sync,
+    S: Publisher<J> + Drop + Send,
+    G: Gate + Sync,
+    P: Pause + Sync,
+>(
+    rt: &M,
+    alloc: Global,
+    listener: &A,
+    reception: &Reception,
+    shared: &Shared<D, J, S>,
+    seers: Vec<Seer<J>>,
+    gate: &G,
+    pause: &P,
+) -> Result<Vec<Seer<J>>, EngineFault>
+    ensures { IfErr result (λ fault. fault ≡ EngineFault.Memory) }
+{
+    let server = Server {
+        rt,
+        shared,
+        gate,
+        pause,
+    };
+    work_all(rt, alloc, listener, reception, &server, pause, seers)
+}
+
+// Has each of these seers work in a thread.
 fn work_all<
     M: Wait + Threads + Sync,
     A: Accept<Connection = Arrival> + Sync,
     J: Chapter + Send + Sync,
     S: ServeConnection<J> + Sync,
+    P: Pause + Sync,
 >(
     rt: &M,
     alloc: Global,
     listener: &A,
-    acceptor: &Mutex<Acceptor>,
+    reception: &Reception,
     server: &S,
+    pause: &P,
     seers: Vec<Seer<J>>,
-) -> Result<(), EngineFault>
+) -> Result<Vec<Seer<J>>, EngineFault>
     ensures { IfErr result (λ fault. fault ≡ EngineFault.Memory) }
 {
     let served = thread::map_vec(
         rt,
         seers,
-        &|seer| { work(rt, alloc, listener, acceptor, server, seer) },
+        &|seer| { work(rt, alloc, listener, reception, server, pause, seer) },
     );
     match served {
-        Ok(_) => Ok(()),
+        Ok(seers) => Ok(seers),
         Err(_) => Err(EngineFault::Memory),
     }
 }
@@ -256,11 +226,12 @@ fn work_all<
 /// ended; with 0 it never does.
 ///
 /// A worker serves one connection at a time; further ones wait until a worker is free. Sessions are numbered from 1 in the order in which
-/// their connections were accepted, and the number stays at 4,294,967,295 once it has come so far. A connection whose first byte is 5 is
-/// a peer's stream, as in [`serve_peer`], any other a session, as in [`serve`] or, where it may only ask, in [`serve_asking`]. One that
-/// isn't admitted where it came is told `err denied`, and closed. What ends one before its client does, as a reset or a lack of memory,
-/// ends it alone. What a peer sends after a fault of its stream, or one that was denied, is dropped before its connection is closed, in at
-/// most 64 reads of 16,384 bytes, and until nothing comes for a second, so that it can read of its fault.
+/// their connections were accepted, and the number stays at 4,294,967,295 once it has come so far. A connection whose first byte is 5 is a
+/// peer's stream, as in [`go_on_peer`](pf_session::go_on_peer), any other a session, as in [`go_on`](pf_session::go_on) or, where it may
+/// only ask, in [`go_on_asking`](pf_session::go_on_asking). One that isn't admitted where it came is told `err denied`, and closed. What
+/// ends one before its client does, as a reset or a lack of memory, ends it alone. What a peer sends after a fault of its stream, or one
+/// that was denied, is dropped before its connection is closed, in at most 64 reads of 16,384 bytes, and until nothing comes for a second,
+/// so that it can read of its fault.
 ///
 /// Each worker has a thread, if the system gives it one; workers without one begin when others have ended.
 ///
@@ -284,10 +255,14 @@ pub fn serve_listener<
 ) -> Result<(), EngineFault>
     ensures { IfErr result (λ fault. (fault ≡ EngineFault.Read) ⊎ (fault ≡ EngineFault.Memory)) }
 {
-    let acceptor = Mutex::new(Acceptor::new(sessions));
-    let server = Server { rt, shared, gate };
-    work_all(rt, alloc, listener, &acceptor, &server, seers)?;
-    if acceptor.into_inner().has_failed() {
+    // nothing pauses
+    let Ok(reception) = Reception::new(alloc, sessions, 0) else {
+        return Err(EngineFault::Memory);
+    };
+    let _ = serve_until(
+        rt, alloc, listener, &reception, shared, seers, gate, &NoPause,
+    )?;
+    if reception.has_failed(rt) {
         return Err(EngineFault::Read);
     }
     Ok(())

@@ -1,7 +1,10 @@
 //! A connection, by TCP or by a Unix socket. No clause can say what a socket gives and takes, so this is only tested.
-ghost use Rattle.std.specs.{Prelude.{◌≤◌, length, IfOk}, Counts.IsPrefixLen};
+ghost use Rattle.std.specs.{Prelude.{◌≤◌, length, vec_len, IfOk}, Counts.IsPrefixLen};
 
 use crate::admitting::Admits;
+use crate::patience::Patience;
+use pf_session::Pause;
+use std::alloc::{AllocError, Global};
 use std::io::{self, ErrorKind, Read, Write};
 use std::net::{Net, Shutdown, TcpListener, TcpStream};
 use std::os::unix::net::UnixStream;
@@ -16,11 +19,12 @@ pub enum Stream {
     Unix(UnixStream),
 }
 
-/// A connection, and what it may be.
+/// A connection, what it may be, and how long it may be silent.
 #[derive(Drop)]
 pub struct Arrival {
     pub(crate) stream: Stream,
     pub(crate) admits: Admits,
+    pub(crate) patience: Patience,
 }
 
 impl From<TcpStream> for Arrival {
@@ -28,6 +32,7 @@ impl From<TcpStream> for Arrival {
         Arrival {
             stream: Stream::Tcp(stream),
             admits: Admits::Both,
+            patience: Patience::new(0, false),
         }
     }
 }
@@ -131,48 +136,193 @@ impl Write for &Stream {
     }
 }
 
-/// What a connection gives, of which the first byte was read before.
+/// What is known of what a connection gives, whoever reads it next.
 #[derive(Drop)]
-pub(crate) struct Begun<'a> {
+pub(crate) struct Received {
+    // a byte that was looked at and not read
     first: Option<u8>,
-    stream: &'a Stream,
+    // for so many spans nothing came
+    silent: u64,
 }
 
-impl<'a> Begun<'a> {
-    /// What a connection gives, which is waited for. `None`: it ended before its first byte, or failed.
-    pub(crate) fn of(stream: &'a Stream) -> Option<(u8, Begun<'a>)> {
-        let mut reader = stream;
+/// What a connection is given and didn't take yet.
+#[derive(Drop)]
+pub(crate) struct Unsent {
+    bytes: Vec<u8>,
+    // so many of them it took
+    taken: usize,
+    // for so many spans it took nothing
+    silent: u64,
+    ghost within: { taken ≤ vec_len bytes },
+}
+
+/// What a connection gives. A read that waits is `Interrupted` when a pause is due, and fails once the connection was silent for too long.
+#[derive(Drop)]
+pub(crate) struct Incoming<'a, P: Pause> {
+    pub(crate) stream: &'a Stream,
+    pub(crate) received: &'a mut Received,
+    pub(crate) patience: Patience,
+    pub(crate) pause: &'a P,
+}
+
+/// What a connection is given. Where a pause is due, what is written is kept, and a flush waits once.
+#[derive(Drop)]
+pub(crate) struct Outgoing<'a, P: Pause> {
+    pub(crate) stream: &'a Stream,
+    pub(crate) unsent: &'a mut Unsent,
+    pub(crate) patience: Patience,
+    pub(crate) pause: &'a P,
+}
+
+// So many bytes are kept before they are sent.
+const KEPT: usize = 8_192;
+
+// Whether a read or a write waited as long as it may.
+fn has_waited(error: &io::Error) -> bool {
+    error.kind() == ErrorKind::WouldBlock || error.kind() == ErrorKind::TimedOut
+}
+
+impl Received {
+    /// Nothing yet.
+    pub(crate) fn new() -> Received {
+        Received {
+            first: None,
+            silent: 0,
+        }
+    }
+}
+
+impl Unsent {
+    /// Nothing yet. `AllocError`: out of memory.
+    pub(crate) fn new(alloc: Global) -> Result<Unsent, AllocError> {
+        Ok(Unsent {
+            bytes: Vec::with_capacity(alloc, KEPT)?,
+            taken: 0,
+            silent: 0,
+        })
+    }
+
+    /// Whether there is nothing.
+    pub(crate) fn is_empty(&self) -> bool {
+        self.bytes.is_empty()
+    }
+
+    // All was taken so far.
+    fn clear_taken(&mut self) {
+        self.taken = 0;
+        self.bytes.clear();
+    }
+}
+
+impl<P: Pause> Incoming<'_, P> {
+    /// The first byte, which the next read gives again. `None`: there is none, as the connection ended. `Err` is as for a read.
+    pub(crate) fn look(&mut self) -> io::Result<Option<u8>> {
         let mut first = [0u8; 1];
+        match self.read(&mut first)? {
+            0 => Ok(None),
+            _ => {
+                self.received.first = Some(first[0]);
+                Ok(Some(first[0]))
+            }
+        }
+    }
+
+    // Reads what comes.
+    fn wait(&mut self, buf: &mut [u8]) -> io::Result<usize>
+        ensures { IfOk result (λ n. IsPrefixLen n buf.new) }
+    {
         for _ in 0..u64::MAX {
-            match reader.read(&mut first) {
-                Ok(0) => return None,
-                Ok(_) => {
-                    let begun = Begun {
-                        first: Some(first[0]),
-                        stream,
-                    };
-                    return Some((first[0], begun));
+            match self.stream.receive(buf) {
+                Ok(n) => {
+                    self.received.silent = 0;
+                    return Ok(n);
                 }
                 Err(error) => {
-                    if error.kind() != ErrorKind::Interrupted {
-                        return None;
+                    if !has_waited(&error) {
+                        return Err(error);
+                    }
+                    self.received.silent = self.received.silent.saturating_add(1);
+                    if self.patience.is_over(self.received.silent) {
+                        return Err(error);
+                    }
+                    if self.pause.is_due() {
+                        return Err(io::Error::from(ErrorKind::Interrupted));
                     }
                 }
             }
         }
-        None
+        Err(io::Error::from(ErrorKind::Other))
     }
 }
 
-impl Read for Begun<'_> {
+impl<P: Pause> Read for Incoming<'_, P> {
     fn read(&mut self, buf: &mut [u8]) -> io::Result<usize> {
         if !buf.is_empty() {
-            if let Some(first) = self.first.take() {
+            if let Some(first) = self.received.first.take() {
                 buf[0] = first;
                 return Ok(1);
             }
         }
-        let mut reader = self.stream;
-        reader.read(buf)
+        self.wait(buf)
+    }
+}
+
+impl<P: Pause> Outgoing<'_, P> {
+    // Sends some of what is kept, if the connection takes it.
+    fn send_some(&mut self) -> io::Result<()> {
+        match self.stream.send(&self.unsent.bytes[self.unsent.taken..]) {
+            Ok(0) => Err(io::Error::from(ErrorKind::WriteZero)),
+            Ok(n) => {
+                self.unsent.taken += n;
+                self.unsent.silent = 0;
+                Ok(())
+            }
+            Err(error) => {
+                if error.kind() == ErrorKind::Interrupted {
+                    return Ok(());
+                }
+                if !has_waited(&error) {
+                    return Err(error);
+                }
+                self.unsent.silent = self.unsent.silent.saturating_add(1);
+                if self.patience.is_over(self.unsent.silent) {
+                    return Err(error);
+                }
+                Ok(())
+            }
+        }
+    }
+
+    // Sends what is kept. Where a pause is due it tries once: a connection that takes little at a time doesn't hold a pause up.
+    fn send(&mut self) -> io::Result<()> {
+        let mut has_tried = false;
+        for _ in 0..u64::MAX {
+            if self.unsent.bytes.len() <= self.unsent.taken {
+                self.unsent.clear_taken();
+                return Ok(());
+            }
+            if has_tried && self.pause.is_due() {
+                return Ok(());
+            }
+            self.send_some()?;
+            has_tried = true;
+        }
+        Err(io::Error::from(ErrorKind::Other))
+    }
+}
+
+impl<P: Pause> Write for Outgoing<'_, P> {
+    fn write(&mut self, buf: &[u8]) -> io::Result<usize> {
+        if KEPT < self.unsent.bytes.len().saturating_add(buf.len()) && !self.pause.is_due() {
+            self.send()?;
+        }
+        match self.unsent.bytes.extend_from_slice(buf) {
+            Ok(()) => Ok(buf.len()),
+            Err(_) => Err(io::Error::from(ErrorKind::OutOfMemory)),
+        }
+    }
+
+    fn flush(&mut self) -> io::Result<()> {
+        self.send()
     }
 }

@@ -4,10 +4,10 @@ use Rattle.std.specs.{Prelude.{option_map, unwrap_or}, Str.Parse.ParsesUnsigned}
 use Rattle.clap.specs.Words.{ReadsOne, Row, Text, is_simple, subcommand_of, takes}
 use Rattle.clap.proofs.OnLiterals.{clap_on_literals}
 use Rattle.clap.specs.declared.error.kind.ErrorKind.{ErrorKind, TheVariants.OutOfMemory}
-use Rattle.pfd_words.specs.declared.words.{Task.Task, Task.TheVariants.{Run, RunOn, Format, Show, Serve, Connect, Conf, Load}, TheConstants.{MEMORY_SIZE, HISTORY_LIMIT}}
+use Rattle.pfd_words.specs.declared.words.{Task.Task, Task.TheVariants.{Run, RunOn, Format, Show, Serve, Connect, Conf, Load}, Limits.Limits, TheConstants.{MEMORY_SIZE, HISTORY_LIMIT, MOST_HISTORY}}
 use Rattle.pfd_words.specs.declared.conf.{Question.Question, Question.TheVariants.{Meaning, Outcomes, Coverage, Matches}}
 use Rattle.pfd_words.specs.{Conf.{AsksQuestion}, Options.{IsFlag}}
-use Rattle.pfd_words.specs.Words.{IsAsked, IsPlainRun, IsRefused, IsRefusedMode, MaySayNumber, SaysNumber, plain_run, program_words}
+use Rattle.pfd_words.specs.Words.{IsAsked, IsPlainRun, IsRefused, IsRefusedMode, MaySayNumber, SaysLimitsBy, SaysNumber, SaysRenewal, plain_run, program_words}
 
 -- ---- `pfd run`
 
@@ -120,3 +120,10 @@ pub number_read : (default : ℕ) (o : Option Text) (r : Option ℕ) → MaySayN
     → SaysNumber 0 18446744073709551615 default o (unwrap_or r default)
 number_read default None r says = ap (λ (x : Option ℕ). unwrap_or x default) says
 number_read default (Some t) r says = λ numeral least most. ap (λ (x : Option ℕ). unwrap_or x default) (says numeral least most)
+
+-- ---- a server's limits
+
+-- no history was said
+pub renewed : (met : Option (Text × List Row)) (o : Option Text) (limits : Limits) → MaySayNumber 0 18446744073709551615 o None → SaysRenewal met limits → SaysLimitsBy o met MOST_HISTORY (Some limits)
+renewed met None limits says renewal = (refl, limits, refl, renewal)
+renewed met (Some text) limits says renewal = λ numeral least most. absurd (cc (says numeral (omega arith) (omega (arith, most))))

@@ -5,7 +5,7 @@ use Rattle.clap.specs.declared.builder.action.ArgAction.TheVariants.{Append}
 use Rattle.clap.specs.declared.builder.value_parser.ValueParser.TheVariants.{Signed}
 use Rattle.clap.specs.declared.error.kind.ErrorKind.{ErrorKind, TheVariants.{OutOfMemory, ValueValidation}}
 use Rattle.pfd_words.specs.{Options.{text_in, SaysText, MaySayText, SaysTexts, SaysFlag}, Conf.{IsWord, AsksConf, flag_rule, text_rule, conf_words, check_words, test_words, cover_words, explain_words}}
-use Rattle.pfd_words.specs.declared.words.{Service.Service, Task.Task, LoadTask.LoadTask, Task.TheVariants.{Run, RunOn, Format, Show, Serve, Connect, Conf, Load}, TheConstants.{MEMORY_SIZE, HISTORY_LIMIT, MOST_HISTORY, WORKERS, MOST_WORKERS, OWNER_MODE, MOST_MODE}}
+use Rattle.pfd_words.specs.declared.words.{Limits.Limits, Service.Service, Task.Task, LoadTask.LoadTask, Task.TheVariants.{Run, RunOn, Format, Show, Serve, Connect, Conf, Load}, TheConstants.{MEMORY_SIZE, HISTORY_LIMIT, MOST_HISTORY, MOST_RENEWAL, RENEWAL, RENEWAL_BYTES, WORKERS, MOST_WORKERS, OWNER_MODE, MOST_MODE}}
 
 -- ---- the subcommands and their options
 
@@ -44,6 +44,12 @@ workers_rule = number_rule (codes "workers") 1 64
 abbrev pub sessions_rule : Rule
 sessions_rule = number_rule (codes "sessions") 0 4294967295
 
+abbrev pub renew_rule : Rule
+renew_rule = number_rule (codes "renew") 1 524288
+
+abbrev pub renew_bytes_rule : Rule
+renew_bytes_rule = number_rule (codes "renew-bytes") 1 4294967295
+
 abbrev pub idle_rule : Rule
 idle_rule = number_rule (codes "idle") 0 4294967295
 
@@ -66,8 +72,11 @@ server_words = with_rule (with_rule place_words (record size_rule { required = t
 abbrev pub bounded_words : App
 bounded_words = with_rule (with_rule server_words history_rule) sessions_rule
 
+abbrev pub renewed_words : App
+renewed_words = with_rule (with_rule bounded_words renew_rule) renew_bytes_rule
+
 abbrev pub limited_words : App
-limited_words = with_rule (with_rule bounded_words idle_rule) (mode_rule (codes "mode"))
+limited_words = with_rule (with_rule renewed_words idle_rule) (mode_rule (codes "mode"))
 
 abbrev pub asking_words : App
 asking_words = with_rule (with_rule limited_words ask_rule) (mode_rule (codes "ask-mode"))
@@ -135,6 +144,21 @@ MaySaySize met n = MaySayNumber 0 4294967295 (digits_in (codes "size") met) n
 abbrev pub SaysHistory : Option (Text × List Row) → ℕ → Type 0
 SaysHistory met n = SaysNumber 1 MOST_HISTORY HISTORY_LIMIT (digits_in (codes "history") met) n
 
+abbrev pub SaysRenewal : Option (Text × List Row) → Limits → Type 0
+SaysRenewal met limits = SaysNumber 1 MOST_RENEWAL RENEWAL (digits_in (codes "renew") met) limits.changes
+    × SaysNumber 1 4294967295 RENEWAL_BYTES (digits_in (codes "renew-bytes") met) limits.bytes
+
+-- Where it is said how many changes the history of a server may have, it may have so many, and is never renewed. Else it may have as many as
+-- any, and is renewed.
+abbrev pub SaysLimitsBy : Option Text → Option (Text × List Row) → ℕ → Option Limits → Type 0
+SaysLimitsBy (Some text) met history renewal =
+    let digits = without_leading_plus text in
+    IsNumeral 10 digits → 1 ≤ digits_value 10 digits → digits_value 10 digits ≤ MOST_HISTORY → (history ≡ digits_value 10 digits) × (renewal ≡ None)
+SaysLimitsBy None met history renewal = (history ≡ MOST_HISTORY) × (limits : Limits) × (renewal ≡ Some limits) × SaysRenewal met limits
+
+abbrev pub SaysLimits : Option (Text × List Row) → ℕ → Option Limits → Type 0
+SaysLimits met history renewal = SaysLimitsBy (digits_in (codes "history") met) met history renewal
+
 abbrev pub SaysPath : Option (Text × List Row) → Text → Type 0
 SaysPath met path = SaysText (codes "disk") met path
 
@@ -179,7 +203,7 @@ pub record AsksService (met : Option (Text × List Row)) (service : Service) : T
   pub path : SaysPath met service.path.now
   pub size : SaysSize met 0 service.size
   pub workers : SaysWorkers met service.workers
-  pub history : SaysHistory met service.history
+  pub limits : SaysLimits met service.history service.renewal
   pub sessions : SaysSessions met service.sessions
   pub idle : SaysIdle met service.idle
 

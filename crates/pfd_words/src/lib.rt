@@ -22,6 +22,6 @@ mod words;
 
 pub use conf::{ConfTask, Question};
 pub use words::{
-    HISTORY_LIMIT, LoadTask, MEMORY_SIZE, MOST_HISTORY, MOST_WORKERS, Service, Task, WORKERS,
-    read_words,
+    HISTORY_LIMIT, Limits, LoadTask, MEMORY_SIZE, MOST_HISTORY, MOST_RENEWAL, MOST_WORKERS,
+    RENEWAL, Service, Task, WORKERS, read_words,
 };

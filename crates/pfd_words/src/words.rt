@@ -2,7 +2,7 @@
 ghost use Rattle.std.specs.Prelude.{◌≡◌, ◌≤◌, IfErr, IfOk, List, MatchOption, ℕ, Some, [], codes, false, map, option_map, string_bytes, true, unwrap_or};
 ghost use Rattle.clap.specs.Words.{app_of, found_of, kind_of, one_of, first_of, rows_of, rule_of, subcommand_of, subcommand_rows_of, takes};
 ghost use Rattle.clap.specs.declared.builder.command.Command.TheViews.{out-Command};
-ghost use Rattle.pfd_words.specs.Words.{IsPlainRun, plain_run, HasHistory, IsAsked, IsMode, IsNoMode, IsRefused, IsRefusedMode, MaySayNumber, SaysMode, SaysNumber, disk_rule, history_rule, size_rule, listen_rule, workers_rule, sessions_rule, idle_rule, mode_rule, peers_rule, ask_rule, run_words, format_words, show_words, place_words, server_words, bounded_words, limited_words, asking_words, serve_words, connect_words, engine_words, to_rule, retry_rule, placed_words, load_words, AsksLoad, reading_words, program_words};
+ghost use Rattle.pfd_words.specs.Words.{IsPlainRun, plain_run, HasHistory, IsAsked, IsHistory, IsMode, IsNoMode, IsRefused, IsRefusedMode, MaySayNumber, SaysLimits, SaysMode, SaysNumber, disk_rule, history_rule, size_rule, listen_rule, workers_rule, sessions_rule, idle_rule, mode_rule, peers_rule, ask_rule, renew_rule, renew_bytes_rule, run_words, format_words, show_words, place_words, server_words, bounded_words, renewed_words, limited_words, asking_words, serve_words, connect_words, engine_words, to_rule, retry_rule, placed_words, load_words, AsksLoad, reading_words, program_words};
 
 use crate::conf::{
     ConfTask, check_words, conf_words, cover_words, coverage_in, explain_words, matches_in,
@@ -21,6 +21,18 @@ pub const HISTORY_LIMIT: usize = 65_536;
 
 /// The most changes that a history may have. Definitions cite it.
 pub const MOST_HISTORY: usize = 1_048_576;
+
+/// After how many changes a server renews its history by default. Definitions cite it.
+pub const RENEWAL: usize = 65_536;
+
+/// The most changes after which it may. As many as a history has room for beyond them can't come while it is renewed. Definitions cite it.
+pub const MOST_RENEWAL: usize = 524_288;
+
+/// After how many bytes of changes a server renews its history by default. Definitions cite it.
+pub const RENEWAL_BYTES: usize = 268_435_456;
+
+// The most bytes after which it may.
+const MOST_RENEWAL_BYTES: usize = 4_294_967_295;
 
 /// How many workers a server has by default. Definitions cite it.
 pub const WORKERS: usize = 4;
@@ -45,6 +57,15 @@ const MOST_RETRIES: usize = 4_294_967_295;
 /// The program's version, which `pfd --version` writes after its name.
 const VERSION: &str = "0.1.0";
 
+/// After how many changes, or how many bytes of them, a history is renewed.
+#[derive(Clone, Copy, Debug, PartialEq, Eq)]
+pub struct Limits {
+    /// 1 to 524,288.
+    pub changes: u64,
+    /// 1 to 4,294,967,295.
+    pub bytes: u64,
+}
+
 /// What `serve` asks for: a server, with its addresses, its disk and its limits.
 #[derive(Debug, PartialEq, Eq, Drop)]
 pub struct Service<'a> {
@@ -68,6 +89,8 @@ pub struct Service<'a> {
     pub workers: usize,
     /// How many changes the history may have, 1 to 1,048,576.
     pub history: usize,
+    /// After what the history is renewed; never, if there is none, and then the server takes no change beyond `history`.
+    pub renewal: Option<Limits>,
     /// After how many connections the server ends; 0 means never.
     pub sessions: u32,
     /// After how many seconds in which nothing came a connection is closed; 0 means never.
@@ -235,6 +258,28 @@ fn idle<'a>(alloc: Global) -> Arg<'a>
         .help("Closes a connection on which nothing came for so long; 0 never [default: 0]")
 }
 
+fn renew<'a>(alloc: Global) -> Arg<'a>
+    ensures rule { rule_of result ≡ renew_rule }
+    ensures local { result.global ≡ false }
+{
+    Arg::new(alloc, "renew")
+        .long("renew")
+        .value_name("N")
+        .value_parser(value_parser!(u32).range(1..=524_288))
+        .help("Renews the history after so many changes, if --history isn't said [default: 65536]")
+}
+
+fn renew_bytes<'a>(alloc: Global) -> Arg<'a>
+    ensures rule { rule_of result ≡ renew_bytes_rule }
+    ensures local { result.global ≡ false }
+{
+    Arg::new(alloc, "renew-bytes")
+        .long("renew-bytes")
+        .value_name("N")
+        .value_parser(value_parser!(u32).range(1..=4_294_967_295))
+        .help("The same after so many bytes of changes [default: 268435456]")
+}
+
 fn run_words<'a>(alloc: Global) -> Result<Command<'a>, AllocError>
     ensures app { IfOk result (λ c. app_of c ≡ run_words) }
     ensures local { IfOk result (λ c. (out-Command c).has_globals ≡ false) }
@@ -296,8 +341,19 @@ fn bounded_words<'a>(alloc: Global) -> Result<Command<'a>, AllocError>
     ensures app { IfOk result (λ c. app_of c ≡ bounded_words) }
     ensures local { IfOk result (λ c. (out-Command c).has_globals ≡ false) }
 {
-    let history = history(alloc).help("How many changes the process may make [default: 65536]");
+    let history = history(alloc).help(
+        "How many changes the process may make [default: it renews its history]",
+    );
     server_words(alloc)?.arg(history)?.arg(sessions(alloc))
+}
+
+fn renewed_words<'a>(alloc: Global) -> Result<Command<'a>, AllocError>
+    ensures app { IfOk result (λ c. app_of c ≡ renewed_words) }
+    ensures local { IfOk result (λ c. (out-Command c).has_globals ≡ false) }
+{
+    bounded_words(alloc)?
+        .arg(renew(alloc))?
+        .arg(renew_bytes(alloc))
 }
 
 fn limited_words<'a>(alloc: Global) -> Result<Command<'a>, AllocError>
@@ -307,7 +363,7 @@ fn limited_words<'a>(alloc: Global) -> Result<Command<'a>, AllocError>
     let mode = mode(alloc, "mode").help(
         "The mode of the files of --listen's Unix sockets, in octal [default: 0600]",
     );
-    bounded_words(alloc)?.arg(idle(alloc))?.arg(mode)
+    renewed_words(alloc)?.arg(idle(alloc))?.arg(mode)
 }
 
 fn asking_words<'a>(alloc: Global) -> Result<Command<'a>, AllocError>
@@ -496,6 +552,7 @@ fn server_in<'a>(alloc: Global, found: &ArgMatches<'a>) -> Result<Task<'a>, Erro
     let mode = mode_in(alloc, found, "mode")?;
     let ask_mode = mode_in(alloc, found, "ask-mode")?;
     let peers_mode = mode_in(alloc, found, "peers-mode")?;
+    let (history, renewal) = limits_in(found);
     let sessions = number_in(found, "sessions", 0).min(MOST_SESSIONS);
     let idle = number_in(found, "idle", 0).min(MOST_SECONDS);
     Ok(Task::Serve(Service {
@@ -508,10 +565,28 @@ fn server_in<'a>(alloc: Global, found: &ArgMatches<'a>) -> Result<Task<'a>, Erro
         path: text_in(found, "disk"),
         size: number_in(found, "size", 0),
         workers: number_in(found, "workers", WORKERS).clamp(1, MOST_WORKERS),
-        history: number_in(found, "history", HISTORY_LIMIT).clamp(1, MOST_HISTORY),
+        history,
+        renewal,
         sessions: sessions as u32,
         idle: idle as u32,
     }))
+}
+
+// How many changes the history may have, and when it is renewed: never, if it is said how many there may be.
+fn limits_in(found: &ArgMatches<'_>) -> (usize, Option<Limits>)
+    ensures says { SaysLimits (Some (codes "serve", rows_of (found_of found.now))) result.0 result.1 }
+    ensures history { IsHistory result.0 }
+{
+    if let Some(history) = number_if_any(found, "history") {
+        return (history.clamp(1, MOST_HISTORY), None);
+    }
+    let changes = number_in(found, "renew", RENEWAL).clamp(1, MOST_RENEWAL);
+    let bytes = number_in(found, "renew-bytes", RENEWAL_BYTES).clamp(1, MOST_RENEWAL_BYTES);
+    let limits = Limits {
+        changes: changes as u64,
+        bytes: bytes as u64,
+    };
+    (MOST_HISTORY, Some(limits))
 }
 
 // The task of `load`.

@@ -118,19 +118,24 @@ StreamEnds Serves (Err fault.Write) left bytes unread old new held held' =
 StreamEnds Serves (Err fault.Memory) left bytes unread old new held held' =
     (length bytes ≤ 131072) × GoesOn left × Answered Serves [] old new held held'
 
--- What was read, and what was done for it. All that is due to a piece is done, and all its replies are written, before another one is read:
+-- What was read behind these bytes of a message, and what was done for it. All that is due to a piece is done, and all its replies are written, before another one is read:
 -- so whatever ends the stream, all its pieces but the last are answered whole.
-pub record IsStream {S : Type 0} (Serves : S → S → List Part → List ℕ → Type 0)
+pub record IsStreamFrom {S : Type 0} (Serves : S → S → List Part → List ℕ → Type 0) (before : Option (List ℕ))
     (result : Result (Unit {0}) EngineFault) (unread still_unread : Option (List ℕ)) (old new : S) (held held' : Option (List ℕ)) : Type 0 where
   pub pieces : List Piece
   pub left : Option (List ℕ)
-  pub are : ArePieces (Some []) pieces left
+  pub are : ArePieces before pieces left
   pub mid : S
   pub shown : Option (List ℕ)
   pub answered : Answered Serves (flat_map parts_in pieces) old mid held shown
   pub bytes : List ℕ
   pub read : Consumes unread still_unread (flat_map (λ p. p.bytes) pieces ++ bytes)
   pub ends : StreamEnds Serves result left bytes still_unread mid new shown held'
+
+-- the same from the stream's begin
+abbrev pub IsStream : {S : Type 0} → (S → S → List Part → List ℕ → Type 0)
+    → Result (Unit {0}) EngineFault → (unread still_unread : Option (List ℕ)) → S → S → (held held' : Option (List ℕ)) → Type 0
+IsStream Serves result unread still_unread old new held held' = IsStreamFrom Serves (Some []) result unread still_unread old new held held'
 
 -- ---- a piece
 
@@ -200,11 +205,11 @@ TakesPiece Serves result bytes left left' old new held held' =
 
 -- ---- so far
 
--- these pieces were answered, and the stream goes on with these bytes of the next message
+-- behind the one bytes of a message these pieces were answered, and the stream goes on with the other bytes of the next message
 pub record StreamSoFar {S : Type 0} (Serves : S → S → List Part → List ℕ → Type 0)
-    (unread still_unread left : Option (List ℕ)) (old new : S) (held held' : Option (List ℕ)) : Type 0 where
+    (before unread still_unread left : Option (List ℕ)) (old new : S) (held held' : Option (List ℕ)) : Type 0 where
   pub pieces : List Piece
-  pub are : ArePieces (Some []) pieces left
+  pub are : ArePieces before pieces left
   pub going : GoesOn left
   pub read : Consumes unread still_unread (flat_map (λ p. p.bytes) pieces)
   pub answered : Answered Serves (flat_map parts_in pieces) old new held held'

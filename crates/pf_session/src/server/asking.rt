@@ -1,15 +1,17 @@
 //! A session that may ask and change nothing, over a Book that others use too. It has a seer, and no way to call the Book but to ask.
-ghost use Rattle.std.specs.Prelude.{◌≡◌, ℕ, List, [], Option, None};
+ghost use Rattle.std.specs.Prelude.{◌≡◌, ◌++◌, ℕ, List, [], Ok, Option, None};
 ghost use Rattle.pf_addr.specs.Writing.{Writes};
 ghost use Rattle.pf_line.specs.Reply.Replies.{reply_text};
 ghost use Rattle.pf_book.specs.Receipts.{PlainReceipt};
-ghost use Rattle.pf_session.specs.{LineEngine.Sessions.IsSession, Server.{Askings.{Asks, AsksBy, AsksLines, IsAskingSession, IsInquired}, AskingRuns.{AsksInSession, IsSameAsker, TakesInAsking, place}, Inquiries.is_inquiry, Sittings.IsJudged}, Laws.Asking.asks-seen};
+ghost use Rattle.pf_session.specs.declared.line_engine.left_off.LeftOff.TheVariants.{Paused};
+ghost use Rattle.pf_session.specs.{LineEngine.{Intakes.{HasBegun, IsPart}, Sessions.IsSession}, Server.Parts.IsAskingPart, Server.{Askings.{Asks, AsksBy, AsksLines, IsAskingSession, IsInquired}, AskingRuns.{AsksInSession, IsSameAsker, TakesInAsking, place}, Inquiries.is_inquiry, Sittings.IsJudged}, Laws.Asking.asks-seen};
 
-use crate::line_engine::{self, AnswerLine, EngineFault};
+use crate::line_engine::{self, AnswerLine, EngineFault, Intake, LeftOff, Pause};
 use crate::server::caller::{AskBook, Caller};
 use crate::server::denial::{deny, is_denied};
 use crate::server::gate::Gate;
 use crate::server::inquiry::Inquiry;
+use crate::server::line_session::LineSession;
 use crate::server::session::{packet_in, write_verdict};
 use crate::telling::{RunCommands, answer, tell};
 use pf_book::shared::Shared;
@@ -214,4 +216,98 @@ fn ask_by<A: AskBook<J>, J: Chapter, G: Gate, R: Read, O: Write>(
         last,
     };
     run_asker(alloc, reader, writer, &mut asker)
+}
+
+// Serves such a session from where it is, until it pauses or the reader is at its end.
+fn run_asking_part<A: AskBook<J>, J: Chapter, G: Gate, P: Pause, R: Read, O: Write>(
+    alloc: Global,
+    intake: &mut Intake,
+    reader: &mut R,
+    writer: &mut O,
+    asker: &mut Asker<'_, A, J, G>,
+    pause: &P,
+) -> Result<LeftOff, EngineFault>
+    ensures same { IsSameAsker asker.old asker.new }
+    ensures paused { result ≡ Ok Paused → P.may_pause pause.now }
+    ensures part { (begun : List ℕ) → HasBegun intake.old begun →
+        IsPart (AsksLines (G.passed asker.old.gate.now asker.old.number) J.base J.setting) result (begun ++ intake.old.ahead) intake.new
+        (R.remaining reader.old) (R.remaining reader.new) (place asker.old) (place asker.new)
+        (O.contents writer.old) (O.contents writer.new) }
+{
+    line_engine::go_on(alloc, intake, reader, writer, asker, pause)
+}
+
+/// Answers the lines of a reader that may ask and change nothing, as [`serve_asking`] does, in one opening of several: from where the
+/// session is, until it pauses or the reader is at its end, as [`go_on`](crate::go_on) does, with its faults.
+pub fn go_on_asking<
+    W: Wait,
+    D: Disk + Drop,
+    J: Chapter + Numbering,
+    S: Publisher<J> + Drop,
+    G: Gate,
+    P: Pause,
+    R: Read,
+    O: Write,
+>(
+    rt: &W,
+    alloc: Global,
+    session: &mut LineSession,
+    reader: &mut R,
+    writer: &mut O,
+    shared: &Shared<D, J, S>,
+    seer: &mut Seer<J>,
+    gate: &G,
+    pause: &P,
+) -> Result<LeftOff, EngineFault>
+    ensures number { session.new.number ≡ session.old.number }
+    ensures paused { result ≡ Ok Paused → P.may_pause pause.now }
+    ensures part { (last : Option PlainReceipt) × ((begun : List ℕ) → HasBegun session.old.intake begun →
+        IsAskingPart (G.passed gate.now session.old.number) J.base J.setting result (begun ++ session.old.intake.ahead) session.new.intake
+        (R.remaining reader.old) (R.remaining reader.new) session.old.line session.new.line None last seer.old seer.new
+        (O.contents writer.old) (O.contents writer.new)) }
+{
+    let mut last = None;
+    let book = Caller::new(rt, shared);
+    ask_on_by(
+        alloc, session, reader, writer, &book, seer, gate, pause, &mut last,
+    )
+}
+
+// The same, by whatever is asked, with the receipt of an earlier call.
+fn ask_on_by<A: AskBook<J>, J: Chapter, G: Gate, P: Pause, R: Read, O: Write>(
+    alloc: Global,
+    session: &mut LineSession,
+    reader: &mut R,
+    writer: &mut O,
+    book: &A,
+    seer: &mut Seer<J>,
+    gate: &G,
+    pause: &P,
+    last: &mut Option<Receipt<J>>,
+) -> Result<LeftOff, EngineFault>
+    ensures number { session.new.number ≡ session.old.number }
+    ensures paused { result ≡ Ok Paused → P.may_pause pause.now }
+    ensures part { (begun : List ℕ) → HasBegun session.old.intake begun →
+        IsAskingPart (G.passed gate.now session.old.number) J.base J.setting result (begun ++ session.old.intake.ahead) session.new.intake
+        (R.remaining reader.old) (R.remaining reader.new) session.old.line session.new.line last.old last.new seer.old seer.new
+        (O.contents writer.old) (O.contents writer.new) }
+{
+    let mut asker = Asker {
+        book,
+        seer,
+        gate,
+        number: session.number,
+        line: session.line,
+        last,
+    };
+    let left = run_asking_part(
+        alloc,
+        &mut session.intake,
+        reader,
+        writer,
+        &mut asker,
+        pause,
+    );
+    session.line = asker.line;
+    left
 }

@@ -1,13 +1,15 @@
 //! A session over a Book that others use too.
-ghost use Rattle.std.specs.Prelude.{◌≡◌, ℕ, List, MatchResult, Ok, Option, Some, None, option_map};
+ghost use Rattle.std.specs.Prelude.{◌≡◌, ◌++◌, ℕ, List, MatchResult, Ok, Option, Some, None, option_map};
 ghost use Rattle.pf_addr.specs.Writing.{Writes};
 ghost use Rattle.pf_line.specs.Reply.Replies.{reply_text};
 ghost use Rattle.pf_book.specs.Receipts.{PlainReceipt};
-ghost use Rattle.pf_session.specs.{LineEngine.Sessions.IsSession, Server.{Sittings.{HasJudged, IsJudged, IsCommandRun, IsSharedSession, Keeps, Runs, TakesLines, packet_in}, SessionRuns.{AreMeant, IsSame, RunsInSession, TakesInSession, sitting}}, Laws.Server.attends-seen};
+ghost use Rattle.pf_session.specs.declared.line_engine.left_off.LeftOff.TheVariants.{Paused};
+ghost use Rattle.pf_session.specs.{LineEngine.{Intakes.{HasBegun, IsPart}, Sessions.IsSession}, Server.{Parts.IsSharedPart, Sittings.{HasJudged, IsJudged, IsCommandRun, IsSharedSession, Keeps, Runs, TakesLines, packet_in}, SessionRuns.{AreMeant, IsSame, RunsInSession, TakesInSession, sitting}}, Laws.Server.attends-seen};
 
-use crate::line_engine::{self, AnswerLine, EngineFault};
+use crate::line_engine::{self, AnswerLine, EngineFault, Intake, LeftOff, Pause};
 use crate::server::caller::{CallBook, Caller};
 use crate::server::gate::Gate;
+use crate::server::line_session::LineSession;
 use crate::telling::{RunCommands, answer, tell};
 use pf_addr::write_text;
 use pf_book::shared::Shared;
@@ -302,4 +304,97 @@ fn serve_by<C: CallBook<J>, J: Chapter, G: Gate, R: Read, O: Write>(
         last,
     };
     run_session(alloc, reader, writer, &mut session)
+}
+
+// Serves a session from where it is, until it pauses or the reader is at its end.
+fn run_part<C: CallBook<J>, J: Chapter, G: Gate, P: Pause, R: Read, O: Write>(
+    alloc: Global,
+    intake: &mut Intake,
+    reader: &mut R,
+    writer: &mut O,
+    session: &mut Session<'_, C, J, G>,
+    pause: &P,
+) -> Result<LeftOff, EngineFault>
+    ensures same { IsSame session.old session.new }
+    ensures paused { result ≡ Ok Paused → P.may_pause pause.now }
+    ensures part { (begun : List ℕ) → HasBegun intake.old begun →
+        IsPart (TakesLines (G.passed session.old.gate.now session.old.number) J.base J.setting) result (begun ++ intake.old.ahead) intake.new
+        (R.remaining reader.old) (R.remaining reader.new) (sitting session.old) (sitting session.new)
+        (O.contents writer.old) (O.contents writer.new) }
+{
+    line_engine::go_on(alloc, intake, reader, writer, session, pause)
+}
+
+/// Answers the lines of a reader, as [`serve`] does, in one opening of several: from where the session is, until it pauses or the reader is
+/// at its end. Its first call hands in no receipt, as receipts are of one opening.
+///
+/// `Paused`: a pause was due behind a line, before a read or behind one that was interrupted. All lines before are answered, and all replies
+/// are with the writer, which was flushed; the session has what was read and not answered. It may go on in another opening:
+/// [`sessions_go_on`](crate::laws::sessions_go_on) says what its replies are then.
+///
+/// Faults are those of [`serve`], but for `Memory`, since the session has the room for what it reads.
+pub fn go_on<
+    W: Wait,
+    D: Disk + Drop,
+    J: Chapter + Numbering,
+    S: Publisher<J> + Drop,
+    G: Gate,
+    P: Pause,
+    R: Read,
+    O: Write,
+>(
+    rt: &W,
+    alloc: Global,
+    session: &mut LineSession,
+    reader: &mut R,
+    writer: &mut O,
+    shared: &Shared<D, J, S>,
+    seer: &mut Seer<J>,
+    gate: &G,
+    pause: &P,
+) -> Result<LeftOff, EngineFault>
+    ensures number { session.new.number ≡ session.old.number }
+    ensures paused { result ≡ Ok Paused → P.may_pause pause.now }
+    ensures part { (last : Option PlainReceipt) × ((begun : List ℕ) → HasBegun session.old.intake begun →
+        IsSharedPart (G.passed gate.now session.old.number) J.base J.setting result (begun ++ session.old.intake.ahead) session.new.intake
+        (R.remaining reader.old) (R.remaining reader.new) session.old.line session.new.line None last seer.old seer.new
+        (O.contents writer.old) (O.contents writer.new)) }
+{
+    let mut last = None;
+    let book = Caller::new(rt, shared);
+    go_on_by(
+        alloc, session, reader, writer, &book, seer, gate, pause, &mut last,
+    )
+}
+
+// The same, by whatever is called, with the receipt of an earlier call.
+fn go_on_by<C: CallBook<J>, J: Chapter, G: Gate, P: Pause, R: Read, O: Write>(
+    alloc: Global,
+    session: &mut LineSession,
+    reader: &mut R,
+    writer: &mut O,
+    book: &C,
+    seer: &mut Seer<J>,
+    gate: &G,
+    pause: &P,
+    last: &mut Option<Receipt<J>>,
+) -> Result<LeftOff, EngineFault>
+    ensures number { session.new.number ≡ session.old.number }
+    ensures paused { result ≡ Ok Paused → P.may_pause pause.now }
+    ensures part { (begun : List ℕ) → HasBegun session.old.intake begun →
+        IsSharedPart (G.passed gate.now session.old.number) J.base J.setting result (begun ++ session.old.intake.ahead) session.new.intake
+        (R.remaining reader.old) (R.remaining reader.new) session.old.line session.new.line last.old last.new seer.old seer.new
+        (O.contents writer.old) (O.contents writer.new) }
+{
+    let mut here = Session {
+        book,
+        seer,
+        gate,
+        number: session.number,
+        line: session.line,
+        last,
+    };
+    let left = run_part(alloc, &mut session.intake, reader, writer, &mut here, pause);
+    session.line = here.line;
+    left
 }

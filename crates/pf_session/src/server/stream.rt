@@ -1,14 +1,15 @@
 //! A peer's stream of messages over a Book that others use too.
-ghost use Rattle.std.specs.Prelude.{◌≡◌, ◌<◌, ◌≤◌, ℕ, List, Option, None, IfOk, Ok, flat_map, length};
+ghost use Rattle.std.specs.Prelude.{◌≡◌, ◌<◌, ◌≤◌, ℕ, List, [], Option, None, Some, IfOk, Ok, flat_map, length};
 ghost use Rattle.pf_addr.specs.Writing.{Writes};
 ghost use Rattle.pf_state.specs.declared.peer.message.Message.{Message};
 ghost use Rattle.pf_state.specs.Peer.Outcomes.{finished};
 ghost use Rattle.pf_core.specs.declared.{reply.Refusal.TheVariants.BadPeer, reply.Reply.TheVariants.Refused};
 ghost use Rattle.pf_line.specs.Reply.Replies.{reply_text};
 ghost use Rattle.pf_book.specs.Receipts.{PlainReceipt};
-ghost use Rattle.pf_session.specs.Server.Streams.{IsStream, RunsAll, RunsFed, RunsGroup, Takes, TakesPiece, TellsEnd, TellsFault, asked, last_receipt};
+ghost use Rattle.pf_session.specs.declared.line_engine.left_off.LeftOff.TheVariants.{Paused};
+ghost use Rattle.pf_session.specs.Server.{Parts.IsStreamPart, Streams.{GoesOn, IsStream, RunsAll, RunsFed, RunsGroup, Takes, TakesPiece, TellsEnd, TellsFault, asked, last_receipt}};
 
-use crate::line_engine::EngineFault;
+use crate::line_engine::{EngineFault, LeftOff, NoPause, Pause};
 use crate::server::caller::{CallBook, Caller};
 use crate::telling::refuse;
 use pf_book::shared::Shared;
@@ -18,6 +19,7 @@ use pf_line::write_reply;
 use pf_state::peer::{Fed, Message, PeerFault, PeerReader};
 use std::alloc::{AllocError, Global};
 use std::io::{self, ErrorKind, Read, Write};
+use std::marker::Model;
 use std::sync::Wait;
 
 // How many bytes are read at once: a group of messages, each of as many states as an export writes in one.
@@ -267,61 +269,145 @@ fn follow_by<C: CallBook<J>, J: Chapter, R: Read, O: Write>(
     ensures { IsStream (Takes J.base J.setting) result (R.remaining reader.old) (R.remaining reader.new)
         last.old last.new (O.contents writer.old) (O.contents writer.new) }
 {
-    let Ok(mut buffer) = Vec::from_elem(alloc, 0, PIECE_LEN) else {
+    let Ok(mut stream) = PeerStream::new(alloc) else {
         return Err(EngineFault::Memory);
     };
-    follow_from(alloc, buffer.as_mut_slice(), reader, writer, book, last)
+    match follow_from(alloc, &mut stream, reader, writer, book, &NoPause, last) {
+        Ok(LeftOff::Ended) => Ok(()),
+        Ok(LeftOff::Paused) => unreachable!(),
+        Err(fault) => Err(fault),
+    }
 }
 
-// The same with a buffer for what a read gives.
-fn follow_from<C: CallBook<J>, J: Chapter, R: Read, O: Write>(
+/// A peer's stream, without what belongs to an opening: what came of a message. So it goes from one opening to the next, and needs no memory
+/// there for what a read gives. Contracts see it as its `PeerReader`.
+#[derive(Drop)]
+pub struct PeerStream {
+    // room for what a read gives
+    piece: Vec<u8>,
+    peer: PeerReader,
+}
+
+impl Model for PeerStream {
+    ghost use Rattle.std.specs.Prelude.{◌≡◌, ℕ, List, Option, vec_len};
+
+    ghost Value = { Option (List ℕ) };
+
+    ghost view = { λ s. s.peer };
+
+    ghost invariant = { λ s. vec_len s.piece ≡ 131072 };
+}
+
+impl PeerStream {
+    /// A stream of which nothing has come. `AllocError`: out of memory for what it reads.
+    pub fn new(alloc: Global) -> Result<PeerStream, AllocError>
+        ensures { IfOk result (λ s. s ≡ Some []) }
+    {
+        Ok(PeerStream {
+            piece: Vec::from_elem(alloc, 0, PIECE_LEN)?,
+            peer: PeerReader::new(alloc),
+        })
+    }
+}
+
+/// Runs the messages of a peer's stream, as [`serve_peer`] does, in one opening of several: from where the stream is, until it pauses, is at
+/// its end or has a fault. Its first call hands in no receipt, as receipts are of one opening.
+///
+/// `Paused`: a pause was due before a read. All that came is answered but the bytes of a message that isn't whole, which the stream has; the
+/// writer was flushed. It may go on in another opening: [`streams_go_on`](crate::laws::streams_go_on) says what it has written then.
+///
+/// Faults are those of [`serve_peer`], where `Memory` is that of a piece.
+pub fn go_on_peer<
+    W: Wait,
+    D: Disk + Drop,
+    J: Chapter + Numbering,
+    S: Publisher<J> + Drop,
+    P: Pause,
+    R: Read,
+    O: Write,
+>(
+    rt: &W,
     alloc: Global,
-    piece: &mut [u8],
+    stream: &mut PeerStream,
+    reader: &mut R,
+    writer: &mut O,
+    shared: &Shared<D, J, S>,
+    pause: &P,
+) -> Result<LeftOff, EngineFault>
+    ensures paused { result ≡ Ok Paused → P.may_pause pause.now }
+    ensures part { GoesOn stream.old → (last : Option PlainReceipt) × IsStreamPart (Takes J.base J.setting) stream.old result stream.new
+        (R.remaining reader.old) (R.remaining reader.new) None last (O.contents writer.old) (O.contents writer.new) }
+{
+    let mut last = None;
+    let book = Caller::new(rt, shared);
+    follow_from(alloc, stream, reader, writer, &book, pause, &mut last)
+}
+
+// The same, by whatever is called, with the receipt of an earlier call.
+fn follow_from<C: CallBook<J>, J: Chapter, P: Pause, R: Read, O: Write>(
+    alloc: Global,
+    stream: &mut PeerStream,
     reader: &mut R,
     writer: &mut O,
     book: &C,
+    pause: &P,
     last: &mut Option<Receipt<J>>,
-) -> Result<(), EngineFault>
-    requires piece { 0 < length piece.old }
-    requires room { length piece.old ≤ PIECE_LEN }
-    ensures { IsStream (Takes J.base J.setting) result (R.remaining reader.old) (R.remaining reader.new)
-        last.old last.new (O.contents writer.old) (O.contents writer.new) }
+) -> Result<LeftOff, EngineFault>
+    ensures paused { result ≡ Ok Paused → P.may_pause pause.now }
+    ensures part { GoesOn stream.old → IsStreamPart (Takes J.base J.setting) stream.old result stream.new
+        (R.remaining reader.old) (R.remaining reader.new) last.old last.new (O.contents writer.old) (O.contents writer.new) }
 {
     let mut follower = Follower {
         book,
         last: last.take(),
     };
-    let ended = follow(alloc, piece, reader, writer, &mut follower);
+    let left = follow(
+        alloc,
+        stream.piece.as_mut_slice(),
+        &mut stream.peer,
+        reader,
+        writer,
+        &mut follower,
+        pause,
+    );
     *last = follower.last;
-    ended
+    left
 }
 
-// Reads to the end, or to a fault. `piece` holds what a read gave.
-fn follow<C: CallBook<J>, J: Chapter, R: Read, O: Write>(
+// Reads to a pause, the end or a fault. `piece` holds what a read gave.
+fn follow<C: CallBook<J>, J: Chapter, P: Pause, R: Read, O: Write>(
     alloc: Global,
     piece: &mut [u8],
+    peer: &mut PeerReader,
     reader: &mut R,
     writer: &mut O,
     follower: &mut Follower<'_, C, J>,
-) -> Result<(), EngineFault>
+    pause: &P,
+) -> Result<LeftOff, EngineFault>
     requires piece { 0 < length piece.old }
     requires room { length piece.old ≤ PIECE_LEN }
-    ensures { IsStream (Takes J.base J.setting) result (R.remaining reader.old) (R.remaining reader.new)
-        follower.old.last follower.new.last (O.contents writer.old) (O.contents writer.new) }
+    ensures paused { result ≡ Ok Paused → P.may_pause pause.now }
+    ensures part { GoesOn peer.old → IsStreamPart (Takes J.base J.setting) peer.old result peer.new
+        (R.remaining reader.old) (R.remaining reader.new) follower.old.last follower.new.last (O.contents writer.old) (O.contents writer.new) }
 {
-    let mut peer = PeerReader::new(alloc);
     for _ in 1..MOST_READS {
         if writer.flush().is_err() {
             return Err(EngineFault::Write);
         }
+        if pause.is_due() {
+            return Ok(LeftOff::Paused);
+        }
         match reader.read(piece) {
             Ok(n) => {
                 if n == 0 {
-                    return tell_end(&mut peer, writer);
+                    return match tell_end(peer, writer) {
+                        Ok(()) => Ok(LeftOff::Ended),
+                        Err(fault) => Err(fault),
+                    };
                 }
-                match follower.take(alloc, &piece[..n], &mut peer, writer) {
+                match follower.take(alloc, &piece[..n], peer, writer) {
                     Ok(Progress::On) => {}
-                    Ok(Progress::Over) => return Ok(()),
+                    Ok(Progress::Over) => return Ok(LeftOff::Ended),
                     Err(fault) => return Err(fault),
                 }
             }

@@ -9,33 +9,56 @@ use crate::admitting::Admits;
 use crate::door::{Doors, Listener};
 use crate::fullness::gauge::{Gauge, tell_fullness};
 use crate::fullness::notice::Notice;
-use crate::fullness::watched::Watched;
-use crate::listener::serve_listener;
+use crate::fullness::watched::{Age, Watched};
+use crate::listener::{Reception, serve_until};
 use crate::program::ended::told;
+use crate::renewal::Renewal;
 use crate::socket_file::{SocketFile, listen_at};
 use crate::stream::is_path;
 use pf_addr::write_more;
 use pf_book::book::Book;
 use pf_book::shared::Shared;
 use pf_book::{Chapter, Disk, NewCalls, Numbering, Opening, Publisher, Seer};
-use pf_session::{EngineFault, OpenGate};
+use pf_session::{EngineFault, OpenGate, renew};
 use pf_view::{ViewFault, views};
 use pfd_files::{Fault, open_file};
 use pfd_words::Service;
-use std::alloc::Global;
+use std::alloc::{AllocError, Global};
 use std::fs::{File, Files};
 use std::io::{self, Write};
 use std::marker::Brand;
 use std::net::{Net, TcpListener, TcpStream};
-use std::sync::Wait;
+use std::sync::{Mutex, Wait};
 use std::thread;
 use std::thread::Threads;
 
 // A Book that is watched for how full its disk gets.
 type WatchedBook<'a, D, J, N> = Book<D, J, Watched<'a, J, &'a N>>;
 
+// What goes from one opening to the next.
+#[derive(Drop)]
+struct House {
+    reception: Reception,
+    renewal: Renewal,
+    gauge: Mutex<Gauge>,
+    notice: Notice,
+}
+
+impl House {
+    // With the gauge of the disk.
+    fn new(alloc: Global, service: &Service<'_>, gauge: Gauge) -> Result<House, AllocError> {
+        Ok(House {
+            reception: Reception::new(alloc, service.sessions, service.workers)?,
+            renewal: Renewal::new(service.renewal),
+            gauge: Mutex::new(gauge),
+            notice: Notice::new(alloc)?,
+        })
+    }
+}
+
 /// Serves connections over the disk that lies on a file. Faults are found in this order: of the file, of the disk, of the address, of the
-/// writer, and at last one of the listener. How full the disk is goes to `faults`, from a thread of its own once clients are served.
+/// writer, and at last one of the listener, or of an opening that renews the history. How full the disk is goes to `faults`, from a thread of
+/// its own once clients are served.
 pub(crate) fn serve_file<
     N: Wait + Threads + Net<Listener = TcpListener, Stream = TcpStream> + Sync,
     S: Files<File = File>,
@@ -54,19 +77,13 @@ pub(crate) fn serve_file<
 {
     let disk = open_file(alloc, files, service.path, Some(service.size))?;
     match Opening::open(alloc, disk) {
-        Ok(opening) => {
-            let calls = NewCalls::open();
-            serve_opening::<Brand, _, _, _, _, _>(
-                machine, alloc, files, opening, calls, service, writer, faults,
-            )
-        }
+        Ok(opening) => serve_house(machine, alloc, files, opening, service, writer, faults),
         Err((fault, _disk)) => Err(Fault::from(fault)),
     }
 }
 
-// The same over what was opened.
-fn serve_opening<
-    J: Chapter + Numbering + Send + Sync,
+// The same over what was opened first.
+fn serve_house<
     D: Disk + Drop + Send,
     N: Wait + Threads + Net<Listener = TcpListener, Stream = TcpStream> + Sync,
     S: Files<File = File>,
@@ -77,50 +94,151 @@ fn serve_opening<
     alloc: Global,
     files: &S,
     opening: Opening<D>,
-    calls: NewCalls,
     service: &Service<'_>,
     writer: &mut W,
     faults: &mut F,
 ) -> Result<(), Fault>
-    requires service { CanServe service.now }
-    requires name { IsNamed J.base J.history J.setting opening service.now.history }
-    requires calls { calls ≡ J.register }
+    requires { CanServe service.now }
     ensures { IsListening service.now result (W.contents writer.old) (W.contents writer.new) }
 {
     let mut gauge = Gauge::new(service.size as u64 / 2);
     tell_fullness(&mut gauge, opening.durable(), faults);
-    let Ok(notice) = Notice::new(alloc) else {
+    let Ok(house) = House::new(alloc, service, gauge) else {
         return Err(Fault::Memory);
     };
-    let watched = watch::<J, _, _>(machine, alloc, opening, service, gauge, &notice);
-    let (book, seers) = match watched {
-        Ok(made) => made,
-        Err(fault) => return Err(fault),
-    };
-    let shared = Shared::new(book, calls);
     let listening = open_doors(machine, alloc, files, service, writer)?;
     let served = serve_and_say(
         machine,
         alloc,
+        opening,
+        service,
         &listening.doors,
-        &shared,
-        seers,
-        service.sessions,
-        &notice,
+        &house,
         faults,
     );
     remove_sockets(files, &listening.sockets);
-    told(served)
+    served
 }
 
-// A Book over what was opened, which leaves a notice of how full its disk gets, and its seers.
+// Serves connections, while a thread of its own says how full the disk gets: no change and no renewal waits for what reads that. Where no such
+// thread can be made, it is said at the end.
+fn serve_and_say<D: Disk + Drop + Send, N: Wait + Threads + Sync, F: Write + Send>(
+    machine: &N,
+    alloc: Global,
+    opening: Opening<D>,
+    service: &Service<'_>,
+    doors: &Doors,
+    house: &House,
+    faults: &mut F,
+) -> Result<(), Fault>
+    requires { CanServe service.now }
+{
+    let (_, served) = thread::join(
+        machine,
+        || house.notice.say_all(machine, faults),
+        || {
+            let served = serve_openings(machine, alloc, opening, service, doors, house);
+            house.notice.end(machine);
+            served
+        },
+    );
+    served
+}
+
+// Serves in one opening after the other.
+fn serve_openings<D: Disk + Drop + Send, N: Wait + Threads + Sync>(
+    machine: &N,
+    alloc: Global,
+    first: Opening<D>,
+    service: &Service<'_>,
+    doors: &Doors,
+    house: &House,
+) -> Result<(), Fault>
+    requires { CanServe service.now }
+{
+    let mut opening = first;
+    for _ in machine.forever() {
+        let calls = NewCalls::open();
+        let next = serve_opening::<Brand, _, _>(
+            machine, alloc, opening, calls, service, doors, house,
+        )?;
+        match next {
+            Some(next) => opening = next,
+            None => return Ok(()),
+        }
+    }
+    unreachable!()
+}
+
+// Serves in one opening, until its history is to be renewed, and opens the disk again; or until no more is to be served: then there is no
+// further opening.
+fn serve_opening<
+    J: Chapter + Numbering + Send + Sync,
+    D: Disk + Drop + Send,
+    N: Wait + Threads + Sync,
+>(
+    machine: &N,
+    alloc: Global,
+    opening: Opening<D>,
+    calls: NewCalls,
+    service: &Service<'_>,
+    doors: &Doors,
+    house: &House,
+) -> Result<Option<Opening<D>>, Fault>
+    requires service { CanServe service.now }
+    requires name { IsNamed J.base J.history J.setting opening service.now.history }
+    requires calls { calls ≡ J.register }
+{
+    house.renewal.begin();
+    let (book, seers) = watch::<J, _, _>(machine, alloc, opening, service, house)?;
+    let shared = Shared::new(book, calls);
+    let served = serve_until(
+        machine,
+        alloc,
+        doors,
+        &house.reception,
+        &shared,
+        seers,
+        &OpenGate,
+        &house.renewal,
+    );
+    go_further(machine, alloc, shared, served, &house.reception)
+}
+
+// The next opening, if a connection paused or may come.
+fn go_further<J: Chapter + Numbering, D: Disk + Drop, S: Publisher<J> + Drop, M: Wait>(
+    rt: &M,
+    alloc: Global,
+    shared: Shared<D, J, S>,
+    served: Result<Vec<Seer<J>>, EngineFault>,
+    reception: &Reception,
+) -> Result<Option<Opening<D>>, Fault> {
+    let seers = match served {
+        Ok(seers) => seers,
+        Err(fault) => {
+            told(Err(fault))?;
+            return Ok(None);
+        }
+    };
+    if reception.goes_on(rt) {
+        return match renew(alloc, shared.close(), &seers) {
+            Ok(opening) => Ok(Some(opening)),
+            Err((fault, _disk)) => Err(Fault::from(fault)),
+        };
+    }
+    if reception.has_failed(rt) {
+        return Err(Fault::Input);
+    }
+    Ok(None)
+}
+
+// A Book over what was opened, which leaves a notice of how full its disk gets and has a renewal come due, and its seers.
 fn watch<'a, J: Chapter, D: Disk + Drop, N: Wait>(
     machine: &'a N,
     alloc: Global,
     opening: Opening<D>,
     service: &Service<'_>,
-    gauge: Gauge,
-    notice: &'a Notice,
+    house: &'a House,
 ) -> Result<(WatchedBook<'a, D, J, N>, Vec<Seer<J>>), Fault>
     requires service { CanServe service.now }
     requires name { IsNamed J.base J.history J.setting opening service.now.history }
@@ -143,8 +261,10 @@ fn watch<'a, J: Chapter, D: Disk + Drop, N: Wait>(
     let watched = Watched {
         rt: machine,
         shower,
-        gauge,
-        notice,
+        gauge: &house.gauge,
+        notice: &house.notice,
+        renewal: &house.renewal,
+        age: Age::NONE,
     };
     match Book::over(alloc, named, service.history, watched) {
         Ok(book) => Ok((book, seers)),
@@ -158,35 +278,6 @@ fn unshown(fault: ViewFault) -> Fault {
         ViewFault::Memory => Fault::Memory,
         ViewFault::Places => Fault::Places,
     }
-}
-
-// Serves connections, while a thread of its own says how full the disk gets. Where no such thread can be made, that is said at the end.
-fn serve_and_say<
-    M: Wait + Threads + Sync,
-    D: Disk + Drop + Send,
-    J: Chapter + Numbering + Send + Sync,
-    S: Publisher<J> + Drop + Send,
-    F: Write + Send,
->(
-    rt: &M,
-    alloc: Global,
-    doors: &Doors,
-    shared: &Shared<D, J, S>,
-    seers: Vec<Seer<J>>,
-    sessions: u32,
-    notice: &Notice,
-    faults: &mut F,
-) -> Result<(), EngineFault> {
-    let (_, served) = thread::join(
-        rt,
-        || notice.say_all(rt, faults),
-        || {
-            let served = serve_listener(rt, alloc, doors, shared, seers, &OpenGate, sessions);
-            notice.end(rt);
-            served
-        },
-    );
-    served
 }
 
 // What is listened on: the listeners, what each address is called, and the files of the Unix sockets among them.
@@ -232,7 +323,12 @@ fn listen_to_all<'a, N: Net<Listener = TcpListener, Stream = TcpStream>, S: File
     ensures { IfOk result (λ all. vec_len all.names ≡ address_count service.now) }
 {
     let mut all = Listening {
-        doors: Doors::new(alloc, service.idle, service.workers),
+        doors: Doors::new(
+            alloc,
+            service.idle,
+            service.workers,
+            service.renewal.is_some(),
+        ),
         names: Vec::new(alloc),
         sockets: Vec::new(alloc),
     };

@@ -4,13 +4,10 @@ use Rattle.std.proofs.lemmas.Result.{err_from_is_err_and}
 use Rattle.pf_session.proofs.Flushing.{appends_none, whole_front, whole_writes}
 use Rattle.pfd.specs.Program.{listening_text}
 use Rattle.pfd.proofs.Listening.{where_ok}
-use Rattle.pfd.proofs.program.serving.serve_opening.Goals as goal
+use Rattle.pfd.proofs.program.serving.serve_house.Goals as goal
 
 pub returns-in_default : goal.returns-in_default
 returns-in_default g c = let held = g.W.Write.contents c.args.writer.now in ([], whole_front held held [] (appends_none held), tt)
-
-pub returns-in-Err : goal.returns-in-Err
-returns-in-Err g c = let held = g.W.Write.contents c.args.writer.now in ([], whole_front held held [] (appends_none held), tt)
 
 pub returns-in_err-listening : goal.returns-in_err-listening
 returns-in_err-listening g c =
@@ -22,6 +19,6 @@ pub returns : goal.returns
 returns g c =
     let (bounds, out, each) = c.in_ok-listening.ensures in (
       bounds,
-      whole_writes c.told.result (g.W.Write.contents c.args.writer.now) (g.W.Write.contents c.open_doors.new.writer) (flat_map listening_text bounds) out,
-      where_ok c.told.result _ each,
+      whole_writes c.serve_and_say.result (g.W.Write.contents c.args.writer.now) (g.W.Write.contents c.open_doors.new.writer) (flat_map listening_text bounds) out,
+      where_ok c.serve_and_say.result _ each,
     )

@@ -1,6 +1,6 @@
 use Rattle.pf_session.specs.Server.Askings.{denied_text}
 use Rattle.pf_session.proofs.Flushing.{flushed}
-use Rattle.pfd.proofs.listener.say_denied.Goals as goal
+use Rattle.pfd.proofs.connection.say_denied.Goals as goal
 
 pub returns-in-Ok : goal.returns-in-Ok
 returns-in-Ok g c =

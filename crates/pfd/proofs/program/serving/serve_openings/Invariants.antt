@@ -1,7 +1,7 @@
 use Rattle.pf_book.specs.Books.{setting_of}
-use Rattle.pfd.proofs.program.serving.serve_file.Given as goal
+use Rattle.pfd.proofs.program.serving.serve_openings.Given as goal
 
--- the opening is named by what it gave, its history, and what it keeps within
+-- each opening is named by what it gave, its history, and what it keeps within
 abbrev pub ghosts-serve_opening-J-Naming : goal.ghosts-serve_opening-J-Naming
 ghosts-serve_opening-J-Naming g a = record { base = a.opening.given; history = a.opening.history }
 

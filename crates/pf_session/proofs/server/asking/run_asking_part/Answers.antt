@@ -1,0 +1,21 @@
+use Rattle.pf_session.specs.{LineEngine.Chains.Chain, Server.{Askings.AsksLines, AskingRuns.{IsSameAsker, TakesInAsking, place}}}
+use Rattle.pf_session.proofs.{Moving.part-as, Asking.{asked-all, same-still}}
+use Rattle.pf_session.proofs.server.asking.run_asking_part.Goals as goal
+
+pub returns-clause-same : goal.returns-clause-same
+returns-clause-same g c =
+    let start = c.args.asker.now in
+    let passed = g.G.Gate.passed in
+    let base = g.J.Naming.base in
+    let setting = g.J.Chapter.setting in
+    (part-as place (IsSameAsker start) (Chain (TakesInAsking passed base setting)) (AsksLines (passed start.gate.now start.number) base setting) (asked-all passed base setting start)
+    (same-still start) (c.go_on.ensures.part c.args.intake.now.kept c.go_on.ensures.begun)).1
+
+pub returns-clause-part : goal.returns-clause-part
+returns-clause-part g c = λ begun is.
+    let start = c.args.asker.now in
+    let passed = g.G.Gate.passed in
+    let base = g.J.Naming.base in
+    let setting = g.J.Chapter.setting in
+    (part-as place (IsSameAsker start) (Chain (TakesInAsking passed base setting)) (AsksLines (passed start.gate.now start.number) base setting) (asked-all passed base setting start)
+    (same-still start) (c.go_on.ensures.part begun is)).0
