@@ -148,6 +148,7 @@ module _ (p n : ℕ) (fits_p : p < 2 ^ 128) (fits_n : n < 2 ^ 128) (some : bit_o
 
   pub is_first : IsFirst (record { plain = p; negated = n }) (record { free = place; sign = bit_and (p / 2 ^ place) 1 == 0 })
   is_first = record {
+    within = found.0;
     sign = own (bit_at p place) (bit_at n place) (bit_at-lt p place) (bit_at-lt n place) (sym (bit_at_or p n place) ∙ found.1)
         (bit_and (p / 2 ^ place) 1) (shr_and_one p place);
     first = first;

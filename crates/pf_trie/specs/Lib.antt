@@ -1,2 +1,3 @@
 pub mod Signs
 pub mod Prefixes
+pub mod Rows

@@ -11,6 +11,7 @@ sign_of signs k = cond (is_set signs.plain k) (Some false) (cond (is_set signs.n
 
 -- this sign is there, and none of a prefix that leaves fewer bits free
 pub record IsFirst (signs : Signs) (found : Found) : Type 0 where
+  pub within : found.free < 128
   pub sign : sign_of signs found.free ≡ Some found.sign
   pub first : (k : ℕ) → k < found.free → sign_of signs k ≡ None
 
