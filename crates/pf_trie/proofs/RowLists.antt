@@ -1,5 +1,5 @@
 -- Rows: which is at an address or before it, and what edits leave.
-use Rattle.std.proofs.{Common.{◌≡◌, ◌≢◌, ℕ, zero, suc, ◌+◌, ◌-◌, ◌*◌, ◌/◌, ◌^◌, ◌<◌, ◌≤◌, ◌==◌, ◌&&◌, Bool, true, false, cond, nat_le, nat_lt, List, [], ◌∷◌, length, get_or, set, take, drop, Option, Some, None, All, refl, sym, ap, ◌∙◌, subst, arith}, lemmas.{Bool.and_parts, Bool.Decides.nat_tests, Nat.shl-shr, List.{get_or_default, length-set, get_or-set_same, get_or-set_other}, List.Edits.{length-insert, get_or-insert_below, get_or-insert_at, get_or-insert_above, length-remove, get_or-remove_below, get_or-remove_above}, List.Elements.{All-append, All-take, All-drop, All-cons}}, Math.Nat.div-mul-le_self}
+use Rattle.std.proofs.{Common.{◌≡◌, ◌≢◌, ℕ, zero, suc, ◌+◌, ◌-◌, ◌*◌, ◌/◌, ◌^◌, ◌<◌, ◌≤◌, ◌==◌, ◌&&◌, Bool, true, false, cond, nat_le, nat_lt, List, [], ◌∷◌, ◌++◌, length, get_or, set, take, drop, Option, Some, None, All, refl, sym, ap, ◌∙◌, subst, arith}, lemmas.{Bool.and_parts, Bool.Decides.nat_tests, Nat.shl-shr, List.{get_or_default, length-set, get_or-set_same, get_or-set_other}, List.Edits.{length-insert, get_or-insert_below, get_or-insert_at, get_or-insert_above, length-remove, get_or-remove_below, get_or-remove_above}, List.Elements.{All-append, All-take, All-drop, All-cons}}, Math.{Nat.div-mul-le_self, Seq.take-append_seam}}
 use Rattle.std.specs.List.{AllPairs, AllWithin, Any, insert, remove}
 use Rattle.pf_trie.specs.declared.{found.Found.{Found}, prefix.Prefix.{Prefix}, rows.Row.{Row}, signs.Signs.{Signs}}
 use Rattle.pf_trie.specs.{Prefixes.{AllSigns, IsApart, front, first_of, with_sign, HasNone, Decides, Finds}, Signs.{sign_of, IsFirst, IsShortest}, Rows.{HasSigns, IsInOrder, IsAt, AreRows, AreRowsWith, IsUpTo, IsNoStart, Marks, MarksEach}}
@@ -409,3 +409,31 @@ no_start r (Some f) first other k sign is at = by (nat_lt k f.free) refl where
       let low = div-mul-le_self r.first (2 ^ f.free) in
       let own = other f refl in
       omega (arith, up, low, own, at)
+
+-- ---- as the code reads a row
+
+pub signs_of_place : (s : AllSigns) (top front a : ℕ) (rows : List Row) (place d : ℕ) (e : Row) (signs : Signs) → AreRows s top front rows
+    → a / 2 ^ top ≡ front → IsUpTo rows a place → 0 < place → IsApart (get_or rows (place - 1) e).first a d
+    → ((k : ℕ) → sign_of signs k ≡ cond (nat_le d k) (sign_of (get_or rows (place - 1) e).signs k) None) → HasSigns s 0 top a signs
+signs_of_place s top front a rows place d e signs are in_front up some near from =
+    let inside_ : place - 1 < length rows = let w = up.within in omega (arith, w, some) in
+    signs_of_last s top front a rows place d (get_or rows (place - 1) e) signs are in_front up some
+    (get_or_default rows (place - 1) e (get_or rows (place - 1) e) inside_) near from
+
+-- the last row that isn't past the address isn't at it
+pub not_at : (rows : List Row) (place a : ℕ) (e d : Row) → IsUpTo rows a place → 0 < place → (get_or rows (place - 1) e).first ≢ a
+    → (get_or rows (place - 1) d).first ≢ a
+not_at rows place a e d up some other same =
+    let inside_ : place - 1 < length rows = let w = up.within in omega (arith, w, some) in
+    other (ap (λ (x : Row). x.first) (get_or_default rows (place - 1) e d inside_) ∙ same)
+
+-- a slice written back whole
+pub written_back : (n : ℕ) (old new items : List Row) → length new ≡ length old → old ≡ items → n ≡ length items
+    → take n (new ++ drop (length new) items) ≡ new
+written_back n old new items count same whole =
+    let long : n ≡ length new = whole ∙ sym (ap (length {A = Row}) same) ∙ sym count in
+    ap (λ (k : ℕ). take k (new ++ drop (length new) items)) long ∙ take-append_seam new (drop (length new) items)
+
+-- the first address of a prefix begins as its other addresses do
+pub first_in_front : (a free top : ℕ) → free ≤ top → cut_off free a / 2 ^ top ≡ a / 2 ^ top
+first_in_front a free top le = between top a (cut_off free a) (cut_less free top a le) (div-mul-le_self a (2 ^ free))
