@@ -92,20 +92,6 @@ pub from_signs : (p n least k : ℕ) → p < 2 ^ 128 → n < 2 ^ 128
 from_signs p n least k fits_p fits_n = (λ i. said (from_bit p least k fits_p i) (from_bit n least k fits_n i))
     ∙ both_said (nat_le least k) (is_set p k) (is_set n k)
 
-below_bit : (n most k : ℕ) → most < 128 → is_set (bit_and n (1 * 2 ^ most % 2 ^ 128 - 1)) k ≡ cond (nat_lt k most) (is_set n k) false
-below_bit n most k lt =
-    ap (λ (m : ℕ). is_set (bit_and n (m - 1)) k) (one_shl most 128 lt) ∙ ap (λ (m : ℕ). is_set m k) (and_mask n most) ∙ by (nat_lt k most) refl where
-      by : (t : Bool) → nat_lt k most ≡ t → is_set (n % 2 ^ most) k ≡ cond t (is_set n k) false
-      by true t = let less : k < most = grind (arith, nat_tests) in
-          ap (λ (b : ℕ). eqb b 1) (sym (bit_at_cat_low (n / 2 ^ most) most (n % 2 ^ most) k less) ∙ ap (λ (m : ℕ). bit_at m k) (shr_split n most))
-      by false t = let le : most ≤ k = grind (arith, nat_tests) in
-          ap (λ (b : ℕ). eqb b 1) (bit_at_above (n % 2 ^ most) most k (mod_below n (2 ^ most) (pow_pos most)) le)
-
-pub below_signs : (p n most k : ℕ) → most < 128
-    → sign_of (record { plain = bit_and p (1 * 2 ^ most % 2 ^ 128 - 1); negated = bit_and n (1 * 2 ^ most % 2 ^ 128 - 1) }) k
-    ≡ cond (nat_lt k most) (sign_of (record { plain = p; negated = n }) k) None
-below_signs p n most k lt = (λ i. said (below_bit p most k lt i) (below_bit n most k lt i)) ∙ both_said (nat_lt k most) (is_set p k) (is_set n k)
-
 -- ---- the first bit that is set
 
 pub none_of_zero : (p n k : ℕ) → bit_or p n ≡ 0 → sign_of (record { plain = p; negated = n }) k ≡ None
@@ -162,3 +148,19 @@ none_from p n least k fits_p fits_n le = by (nat_le least k) refl where
       let far : 128 ≤ k = let past : least ≤ k = grind (arith, nat_tests) in omega (arith, past, le) in
       sym (λ i. said (is_zero (bit_at p k) (bit_at_above p 128 k fits_p far) i) (is_zero (bit_at n k) (bit_at_above n 128 k fits_n far) i))
   by false t = refl
+
+-- the bits below one as a remainder
+pub below_value : (n most : ℕ) → most < 128 → bit_and n (1 * 2 ^ most % 2 ^ 128 - 1) ≡ n % 2 ^ most
+below_value n most lt = ap (λ (m : ℕ). bit_and n (m - 1)) (one_shl most 128 lt) ∙ and_mask n most
+
+rest_bit : (n most k : ℕ) → is_set (n % 2 ^ most) k ≡ cond (nat_lt k most) (is_set n k) false
+rest_bit n most k = by (nat_lt k most) refl where
+  by : (t : Bool) → nat_lt k most ≡ t → is_set (n % 2 ^ most) k ≡ cond t (is_set n k) false
+  by true t = let less : k < most = grind (arith, nat_tests) in
+      ap (λ (b : ℕ). eqb b 1) (sym (bit_at_cat_low (n / 2 ^ most) most (n % 2 ^ most) k less) ∙ ap (λ (m : ℕ). bit_at m k) (shr_split n most))
+  by false t = let le : most ≤ k = grind (arith, nat_tests) in
+      ap (λ (b : ℕ). eqb b 1) (bit_at_above (n % 2 ^ most) most k (mod_below n (2 ^ most) (pow_pos most)) le)
+
+pub cut_signs : (p n most k : ℕ) → sign_of (record { plain = p % 2 ^ most; negated = n % 2 ^ most }) k
+    ≡ cond (nat_lt k most) (sign_of (record { plain = p; negated = n }) k) None
+cut_signs p n most k = (λ i. said (rest_bit p most k i) (rest_bit n most k i)) ∙ both_said (nat_lt k most) (is_set p k) (is_set n k)

@@ -1,35 +1,7 @@
--- Numbers cut to their first bits, and how many last bits two numbers may differ in.
+-- In how many last bits two numbers differ.
 use Rattle.std.proofs.{Common.{◌≡◌, ℕ, suc, ◌+◌, ◌-◌, ◌*◌, ◌/◌, ◌%◌, ◌^◌, ◌<◌, ◌≤◌, bit_xor, Bool, true, false, nat_lt, refl, sym, ap, ◌∙◌, subst, arith}, Math.Nat.{div-mul-le_self, div-eq_of_lt, pow-suc, le-mul_of_pos_right, mul_assoc, mul-le-mul_right}, lemmas.Bool.Decides.nat_tests, Math.Pow.shr_mono, lemmas.Nat.{mod_below, le-div, pow_pos, pow-add, shl-shr, shr-shr, shr_split, xor_shr, xor_lt, and_le_l, and_le_r, leading_length}}
 use Rattle.pf_trie.specs.Prefixes.{IsApart}
 use Rattle.std.specs.Int.{Bits.{xor_self, xor_add_and}, Count.count_leading_zeros}
-
--- a number with its last k bits cleared
-abbrev pub cut_off : ℕ → ℕ → ℕ
-cut_off k n = n / 2 ^ k * 2 ^ k
-
--- clearing fewer bits leaves no less
-pub cut_less : (j k n : ℕ) → j ≤ k → cut_off k n ≤ cut_off j n
-cut_less j k n le =
-    let split : k - j + j ≡ k = omega arith in
-    let whole : cut_off k n ≡ n / 2 ^ k * 2 ^ (k - j) * 2 ^ j = ap (λ (i : ℕ). n / 2 ^ k * 2 ^ i) (sym split)
-    ∙ ap (λ (p : ℕ). n / 2 ^ k * p) (pow-add 2 (k - j) j) ∙ mul_back (n / 2 ^ k) (2 ^ (k - j)) (2 ^ j) in
-    let below : n / 2 ^ k * 2 ^ (k - j) ≤ n / 2 ^ j =
-    le-div (n / 2 ^ k * 2 ^ (k - j)) n (2 ^ j) (pow_pos j) (subst (λ (m : ℕ). m ≤ n) whole (div-mul-le_self n (2 ^ k))) in
-    subst (λ (m : ℕ). m ≤ cut_off j n) (sym whole) (mul_less (n / 2 ^ k * 2 ^ (k - j)) (n / 2 ^ j) (2 ^ j) below)
-  where
-    mul_back : (a b c : ℕ) → a * (b * c) ≡ a * b * c
-    mul_back a b c = sym (mul_assoc a b c)
-
-    mul_less : (a b c : ℕ) → a ≤ b → a * c ≤ b * c
-    mul_less a b c le = mul-le-mul_right c le
-
--- numbers from a cut one up to the whole one have the same first bits
-pub between : (k a e : ℕ) → cut_off k a ≤ e → e ≤ a → e / 2 ^ k ≡ a / 2 ^ k
-between k a e low high =
-    let up : e / 2 ^ k ≤ a / 2 ^ k = shr_mono k high in
-    let down : cut_off k a / 2 ^ k ≤ e / 2 ^ k = shr_mono k low in
-    let own : cut_off k a / 2 ^ k ≡ a / 2 ^ k = shl-shr (a / 2 ^ k) k in
-    omega (arith, up, down, own)
 
 -- numbers that share their first bits share fewer of them
 pub share_fewer : (j k a b : ℕ) → j ≤ k → a / 2 ^ j ≡ b / 2 ^ j → a / 2 ^ k ≡ b / 2 ^ k

@@ -3,7 +3,8 @@ use Rattle.std.proofs.{Common.{◌≡◌, ◌≢◌, ℕ, zero, suc, ◌+◌, �
 use Rattle.std.specs.List.{AllPairs, AllWithin, Any, insert, remove}
 use Rattle.pf_trie.specs.declared.{found.Found.{Found}, prefix.Prefix.{Prefix}, rows.Row.{Row}, signs.Signs.{Signs}}
 use Rattle.pf_trie.specs.{Prefixes.{AllSigns, IsApart, front, first_of, with_sign, HasNone, Decides, Finds}, Signs.{sign_of, IsFirst, IsShortest}, Rows.{HasSigns, IsInOrder, IsAt, AreRows, AreRowsWith, IsUpTo, IsNoStart, Marks, MarksEach}}
-use Rattle.pf_trie.proofs.Cuts.{cut_off, cut_less, between, share_fewer}
+use Rattle.pf_trie.specs.Agreeing.{cut_off, cut_less, between}
+use Rattle.pf_trie.proofs.Cuts.{share_fewer}
 
 lower : (j k : ℕ) → nat_le j k ≡ true → j ≤ k
 lower j k t = grind (arith, nat_tests)

@@ -1,3 +1,6 @@
 pub mod Signs
 pub mod Prefixes
 pub mod Rows
+pub mod Pages
+pub mod Forks
+pub mod Agreeing

@@ -39,6 +39,10 @@ Finds s low top a found = MatchOption found (HasNone s low top a) (Decides s low
 abbrev pub with_sign : AllSigns → Prefix → Option Bool → AllSigns
 with_sign s p sign k n = cond ((k == p.free) && (n == front p)) sign (s k n)
 
+-- the same sign at each prefix whose addresses have this front before their last `top` bits and that leaves fewer bits free
+abbrev pub Agree : AllSigns → AllSigns → ℕ → ℕ → Type 0
+Agree s t top front = (k n : ℕ) → k < top → n * 2 ^ k / 2 ^ top ≡ front → s k n ≡ t k n
+
 -- ---- two addresses
 
 -- A prefix that leaves so many bits free contains both, and none that leaves fewer does.

@@ -1,7 +1,7 @@
 -- Rows: addresses with the signs of all their prefixes, in order.
 use Rattle.std.specs.{Prelude.{◌≡◌, ◌≢◌, ℕ, ◌*◌, ◌/◌, ◌^◌, ◌<◌, ◌≤◌, ◌==◌, ◌&&◌, Bool, cond, List, length, slice_index_or, Option, Some, None, All}, List.{AllPairs, AllWithin, Any}}
 use Rattle.pf_trie.specs.declared.{prefix.Prefix.{Prefix}, rows.Row.{Row}, signs.Signs.{Signs}}
-use Rattle.pf_trie.specs.{Prefixes.{AllSigns, front, first_of}, Signs.sign_of}
+use Rattle.pf_trie.specs.{Prefixes.{AllSigns, front, first_of}, Signs.{sign_of, below_of}}
 
 -- The signs of an address's prefixes that leave at least `low` bits free and fewer than `top`, and no others.
 pub record HasSigns (s : AllSigns) (low top a : ℕ) (signs : Signs) : Type 0 where
@@ -49,3 +49,7 @@ pub record Marks (p : Prefix) (sign : Option Bool) (old new : Row) : Type 0 wher
 pub record MarksEach (p : Prefix) (sign : Option Bool) (old new : List Row) : Type 0 where
   pub count : length new ≡ length old
   pub each : (k : ℕ) (r : Row) → k < length old → Marks p sign (slice_index_or old k r) (slice_index_or new k r)
+
+-- a row with the signs of the prefixes that leave fewer bits free
+abbrev pub cut_row : ℕ → Row → Row
+cut_row at r = record { first = r.first; signs = below_of at r.signs }

@@ -6,10 +6,20 @@
 //! specs/Forks.antt, what a node keeps.
 #![tactic(auto)]
 
+mod branch;
+mod fork;
 mod found;
+mod level;
+mod page;
 mod prefix;
 mod rows;
 mod signs;
+mod slot;
 
+pub use branch::Branch;
 pub use found::Found;
+pub use level::Level;
+pub use page::Page;
 pub use prefix::Prefix;
+pub use rows::Row;
+pub use signs::Signs;

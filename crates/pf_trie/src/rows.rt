@@ -1,7 +1,7 @@
 //! Rows: addresses with the signs of all their prefixes, in order.
-ghost use Rattle.std.specs.Prelude.{◌≡◌, ℕ, ◌/◌, ◌^◌, ◌<◌, false, Some, None, IfOk};
+ghost use Rattle.std.specs.Prelude.{◌≡◌, ℕ, ◌/◌, ◌^◌, ◌<◌, ◌==◌, false, filter, map, Some, None, IfOk};
 ghost use Rattle.pf_trie.specs.Prefixes.{AllSigns, first_of, with_sign};
-ghost use Rattle.pf_trie.specs.Rows.{HasSigns, AreRows, AreRowsWith, IsUpTo, IsNoStart, Marks, MarksEach};
+ghost use Rattle.pf_trie.specs.Rows.{HasSigns, AreRows, AreRowsWith, IsUpTo, IsNoStart, Marks, MarksEach, cut_row};
 
 use crate::prefix::{Prefix, apart};
 use crate::signs::Signs;
@@ -28,6 +28,17 @@ impl Row {
         Row {
             first: self.first,
             signs: self.signs.with(prefix.free, sign),
+        }
+    }
+
+    // The row with the signs of the prefixes that leave fewer bits free.
+    fn cut(self, most: u8) -> Row
+        requires { most < 128 }
+        ensures { result ≡ cut_row most self }
+    {
+        Row {
+            first: self.first,
+            signs: self.signs.below(most),
         }
     }
 
@@ -158,4 +169,24 @@ pub(crate) fn edited(
         Some(sign) => with_sign(alloc, rows, prefix, sign),
         None => without_sign(alloc, rows, prefix),
     }
+}
+
+/// Of rows those whose addresses begin with `front` before the last `at` bits, with the signs of the prefixes that leave fewer bits free.
+/// `AllocError`: nothing is made.
+pub(crate) fn rows_within(
+    alloc: Global,
+    rows: &[Row],
+    at: u8,
+    front: u128,
+) -> Result<Vec<Row>, AllocError>
+    requires { at < 128 }
+    ensures { IfOk result (λ v. v.items ≡ map (cut_row at) (filter (λ r. r.first / 2 ^ at == front) rows.now)) }
+{
+    let mut within = Vec::new(alloc);
+    for row in rows {
+        if row.first >> at == front {
+            within.push(row.cut(at))?;
+        }
+    }
+    Ok(within)
 }

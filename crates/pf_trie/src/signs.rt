@@ -1,6 +1,6 @@
 //! The signs of the prefixes of one address.
-ghost use Rattle.std.specs.Prelude.{◌≡◌, ℕ, ◌%◌, ◌^◌, ◌<◌, ◌≤◌, ◌==◌, nat_le, nat_lt, cond, None};
-ghost use Rattle.pf_trie.specs.Signs.{sign_of, IsShortest};
+ghost use Rattle.std.specs.Prelude.{◌≡◌, ℕ, ◌<◌, ◌==◌, nat_le, cond, None};
+ghost use Rattle.pf_trie.specs.Signs.{sign_of, below_of, IsShortest};
 
 use crate::found::Found;
 
@@ -62,7 +62,7 @@ impl Signs {
     /// Those of the prefixes that leave fewer bits free.
     pub(crate) fn below(self, most: u8) -> Signs
         requires { most < 128 }
-        ensures { (k : ℕ) → sign_of result k ≡ cond (nat_lt k most) (sign_of self k) None }
+        ensures { result ≡ below_of most self }
     {
         let mask = (1u128 << most) - 1;
         Signs {
