@@ -113,7 +113,12 @@ impl<T: Level> Level for Branch<T> {
                     fork: Some(Arc::new(alloc, fork)?),
                 })
             }
-            None => Branch::divided(alloc, top, prefix.address, edited(alloc, page.rows(), prefix, sign)?),
+            None => Branch::divided(
+                alloc,
+                top,
+                prefix.address,
+                edited(alloc, page.rows(), prefix, sign)?,
+            ),
         }
     }
 

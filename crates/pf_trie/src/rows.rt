@@ -135,7 +135,12 @@ fn clear(rows: &mut Vec<Row>, address: u128)
 }
 
 // Rows with a sign at a prefix. `AllocError`: nothing is made.
-fn with_sign(alloc: Global, rows: &[Row], prefix: Prefix, sign: bool) -> Result<Vec<Row>, AllocError>
+fn with_sign(
+    alloc: Global,
+    rows: &[Row],
+    prefix: Prefix,
+    sign: bool,
+) -> Result<Vec<Row>, AllocError>
     requires { prefix.free < 128 }
     ensures { IfOk result (λ v. (s : AllSigns) (top front : ℕ) → AreRows s top front rows.now → prefix.free < top → prefix.address / 2 ^ top ≡ front → AreRows (with_sign s prefix (Some sign)) top front v.items) }
 {

@@ -106,13 +106,7 @@ impl<T: Level> Slot<T> {
     }
 
     /// The slot of the addresses that begin with `front`, with the sign at a prefix replaced that leaves at least `at` bits free.
-    pub(crate) fn marked(
-        self,
-        at: u8,
-        front: u128,
-        prefix: Prefix,
-        sign: Option<bool>,
-    ) -> Slot<T>
+    pub(crate) fn marked(self, at: u8, front: u128, prefix: Prefix, sign: Option<bool>) -> Slot<T>
         requires free { prefix.free < 128 }
         requires wide { at ≤ prefix.free }
         ensures { (s : AllSigns) → prefix.free < at + SLOT_BITS → IsSlot T.holds s at front self → IsSlot T.holds (with_sign s prefix sign) at front result }
