@@ -1,7 +1,7 @@
 //! Lines: what a client's line asks, and the lines of its reply.
 //!
 //! A line is read in three steps: `line` refuses a bad one and cuts any other into words, `commands` reads the words by the grammar of
-//! `specs/Grammar.antt`, and the bytes of a peer's message are looked at last. What it asks is a [`Request`]: a command, or a status. For a
+//! `specs/Grammar.antt`, and the bytes of a peer's message are looked at last. What it asks is a `request`: a command, or a status. For a
 //! line whose first word is `judge` there is a shorter way, `judge_line`. A reply is written by `reply`: a line for each thing that it
 //! shows, and one after them.
 //!

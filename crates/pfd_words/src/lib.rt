@@ -5,7 +5,7 @@
 //!
 //! - `options`: what the options of a subcommand say.
 //! - `conf`: the subcommands `check`, `test`, `cover` and `explain`, which ask something of a pf.conf, and what they ask.
-//! - `words`: the subcommands `run`, `format`, `show`, `serve`, `connect` and `load`, and [`read_words`], which reads a command line into a
+//! - `words`: the subcommands `run`, `format`, `show`, `serve`, `connect`, `load` and `status`, and [`read_words`], which reads a command line into a
 //!   [`Task`].
 //!
 //! Read `specs/Words.antt` first: it has the subcommands with their options, and `IsAsked`, what a command line asks for by clap's own
