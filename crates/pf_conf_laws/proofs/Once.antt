@@ -18,7 +18,8 @@ use Rattle.pf_conf.specs.Telling.{telling, told_at, first_spot}
 use Rattle.pf_conf.specs.Resolving.{is_main, room_for, free_for, with_notes, with_loads, with_tree, flat_of, after_flat, main_file, commit_length, with_flat, with_file, with_load, with_waiting, load_numbered, loads_from, committed, resolved}
 use Rattle.pf_conf.proofs.Kept.{both, each_keeps, if_not, if_room, if_free, telling_so}
 use Rattle.pf_conf_laws.specs.Types.{Found, Gathered, Mention, Waiting}
-use Rattle.pf_conf_laws.specs.Commits.{is_table_at, AreOnce, with_path, table_paths, HasRoom}
+use Rattle.pf_load.specs.{Naming.{with_path, table_paths}, Laws.{is_table_at, AreOnce}}
+use Rattle.pf_conf_laws.specs.Commits.{HasRoom}
 
 -- ---- names and paths
 
