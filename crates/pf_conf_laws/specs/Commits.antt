@@ -23,5 +23,5 @@ pub record HasRoom (c : Conf) : Type 0 where
 -- After a load of a file that went through, exactly its rulesets and tables are replaced, by what it has.
 abbrev pub FilesLoadExactly : Type 0
 FilesLoadExactly =
-    (files : List File) (mode : Mode) (base name : Word) (c : Conf) (t : PlainTickets) (d : PlainDurable) (e : PlainChange) →
-    resolved files mode base name ≡ Ok c → IsLoad c t d e → IsLoaded c d (applied d e)
+    (files : List File) (interfaces : List Interface) (mode : Mode) (base name : Word) (c : Conf) (t : PlainTickets) (d : PlainDurable) (e : PlainChange) →
+    resolved files interfaces mode base name ≡ Ok c → IsLoad c t d e → IsLoaded c d (applied d e)

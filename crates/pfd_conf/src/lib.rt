@@ -26,6 +26,6 @@ pub use fault::{CaseMistake, Fault};
 pub use files::{read_cases, read_conf};
 pub use firewall::{Decided, Firewall};
 pub use outcomes::{CASES_LIMIT, Cases, Outcome, Tried};
-pub use pf_conf::Mode;
+pub use pf_conf::{Interface, Mode};
 pub use report::Tally;
-pub use taking::{Taken, take};
+pub use taking::{Taken, given_interfaces, take};
