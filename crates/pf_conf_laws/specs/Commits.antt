@@ -1,6 +1,7 @@
 -- What one commit has of a file (pf(4), DIOCXCOMMIT): its rulesets are the rules of paths, and the tables at paths.
 use Rattle.std.specs.Prelude.{◌≡◌, ◌≤◌, ℕ, ◌+◌, List, length, sum_by, codes, Ok}
 use Rattle.pf_tokens.specs.declared.files.File.{File}
+use Rattle.pf_interfaces.specs.declared.interface.Interface.{Interface}
 use Rattle.pf_parse.specs.declared.parser.Mode.{Mode}
 use Rattle.pf_parse.specs.Reading.{Word}
 use Rattle.pf_conf.specs.declared.{found.Conf.Conf, found.Ruleset.Ruleset, found.TheConstants.{RULESET_LIMIT, LINE_LIMIT}}
@@ -23,5 +24,6 @@ pub record HasRoom (c : Conf) : Type 0 where
 -- After a load of a file that went through, exactly its rulesets and tables are replaced, by what it has.
 abbrev pub FilesLoadExactly : Type 0
 FilesLoadExactly =
-    (files : List File) (interfaces : List Interface) (mode : Mode) (base name : Word) (c : Conf) (t : PlainTickets) (d : PlainDurable) (e : PlainChange) →
+    (files : List File) (interfaces : List Interface) (mode : Mode) (base name : Word) (c : Conf)
+    (t : PlainTickets) (d : PlainDurable) (e : PlainChange) →
     resolved files interfaces mode base name ≡ Ok c → IsLoad c t d e → IsLoaded c d (applied d e)

@@ -18,6 +18,19 @@ pub struct Taken {
     pub conf: Conf,
 }
 
+impl Taken {
+    /// What a server has: its rules stand in no file.
+    pub fn of_server(alloc: Global, conf: Conf) -> Taken
+        ensures files { result.files ≡ [] }
+        ensures conf { result.conf ≡ conf }
+    {
+        Taken {
+            files: Items::new(alloc),
+            conf,
+        }
+    }
+}
+
 /// Appends the interface that a text gives. `Fault::Interface`: it gives none.
 fn push_given(alloc: Global, text: &str, interfaces: &mut Items<Interface>) -> Result<(), Fault>
     ensures { GoesOn result interfaces.new (with_given interfaces.old text.now (interface_of text.now)) }

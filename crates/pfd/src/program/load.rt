@@ -96,8 +96,8 @@ fn write_reply<W: Write>(writer: &mut W, reply: &[u8]) -> io::Result<()> {
     writer.flush()
 }
 
-// What the program says of a load that stopped.
-fn told_of_load<F: Write>(fault: LoadFault, faults: &mut F) -> Fault {
+/// What the program says of a load that stopped, or of what a server has.
+pub(crate) fn told_of_load<F: Write>(fault: LoadFault, faults: &mut F) -> Fault {
     match fault {
         LoadFault::Memory => Fault::Memory,
         LoadFault::Ended => Fault::Output,
