@@ -24,12 +24,18 @@ pub struct Interface {
     pub addresses: Items<Held>,
 }
 
+/// How many bytes stand before the first slash.
+fn length_before_slash(text: &[u8]) -> usize
+    ensures { result ≡ length (before_slash text.now) }
+{
+    text.iter().take_while(|byte| **byte != b'/').count()
+}
+
 /// What stands before the length of a network.
 fn before_slash(text: &[u8]) -> &[u8]
     ensures { result.now ≡ before_slash text.now }
 {
-    let length = text.iter().take_while(|byte| **byte != b'/').count();
-    &text[..length]
+    &text[..length_before_slash(text)]
 }
 
 /// The address that a text spells, with its network's length behind it, if it spells one.

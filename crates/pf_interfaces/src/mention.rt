@@ -151,12 +151,25 @@ fn is_v6(text: &Bytes) -> bool
     text.as_slice().iter().any(|byte| *byte == b':')
 }
 
+/// How many are IPv6 addresses.
+fn v6_count(texts: &[Bytes]) -> usize
+    ensures { result ≡ count_by is_v6 texts.now }
+{
+    texts.iter().filter(|text| is_v6(text)).count()
+}
+
+/// How many are IPv4 addresses.
+fn v4_count(texts: &[Bytes]) -> usize
+    ensures { result ≡ count_by (λ text. not (is_v6 text)) texts.now }
+{
+    texts.iter().filter(|text| !is_v6(text)).count()
+}
+
 /// Whether there is at most one address of each family.
 fn is_one_each(texts: &[Bytes]) -> bool
     ensures { result ≡ is_one_each texts.now }
 {
-    texts.iter().filter(|text| is_v6(text)).count() <= 1
-        && texts.iter().filter(|text| !is_v6(text)).count() <= 1
+    v6_count(texts) <= 1 && v4_count(texts) <= 1
 }
 
 /// Whether these addresses can stand for a mention.
