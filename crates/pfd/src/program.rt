@@ -5,6 +5,7 @@
 //! - `ended`: what the program says of a session.
 //! - `conf`: what is asked of a pf.conf.
 //! - `load`: loads of one into a server.
+//! - `explained`: what is asked of a server's rules.
 ghost use Rattle.std.specs.{Prelude.{◌≡◌, ◌≢◌, ◌≤◌, ◌<◌, ◌^◌, ◌⊎◌, IfErr, IfOk, Result, map, string_bytes}, Io.KnownBytes.Keeps, IoError.error_kind};
 ghost use Rattle.clap.specs.Words.{kind_of, subcommand_of};
 ghost use Rattle.pfd_files.specs.declared.fault.Fault.{Fault};
@@ -15,6 +16,7 @@ ghost use Rattle.pfd.specs.Program.{IsDone, IsDeviceRun, IsMemoryRun, IsProgramR
 
 mod conf;
 mod ended;
+mod explained;
 mod fresh;
 mod load;
 mod serving;
@@ -24,6 +26,7 @@ use crate::client::connect;
 use crate::fullness::gauge::{Gauge, tell_fullness};
 use crate::program::conf::answer;
 use crate::program::ended::told;
+use crate::program::explained::explain_served;
 use crate::program::fresh::open_memory;
 use crate::program::load::load_file;
 use crate::program::serving::serve_file;
@@ -143,6 +146,7 @@ fn perform<
         Task::Serve(service) => serve_file(machine, alloc, files, &service, writer, faults),
         Task::Connect { address } => told(connect(machine, alloc, address, reader, writer)),
         Task::Conf(task) => answer(alloc, files, &task, writer, faults),
+        Task::Explain(task) => explain_served(machine, alloc, &task, writer, faults),
         Task::Load(task) => load_file(machine, alloc, files, &task, writer, faults),
         Task::Status { address } => ask_status(machine, alloc, address, writer),
     }

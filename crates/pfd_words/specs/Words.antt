@@ -4,8 +4,8 @@ use Rattle.clap.specs.{Simple.on_top, Words.{App, Row, Rule, Text, new_app, new_
 use Rattle.clap.specs.declared.builder.action.ArgAction.TheVariants.{Append}
 use Rattle.clap.specs.declared.builder.value_parser.ValueParser.TheVariants.{Signed}
 use Rattle.clap.specs.declared.error.kind.ErrorKind.{ErrorKind, TheVariants.{OutOfMemory, ValueValidation}}
-use Rattle.pfd_words.specs.{Options.{text_in, SaysText, MaySayText, SaysTexts, SaysFlag}, Conf.{IsWord, AsksConf, flag_rule, text_rule, conf_words, check_words, test_words, cover_words, explain_words}}
-use Rattle.pfd_words.specs.declared.words.{Limits.Limits, Service.Service, Task.Task, LoadTask.LoadTask, Task.TheVariants.{Run, RunOn, Format, Show, Serve, Connect, Conf, Load, Status}, TheConstants.{MEMORY_SIZE, HISTORY_LIMIT, MOST_HISTORY, MOST_RENEWAL, RENEWAL, RENEWAL_BYTES, WORKERS, MOST_WORKERS, OWNER_MODE, MOST_MODE}}
+use Rattle.pfd_words.specs.{Options.{text_in, SaysText, MaySayText, SaysTexts, SaysFlag}, Conf.{IsWord, AsksConf, AsksServer, flag_rule, text_rule, conf_words, check_words, test_words, cover_words, explain_words}}
+use Rattle.pfd_words.specs.declared.words.{Limits.Limits, Service.Service, Task.Task, LoadTask.LoadTask, Task.TheVariants.{Run, RunOn, Format, Show, Serve, Connect, Conf, Explain, Load, Status}, TheConstants.{MEMORY_SIZE, HISTORY_LIMIT, MOST_HISTORY, MOST_RENEWAL, RENEWAL, RENEWAL_BYTES, WORKERS, MOST_WORKERS, OWNER_MODE, MOST_MODE}}
 
 -- ---- the subcommands and their options
 
@@ -222,6 +222,7 @@ pub record AsksLoad (met : Option (Text × List Row)) (task : LoadTask) : Type 0
   pub word : IsWord (codes "load") met
   pub path : SaysText (codes "file") met task.path.now
   pub lenient : SaysFlag (codes "lenient") met task.is_lenient
+  pub interfaces : SaysTexts (codes "interface") met (map (λ s. s.now) task.interfaces.items)
   pub anchor : MaySayText (codes "anchor") met task.anchor
   pub to : SaysServer (codes "to") met task.to.now
   pub retries : SaysRetries met task.retries
@@ -236,6 +237,7 @@ IsAsked met (Show path) = (option_map (λ m. m.0) met ≡ Some (codes "show")) �
 IsAsked met (Serve service) = (option_map (λ m. m.0) met ≡ Some (codes "serve")) × AsksService met service
 IsAsked met (Connect address) = (option_map (λ m. m.0) met ≡ Some (codes "connect")) × SaysText (codes "address") met address.now
 IsAsked met (Conf task) = AsksConf met task
+IsAsked met (Explain task) = AsksServer met task
 IsAsked met (Load task) = AsksLoad met task
 IsAsked met (Status address) = (option_map (λ m. m.0) met ≡ Some (codes "status")) × SaysServer (codes "address") met address.now
 
@@ -271,5 +273,6 @@ HasHistory (Show path) = Unit {0}
 HasHistory (Serve service) = CanServe service
 HasHistory (Connect address) = Unit {0}
 HasHistory (Conf task) = Unit {0}
+HasHistory (Explain task) = Unit {0}
 HasHistory (Load task) = Unit {0}
 HasHistory (Status address) = Unit {0}

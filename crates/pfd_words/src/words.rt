@@ -5,8 +5,8 @@ ghost use Rattle.clap.specs.declared.builder.command.Command.TheViews.{out-Comma
 ghost use Rattle.pfd_words.specs.Words.{IsPlainRun, plain_run, HasHistory, IsAsked, IsHistory, IsMode, IsNoMode, IsRefused, IsRefusedMode, MaySayNumber, SaysLimits, SaysMode, SaysNumber, disk_rule, history_rule, size_rule, listen_rule, workers_rule, sessions_rule, idle_rule, mode_rule, peers_rule, ask_rule, renew_rule, renew_bytes_rule, run_words, format_words, show_words, place_words, server_words, bounded_words, renewed_words, limited_words, asking_words, serve_words, connect_words, engine_words, to_rule, retry_rule, placed_words, load_words, status_words, AsksLoad, reading_words, program_words};
 
 use crate::conf::{
-    ConfTask, check_words, conf_words, cover_words, coverage_in, explain_words, matches_in,
-    meaning_in, outcomes_in, test_words,
+    ConfTask, ServerTask, check_words, conf_words, cover_words, coverage_in, explain_words,
+    matches_in, meaning_in, outcomes_in, server_matches_in, test_words,
 };
 use crate::options::{is_said, text_if_any, text_in, texts_in};
 use clap::error::ErrorKind;
@@ -104,6 +104,8 @@ pub struct LoadTask<'a> {
     pub path: &'a str,
     /// Whether what isn't there is left out of it with a note.
     pub is_lenient: bool,
+    /// Interfaces with their addresses, as they were typed: a text may give none.
+    pub interfaces: Vec<&'a str>,
     /// The path from which on its rulesets are, if one is named. It is as it was typed: it may not be one.
     pub anchor: Option<&'a str>,
     /// The server's address, as it was typed.
@@ -145,6 +147,8 @@ pub enum Task<'a> {
     },
     /// Answers something of a pf.conf.
     Conf(ConfTask<'a>),
+    /// Which rules of a server match a packet.
+    Explain(ServerTask<'a>),
     /// Loads a pf.conf into a server, in one commit.
     Load(LoadTask<'a>),
     /// Writes the status of the server at the address.
@@ -526,11 +530,11 @@ fn task_of<'a>(alloc: Global, matches: &ArgMatches<'a>) -> Result<Task<'a>, Erro
         Some(("connect", found)) => Ok(Task::Connect {
             address: text_in(found, "address"),
         }),
-        Some(("check", found)) => Ok(Task::Conf(meaning_in(found))),
+        Some(("check", found)) => Ok(Task::Conf(meaning_in(alloc, found)?)),
         Some(("test", found)) => Ok(Task::Conf(outcomes_in(alloc, found)?)),
         Some(("cover", found)) => Ok(Task::Conf(coverage_in(alloc, found)?)),
-        Some(("explain", found)) => Ok(Task::Conf(matches_in(alloc, found)?)),
-        Some(("load", found)) => Ok(Task::Load(load_in(found))),
+        Some(("explain", found)) => Ok(explained_in(alloc, found)?),
+        Some(("load", found)) => Ok(Task::Load(load_in(alloc, found)?)),
         Some(("status", found)) => Ok(Task::Status {
             address: address_in(found, "address"),
         }),
@@ -610,19 +614,32 @@ fn limits_in(found: &ArgMatches<'_>) -> (usize, Option<Limits>)
     (MOST_HISTORY, Some(limits))
 }
 
+// The task of `explain`: of a server if one is named, else of a file.
+fn explained_in<'a>(alloc: Global, found: &ArgMatches<'a>) -> Result<Task<'a>, AllocError>
+    ensures asked { IfOk result (λ task. IsAsked (Some (codes "explain", rows_of (found_of found.now))) task) }
+    ensures history { IfOk result HasHistory }
+{
+    match text_if_any(found, "from") {
+        Some(from) => Ok(Task::Explain(server_matches_in(alloc, found, from)?)),
+        None => Ok(Task::Conf(matches_in(alloc, found)?)),
+    }
+}
+
 // The task of `load`.
-fn load_in<'a>(found: &ArgMatches<'a>) -> LoadTask<'a>
-    ensures { AsksLoad (Some (codes "load", rows_of (found_of found.now))) result }
+fn load_in<'a>(alloc: Global, found: &ArgMatches<'a>) -> Result<LoadTask<'a>, AllocError>
+    ensures { IfOk result (AsksLoad (Some (codes "load", rows_of (found_of found.now)))) }
 {
     let retries = number_in(found, "retry", 0).min(MOST_RETRIES);
-    LoadTask {
+    let interfaces = texts_in(alloc, found, "interface")?;
+    Ok(LoadTask {
         path: text_in(found, "file"),
         is_lenient: is_said(found, "lenient"),
+        interfaces,
         anchor: text_if_any(found, "anchor"),
         to: address_in(found, "to"),
         retries: retries as u32,
         is_dry: is_said(found, "dry-run"),
-    }
+    })
 }
 
 // The address that a word says, or the one at which the unit and the script for rc(8) have a server.
