@@ -152,6 +152,9 @@ class Asking(Alone):
         super().__init__(ways, number, turn, seconds)
         self.address = ways.ask[number % 2]
 
+    def ask(self, lines):
+        return Client.ask(self, lines)
+
     def turn(self):
         self.ask([self.question() for _ in range(self.random.choice((1, 1, 20)))])
 
