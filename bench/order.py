@@ -132,7 +132,8 @@ class Client:
         return [("track", f"track {name} {out}"), (f"pass state {name}", f"judge {back}"), ("kill", f"kill {name}"), ("pass default", f"judge {back}")]
 
     def together(self):
-        """Changes of all kinds that are kept together, and between them some questions and what is refused. Most are edits of the one table."""
+        """Changes of all kinds that are kept together, and between them some questions and what is refused. Most are edits of the one
+        table."""
         path, table = f"own{self.number}", f"- own{self.number}"
         ticket = self.begin(path)
         lines = [self.edit() if self.random.randrange(12) else self.mixed() for _ in range(self.random.randrange(TOGETHER))]
@@ -307,7 +308,8 @@ class Openings:
         self.placed = self.place(world.length)
 
     def bounded(self, told):
-        """The number of each of a client's changes, the last and the first opening to which it may belong, and its place in what was told."""
+        """The number of each of a client's changes, the last and the first opening to which it may belong, and its place in what was
+        told."""
         rows, low, change, before = [], self.first, self.first, 0
         for place, event in enumerate(told):
             number, found = number_of(event.reply), ticket_of(event)
@@ -334,17 +336,20 @@ class Openings:
                 yield number, high, low, place
 
     def place(self, length):
-        """The opening, the number, the client and the place in what it was told of each change, in order. The first opening has so many already."""
+        """The opening, the number, the client and the place in what it was told of each change, in order. The first opening has so many
+        already."""
         placed, going_on, number = [], list(range(self.first, self.last + 1)), 0
         while going_on and (self.changes or number < (self.least or 0)):
             number += 1
             with_it = list(self.match(number, self.changes.pop(number, []), going_on, length, placed))
             going_on = going_on if self.least is None else with_it
-        self.wrong += [f"{len(some)} changes more have the number {number} than openings can have" for number, some in sorted(self.changes.items())]
+        left = sorted(self.changes.items())
+        self.wrong += [f"{len(some)} changes more have the number {number} than openings can have" for number, some in left]
         return sorted(placed)
 
     def match(self, number, some, going_on, length, placed):
-        """Which of these openings have a change of this number: of those that may belong to one, that whose last one comes first belongs to it."""
+        """Which of these openings have a change of this number: of those that may belong to one, that whose last one comes first belongs to
+        it."""
         for opening in going_on:
             if opening == self.first and number <= length:
                 yield opening
@@ -360,7 +365,8 @@ class Openings:
         self.wrong += [f"client {who}: the change {self.histories[who][place]} belongs to no opening" for *_, who, place in some]
 
     def narrowed(self, change):
-        """The last and the first opening to which it may belong, by what is known of its client's other changes, and when its reply was read."""
+        """The last and the first opening to which it may belong, by what is known of its client's other changes, and when its reply was
+        read."""
         bounds, who, place = change
         known = self.known.get(who, [])
         at = bisect.bisect_left(known, (place, 0))
@@ -369,8 +375,8 @@ class Openings:
 
 
 class Order:
-    """All changes in their order, and what stood behind each. `world` is what stood before, and then what stands behind the last. Replies are
-    those of a server of one opening, unless the last one is said and how many changes each has at least that is renewed."""
+    """All changes in their order, and what stood behind each. `world` is what stood before, and then what stands behind the last. Replies
+    are those of a server of one opening, unless the last one is said and how many changes each has at least that is renewed."""
 
     def __init__(self, histories, world, last=None, least=0):
         self.histories, self.world = histories, world
@@ -415,8 +421,8 @@ class Order:
         self.least = [*itertools.accumulate((place for _, place in reversed(sent)), min, initial=self.length + 1)][::-1]
 
     def bounds(self, event):
-        """The greatest place of a change whose reply anybody had read when this was sent, and the last one before those that were sent once its
-        reply was read."""
+        """The greatest place of a change whose reply anybody had read when this was sent, and the last one before those that were sent once
+        its reply was read."""
         known = self.greatest[bisect.bisect_left(self.read, event.sent)]
         return known, self.least[bisect.bisect_right(self.sent, event.read)] - 1
 
@@ -434,7 +440,7 @@ class Order:
         for opening in range(self.first, self.world.opening + 1):
             some = sorted(counts.get(opening, []))
             if some != [*range(before + 1, before + len(some) + 1)]:
-                self.wrong.append(f"{len(some)} tickets were given in opening {opening} behind {before} others, the last of which is {some[-1]}")
+                self.wrong.append(f"{len(some)} tickets were given in opening {opening} behind {before} others, the last one {some[-1]}")
             self.world.tickets, before = before + len(some), 0
 
     def make(self, number, who, event):

@@ -13,9 +13,9 @@ The server has addresses of each kind, TCP and Unix sockets. 64 clients at a tim
 Two peers more send streams one after the other. Beside all that, over all rounds, there are silent clients: one with half a line, one with
 nothing, and a peer with half a message, which send the rest at the end.
 
-Behind each round every reply is compared with the order of all changes over the openings, as bench/order.py finds it, and all that is kept with
-what these changes leave. Then the server's memory and descriptors are looked at. Behind the last round it is killed, and what the next one
-has is compared too.
+Behind each round every reply is compared with the order of all changes over the openings, as bench/order.py finds it, and all that is kept
+with what these changes leave. Then the server's memory and descriptors are looked at. Behind the last round it is killed, and what the next
+one has is compared too.
 """
 import multiprocessing
 import os
@@ -32,6 +32,8 @@ SIZE, WORKERS, ROUND, PATIENCE = 1 << 18, 64, 20, 60
 TICKS, LASTS = 10, (20, 60)
 # Behind so many lines that come at once one asks for a ticket.
 CLOCK = 50
+# What one that may only ask sends too.
+DENIED = ("tkill - t", "begin filter -", "publish", "kill 1 1", "expire 0", "add - 1.1 pass all", "tset - t")
 # How much the memory that is held behind the last round may be above that behind a minute.
 MOST_GROWTH = 1.1
 # What the table has all the time, beside what is asked about.
@@ -162,7 +164,7 @@ class Asking(Alone):
         kind, line = self.mixed()
         denied = ("tadd", "tdel", "none")
         if self.random.randrange(8) == 0:
-            return "err denied", self.random.choice(("tkill - t", "begin filter -", "publish", "kill 1 1", "expire 0", "add - 1.1 pass all", "tset - t"))
+            return "err denied", self.random.choice(DENIED)
         return "err denied" if kind in denied else kind, line
 
 

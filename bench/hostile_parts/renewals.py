@@ -1,14 +1,15 @@
 """A server that renews its history every few changes, stopped at each call of its file, and with each call broken.
 
-A small library (note.c) notes each write and sync of the file and each reply, in their order. Of each call, those within renewals among them, each
-image that a crash in it may leave is read by the plain reading: with what was written since the last sync there, lost, and with other bytes in
-its place. It has to hold all changes that had been answered, and no more than those that were under way, in the opening of the last ticket
-that was given or the one behind it. So the next opening's tickets are others, and each older one is void. The program opens those of
-renewals too: some of them in a quick run. It has to find what the plain reading does, and to refuse the last ticket that was given.
+A small library (note.c) notes each write and sync of the file and each reply, in their order. Of each call, those within renewals among
+them, each image that a crash in it may leave is read by the plain reading: with what was written since the last sync there, lost, and with
+other bytes in its place. It has to hold all changes that had been answered, and no more than those that were under way, in the opening of
+the last ticket that was given or the one behind it. So the next opening's tickets are others, and each older one is void. The program opens
+those of renewals too: some of them in a quick run. It has to find what the plain reading does, and to refuse the last ticket that was
+given.
 
-Another one (break.c) breaks the k-th call of a kind, for each k until none is met, as in the part `files`. A fault of an opening that renews ends the
-server with status 1 and `pfd: fault`; behind one of a change all changes are told `err halted`, unless it ends so. Where the process is killed in the
-call, what is left holds what was answered.
+Another one (break.c) breaks the k-th call of a kind, for each k until none is met, as in the part `files`. A fault of an opening that
+renews ends the server with status 1 and `pfd: fault`; behind one of a change all changes are told `err halted`, unless it ends so. Where
+the process is killed in the call, what is left holds what was answered.
 """
 import copy
 import os
@@ -44,8 +45,9 @@ class Gone(Exception):
 
 
 class Player:
-    """A client that makes the changes, each once the one before is answered, and waits for the renewal behind each last one of an opening. `fronts` is
-    what is held behind each change that was sent, `answered` how many of them were answered, and `refused` the first reply that is no other's."""
+    """A client that makes the changes, each once the one before is answered, and waits for the renewal behind each last one of an opening.
+    `fronts` is what is held behind each change that was sent, `answered` how many of them were answered, and `refused` the first reply that
+    is no other's."""
 
     def __init__(self, server, held, renew):
         self.client, self.renew = server.session(SECONDS), renew
