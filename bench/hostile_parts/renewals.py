@@ -29,7 +29,7 @@ from .soak import without_number
 from .streams import EXAMPLE
 
 # A history is renewed behind so many changes, of files of these sizes. On the smallest some openings begin the other bank.
-RENEW, SIZES = 3, (1200, 1400, 1700, 4096)
+RENEW, SIZES = 3, (1700, 1900, 2500, 4096)
 # Changes; one that begins with `rules` is a commit of this rule at a path.
 CHANGES = [
     "tset - t 10.0.0.0/8", "tadd - t !10.1.0.0/16", "rules - pass out proto udp all keep state", "tdel - t !10.1.0.0/16", "tset - t 10.0.0.0/8",
