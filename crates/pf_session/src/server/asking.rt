@@ -273,13 +273,13 @@ pub fn go_on_asking<
 {
     let mut last = None;
     let book = Caller::new(rt, shared);
-    ask_on_by(
+    go_on_asking_by(
         alloc, session, reader, writer, &book, seer, gate, pause, &mut last,
     )
 }
 
-// The same, by whatever is asked, with the receipt of an earlier call.
-fn ask_on_by<A: AskBook<J>, J: Chapter, G: Gate, P: Pause, R: Read, O: Write>(
+/// As [`go_on_asking`], with its faults, but by whatever is asked, and with receipts as in [`go_on_by`](crate::go_on_by).
+pub fn go_on_asking_by<A: AskBook<J>, J: Chapter, G: Gate, P: Pause, R: Read, O: Write>(
     alloc: Global,
     session: &mut LineSession,
     reader: &mut R,

@@ -10,7 +10,7 @@ use std::sync::Wait;
 
 /// What runs the commands of a session and the messages of a peer, with receipts of the opening `J`. Whoever is generic in it needn't name
 /// a device, nor what waits.
-pub(crate) trait CallBook<J: Chapter> {
+pub trait CallBook<J: Chapter> {
     /// Runs a command, as [`Shared::run`] does.
     fn call(&self, command: Command, last: Option<&Receipt<J>>) -> (Reply, Receipt<J>)
         ensures { IsAnswered J.base J.setting command result.0 result.1 (option_copied last.entry) };
@@ -39,7 +39,7 @@ pub(crate) trait CallBook<J: Chapter> {
 }
 
 /// What answers the questions of a session that may change nothing, with receipts of the opening `J`. It can do nothing else.
-pub(crate) trait AskBook<J: Chapter> {
+pub trait AskBook<J: Chapter> {
     /// Asks this, as [`Shared::run`] does.
     fn ask(&self, inquiry: Inquiry, last: Option<&Receipt<J>>) -> (Reply, Receipt<J>)
         ensures { IsAnswered J.base J.setting inquiry.command result.0 result.1 (option_copied last.entry) };
@@ -51,13 +51,7 @@ pub(crate) trait AskBook<J: Chapter> {
 
 /// A caller of a Book under a lock, which waits for it by a handle.
 #[derive(Drop)]
-pub(crate) struct Caller<
-    'a,
-    W: Wait,
-    D: Disk + Drop,
-    J: Chapter + Numbering,
-    S: Publisher<J> + Drop,
-> {
+pub struct Caller<'a, W: Wait, D: Disk + Drop, J: Chapter + Numbering, S: Publisher<J> + Drop> {
     rt: &'a W,
     shared: &'a Shared<D, J, S>,
 }
@@ -70,7 +64,7 @@ impl<'a, W: Wait, D: Disk + Drop, J: Chapter + Numbering, S: Publisher<J> + Drop
     S,
 > {
     /// One that calls this Book.
-    pub(crate) fn new(rt: &'a W, shared: &'a Shared<D, J, S>) -> Caller<'a, W, D, J, S> {
+    pub fn new(rt: &'a W, shared: &'a Shared<D, J, S>) -> Caller<'a, W, D, J, S> {
         Caller { rt, shared }
     }
 }

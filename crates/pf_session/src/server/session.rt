@@ -372,8 +372,9 @@ pub fn go_on<
     )
 }
 
-// The same, by whatever is called, with the receipt of an earlier call.
-fn go_on_by<C: CallBook<J>, J: Chapter, G: Gate, P: Pause, R: Read, O: Write>(
+/// As [`go_on`], with its faults, but by whatever is called, and the first call hands in the receipt that the caller has, if it has one.
+/// Afterwards the caller has the receipt of the session's last call in this opening, or its own if there was no call.
+pub fn go_on_by<C: CallBook<J>, J: Chapter, G: Gate, P: Pause, R: Read, O: Write>(
     alloc: Global,
     session: &mut LineSession,
     reader: &mut R,
