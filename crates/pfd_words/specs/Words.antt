@@ -81,8 +81,11 @@ limited_words = with_rule (with_rule renewed_words idle_rule) (mode_rule (codes 
 abbrev pub asking_words : App
 asking_words = with_rule (with_rule limited_words ask_rule) (mode_rule (codes "ask-mode"))
 
+abbrev pub peer_words : App
+peer_words = with_rule (with_rule asking_words peers_rule) (mode_rule (codes "peers-mode"))
+
 abbrev pub serve_words : App
-serve_words = with_rule (with_rule asking_words peers_rule) (mode_rule (codes "peers-mode"))
+serve_words = with_rule peer_words (flag_rule (codes "log"))
 
 abbrev pub connect_words : App
 connect_words = with_rule (new_app (codes "connect")) (record (new_rule (codes "address")) { value_names = 1; required = true })
@@ -209,6 +212,7 @@ pub record AsksService (met : Option (Text × List Row)) (service : Service) : T
   pub limits : SaysLimits met service.history service.renewal
   pub sessions : SaysSessions met service.sessions
   pub idle : SaysIdle met service.idle
+  pub log : SaysFlag (codes "log") met service.is_logged
 
 abbrev pub SaysRetries : Option (Text × List Row) → ℕ → Type 0
 SaysRetries met n = SaysNumber 0 4294967295 0 (digits_in (codes "retry") met) n

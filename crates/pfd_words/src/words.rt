@@ -2,7 +2,7 @@
 ghost use Rattle.std.specs.Prelude.{◌≡◌, ◌≤◌, IfErr, IfOk, List, MatchOption, ℕ, Some, [], codes, false, map, option_map, string_bytes, true, unwrap_or};
 ghost use Rattle.clap.specs.Words.{app_of, found_of, kind_of, one_of, first_of, rows_of, rule_of, subcommand_of, subcommand_rows_of, takes};
 ghost use Rattle.clap.specs.declared.builder.command.Command.TheViews.{out-Command};
-ghost use Rattle.pfd_words.specs.Words.{IsPlainRun, plain_run, HasHistory, IsAsked, IsHistory, IsMode, IsNoMode, IsRefused, IsRefusedMode, MaySayNumber, SaysLimits, SaysMode, SaysNumber, disk_rule, history_rule, size_rule, listen_rule, workers_rule, sessions_rule, idle_rule, mode_rule, peers_rule, ask_rule, renew_rule, renew_bytes_rule, run_words, format_words, show_words, place_words, server_words, bounded_words, renewed_words, limited_words, asking_words, serve_words, connect_words, engine_words, to_rule, retry_rule, placed_words, load_words, status_words, AsksLoad, reading_words, program_words};
+ghost use Rattle.pfd_words.specs.Words.{IsPlainRun, plain_run, HasHistory, IsAsked, IsHistory, IsMode, IsNoMode, IsRefused, IsRefusedMode, MaySayNumber, SaysLimits, SaysMode, SaysNumber, disk_rule, history_rule, size_rule, listen_rule, workers_rule, sessions_rule, idle_rule, mode_rule, peers_rule, ask_rule, renew_rule, renew_bytes_rule, run_words, format_words, show_words, place_words, server_words, bounded_words, renewed_words, limited_words, asking_words, peer_words, serve_words, connect_words, engine_words, to_rule, retry_rule, placed_words, load_words, status_words, AsksLoad, reading_words, program_words};
 
 use crate::conf::{
     ConfTask, ServerTask, check_words, conf_words, cover_words, coverage_in, explain_words,
@@ -95,6 +95,8 @@ pub struct Service<'a> {
     pub sessions: u32,
     /// After how many seconds in which nothing came a connection is closed; 0 means never.
     pub idle: u32,
+    /// Whether a line is written for each change.
+    pub is_logged: bool,
 }
 
 /// What `load` asks for: a pf.conf, and a server that it is loaded into.
@@ -323,7 +325,7 @@ fn show_words<'a>(alloc: Global) -> Result<Command<'a>, AllocError>
         .arg(disk(alloc).required(true))
 }
 
-// The options of `serve`, added two at a time by the next six functions.
+// The options of `serve`, added two at a time.
 
 fn place_words<'a>(alloc: Global) -> Result<Command<'a>, AllocError>
     ensures app { IfOk result (λ c. app_of c ≡ place_words) }
@@ -382,12 +384,23 @@ fn asking_words<'a>(alloc: Global) -> Result<Command<'a>, AllocError>
     limited_words(alloc)?.arg(ask(alloc))?.arg(mode)
 }
 
-fn serve_words<'a>(alloc: Global) -> Result<Command<'a>, AllocError>
-    ensures app { IfOk result (λ c. app_of c ≡ serve_words) }
+fn peer_words<'a>(alloc: Global) -> Result<Command<'a>, AllocError>
+    ensures app { IfOk result (λ c. app_of c ≡ peer_words) }
     ensures local { IfOk result (λ c. (out-Command c).has_globals ≡ false) }
 {
     let mode = mode(alloc, "peers-mode").help("The same of --peers'");
     asking_words(alloc)?.arg(peers(alloc))?.arg(mode)
+}
+
+fn serve_words<'a>(alloc: Global) -> Result<Command<'a>, AllocError>
+    ensures app { IfOk result (λ c. app_of c ≡ serve_words) }
+    ensures local { IfOk result (λ c. (out-Command c).has_globals ≡ false) }
+{
+    let log = Arg::new(alloc, "log")
+        .long("log")
+        .action(ArgAction::SetTrue)
+        .help("Writes a line on standard error for each change, and for each opening");
+    peer_words(alloc)?.arg(log)
 }
 
 fn connect_words<'a>(alloc: Global) -> Result<Command<'a>, AllocError>
@@ -594,6 +607,7 @@ fn server_in<'a>(alloc: Global, found: &ArgMatches<'a>) -> Result<Task<'a>, Erro
         renewal,
         sessions: sessions as u32,
         idle: idle as u32,
+        is_logged: is_said(found, "log"),
     }))
 }
 
