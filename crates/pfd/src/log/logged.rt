@@ -1,10 +1,10 @@
 //! A caller of a Book whose replies are noted.
 ghost use Rattle.std.specs.{Option.option_copied, Prelude.{◌≡◌, MatchOption, None, Ok, Err}};
-ghost use Rattle.pf_book.specs.{Groups.{IsGroupAnswered, told}, Receipts.IsAnswered, Together.IsAnsweredTogether};
+ghost use Rattle.pf_book.specs.{Groups.{IsGroupAnswered, told}, Receipts.IsAnswered, Statuses.SaysStatus, Together.IsAnsweredTogether};
 
 use crate::log::KeepLog;
 use crate::log::deed::deed_in;
-use pf_book::{Chapter, Receipt};
+use pf_book::{BookStatus, Chapter, Receipt};
 use pf_core::{Command, Refusal, Reply};
 use pf_session::{AskBook, CallBook, Inquiry};
 
@@ -62,11 +62,19 @@ impl<C: CallBook<J>, J: Chapter, L: KeepLog> CallBook<J> for Logged<'_, C, L> {
         }
         told
     }
+
+    fn status(&self, last: Option<&Receipt<J>>) -> BookStatus {
+        self.book.status(last)
+    }
 }
 
 // A question acknowledges nothing.
 impl<C: AskBook<J>, J: Chapter, L: KeepLog> AskBook<J> for Logged<'_, C, L> {
     fn ask(&self, inquiry: Inquiry, last: Option<&Receipt<J>>) -> (Reply, Receipt<J>) {
         self.book.ask(inquiry, last)
+    }
+
+    fn status(&self, last: Option<&Receipt<J>>) -> BookStatus {
+        self.book.status(last)
     }
 }
