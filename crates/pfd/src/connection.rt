@@ -15,6 +15,7 @@ use pf_session::{
 };
 use std::alloc::{AllocError, Global};
 use std::io::{self, ErrorKind, Read, Write};
+use std::mem;
 use std::net::Shutdown;
 use std::sync::Wait;
 
@@ -132,11 +133,13 @@ impl Connection {
     fn look<P: Pause>(&mut self, pause: &P) -> io::Result<Option<u8>> {
         let mut reader = Incoming {
             stream: &self.arrival.stream,
-            received: &mut self.received,
+            received: self.received,
             patience: self.arrival.patience,
             pause,
         };
-        reader.look()
+        let looked = reader.look();
+        self.received = reader.received;
+        looked
     }
 
     // Settles what it is, by its first byte. One that isn't admitted is told so.
@@ -145,11 +148,13 @@ impl Connection {
         if way == Way::Denied {
             let mut writer = Outgoing {
                 stream: &self.arrival.stream,
-                unsent: &mut self.unsent,
+                unsent: mem::replace(&mut self.unsent, Unsent::without_room(alloc)),
                 patience: self.arrival.patience,
                 pause,
             };
-            turn_away(&mut writer)?;
+            let told = turn_away(&mut writer);
+            self.unsent = writer.into_unsent();
+            told?;
         }
         match stage_of(alloc, way, self.number) {
             Ok(stage) => {
@@ -179,17 +184,17 @@ impl Connection {
     ) -> Result<LeftOff, EngineFault> {
         let mut reader = Incoming {
             stream: &self.arrival.stream,
-            received: &mut self.received,
+            received: self.received,
             patience: self.arrival.patience,
             pause,
         };
         let mut writer = Outgoing {
             stream: &self.arrival.stream,
-            unsent: &mut self.unsent,
+            unsent: mem::replace(&mut self.unsent, Unsent::without_room(alloc)),
             patience: self.arrival.patience,
             pause,
         };
-        serve_stage(
+        let left = serve_stage(
             rt,
             alloc,
             &mut self.stage,
@@ -199,7 +204,10 @@ impl Connection {
             seer,
             gate,
             pause,
-        )
+        );
+        self.received = reader.received;
+        self.unsent = writer.into_unsent();
+        left
     }
 
     // Ends it: what it was given is sent, and of a peer's stream, or of what was denied, what still comes is dropped.
@@ -217,13 +225,10 @@ impl Connection {
 
     // Sends what it was given and didn't take yet.
     fn send_rest<P: Pause>(&mut self, pause: &P) -> Result<LeftOff, EngineFault> {
-        let mut writer = Outgoing {
-            stream: &self.arrival.stream,
-            unsent: &mut self.unsent,
-            patience: self.arrival.patience,
-            pause,
-        };
-        if writer.flush().is_err() {
+        let sent = self
+            .unsent
+            .send(&self.arrival.stream, self.arrival.patience, pause);
+        if sent.is_err() {
             return Err(EngineFault::Write);
         }
         if self.unsent.is_empty() {
@@ -245,7 +250,7 @@ impl Connection {
         }
         let mut reader = Incoming {
             stream: &self.arrival.stream,
-            received: &mut self.received,
+            received: self.received,
             patience,
             pause,
         };
@@ -259,6 +264,7 @@ impl Connection {
                         return Ok(LeftOff::Ended);
                     }
                     if pause.is_due() {
+                        self.received = reader.received;
                         self.stage = Stage::Leaving(reads - done);
                         return Ok(LeftOff::Paused);
                     }
