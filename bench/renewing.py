@@ -371,7 +371,7 @@ def look_at_memory(result, held):
     result.check(f"memory isn't flat: {usual:,} kB behind a minute, and {held[-1]:,} kB at the end", held[-1] <= MOST_GROWTH * usual)
 
 
-def renewing(options, renew, minutes, say):
+def renewing(options, renew, minutes, say=lambda text: None):
     result, world, held, total = Result(), World(), [], [0, 0, 0]
     with new_folder() as folder:
         file = formatted(options.program, os.path.join(folder, "disk"), SIZE)
