@@ -10,6 +10,7 @@ use pf_session::{EngineFault, Gate, LeftOff, NoPause, Pause};
 use std::alloc::{AllocError, Global};
 use std::collections::VecDeque;
 use std::net::TcpListener;
+use std::sync::atomic::{AtomicU32, Ordering};
 use std::sync::{Mutex, Wait};
 use std::thread::Threads;
 use std::{io, thread};
@@ -25,10 +26,11 @@ impl Accept for TcpListener {
     }
 }
 
-/// What goes from one opening to the next: how many connections were accepted, and those that paused.
+/// What goes from one opening to the next: how many connections were accepted, how many of them are open, and those that paused.
 #[derive(Drop)]
 pub(crate) struct Reception {
     acceptor: Mutex<Acceptor>,
+    open: AtomicU32,
     // with room for one of each worker
     paused: Mutex<VecDeque<Connection>>,
 }
@@ -42,6 +44,7 @@ impl Reception {
     ) -> Result<Reception, AllocError> {
         Ok(Reception {
             acceptor: Mutex::new(Acceptor::new(sessions)),
+            open: AtomicU32::new(0),
             paused: Mutex::new(VecDeque::with_capacity(alloc, workers)?),
         })
     }
@@ -70,7 +73,10 @@ impl Reception {
         for _ in rt.forever() {
             let (accepted, session) = self.acceptor.lock(rt).next(listener, pause)?;
             match Connection::new(alloc, accepted, session) {
-                Ok(connection) => return Some(connection),
+                Ok(connection) => {
+                    self.open.fetch_add(1, Ordering::SeqCst);
+                    return Some(connection);
+                }
                 // it is closed
                 Err(arrival) => listener.release(&arrival),
             }
@@ -82,6 +88,20 @@ impl Reception {
     fn keep<W: Wait>(&self, rt: &W, connection: Connection) {
         // there is room for it
         let _ = self.paused.lock(rt).push_back(connection);
+    }
+
+    // Takes note that a connection has ended.
+    fn leave(&self) {
+        self.open.fetch_sub(1, Ordering::SeqCst);
+    }
+}
+
+// Sessions pass it as an open gate, and learn how many connections workers serve.
+impl Gate for Reception {
+    fn pass(&self, _session: u32, _line: u32) {}
+
+    fn sessions(&self) -> u32 {
+        self.open.load(Ordering::SeqCst)
     }
 }
 
@@ -152,7 +172,10 @@ fn work<W: Wait, A: Accept<Connection = Arrival>, J: Chapter, S: ServeConnection
         // a fault of a connection ends it alone
         match server.serve_connection(alloc, &mut connection, &mut seer) {
             Ok(LeftOff::Paused) => reception.keep(rt, connection),
-            _ => listener.release(connection.arrival()),
+            _ => {
+                listener.release(connection.arrival());
+                reception.leave();
+            }
         }
     }
     unreachable!()

@@ -1,5 +1,5 @@
 //! A connection, by TCP or by a Unix socket. No clause can say what a socket gives and takes, so this is only tested.
-ghost use Rattle.std.specs.{Prelude.{◌≤◌, length, vec_len, IfOk}, Counts.IsPrefixLen};
+ghost use Rattle.std.specs.{Prelude.{◌≡◌, ◌+◌, ◌≤◌, length, vec_len, IfOk}, Counts.IsPrefixLen};
 
 use crate::admitting::Admits;
 use crate::patience::Patience;
@@ -207,7 +207,35 @@ impl Unsent {
         self.bytes.is_empty()
     }
 
-    // All was taken so far.
+    // How many bytes there are, with those that it took.
+    fn len(&self) -> usize {
+        self.bytes.len()
+    }
+
+    // What it didn't take yet.
+    fn rest(&self) -> &[u8]
+        ensures { length result.now + self.now.taken ≡ vec_len self.now.bytes }
+    {
+        &self.bytes[self.taken..]
+    }
+
+    // It took so many more.
+    fn took(&mut self, count: usize)
+        requires { self.old.taken + count ≤ vec_len self.old.bytes }
+    {
+        self.taken += count;
+        self.silent = 0;
+    }
+
+    // It was given more. `OutOfMemory`: it wasn't.
+    fn add(&mut self, more: &[u8]) -> io::Result<()> {
+        match self.bytes.extend_from_slice(more) {
+            Ok(()) => Ok(()),
+            Err(_) => Err(io::Error::from(ErrorKind::OutOfMemory)),
+        }
+    }
+
+    // Forgets what it took, once that is all.
     fn clear_taken(&mut self) {
         self.taken = 0;
         self.bytes.clear();
@@ -270,11 +298,10 @@ impl<P: Pause> Read for Incoming<'_, P> {
 impl<P: Pause> Outgoing<'_, P> {
     // Sends some of what is kept, if the connection takes it.
     fn send_some(&mut self) -> io::Result<()> {
-        match self.stream.send(&self.unsent.bytes[self.unsent.taken..]) {
+        match self.stream.send(self.unsent.rest()) {
             Ok(0) => Err(io::Error::from(ErrorKind::WriteZero)),
             Ok(n) => {
-                self.unsent.taken += n;
-                self.unsent.silent = 0;
+                self.unsent.took(n);
                 Ok(())
             }
             Err(error) => {
@@ -297,7 +324,7 @@ impl<P: Pause> Outgoing<'_, P> {
     fn send(&mut self) -> io::Result<()> {
         let mut has_tried = false;
         for _ in 0..u64::MAX {
-            if self.unsent.bytes.len() <= self.unsent.taken {
+            if self.unsent.rest().is_empty() {
                 self.unsent.clear_taken();
                 return Ok(());
             }
@@ -313,13 +340,11 @@ impl<P: Pause> Outgoing<'_, P> {
 
 impl<P: Pause> Write for Outgoing<'_, P> {
     fn write(&mut self, buf: &[u8]) -> io::Result<usize> {
-        if KEPT < self.unsent.bytes.len().saturating_add(buf.len()) && !self.pause.is_due() {
+        if KEPT < self.unsent.len().saturating_add(buf.len()) && !self.pause.is_due() {
             self.send()?;
         }
-        match self.unsent.bytes.extend_from_slice(buf) {
-            Ok(()) => Ok(buf.len()),
-            Err(_) => Err(io::Error::from(ErrorKind::OutOfMemory)),
-        }
+        self.unsent.add(buf)?;
+        Ok(buf.len())
     }
 
     fn flush(&mut self) -> io::Result<()> {

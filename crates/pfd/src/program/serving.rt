@@ -19,7 +19,7 @@ use pf_addr::write_more;
 use pf_book::book::Book;
 use pf_book::shared::Shared;
 use pf_book::{Chapter, Disk, NewCalls, Numbering, Opening, Publisher, Seer};
-use pf_session::{EngineFault, OpenGate, renew};
+use pf_session::{EngineFault, renew};
 use pf_view::{ViewFault, views};
 use pfd_files::{Fault, open_file};
 use pfd_words::Service;
@@ -199,7 +199,7 @@ fn serve_opening<
         &house.reception,
         &shared,
         seers,
-        &OpenGate,
+        &house.reception,
         &house.renewal,
     );
     go_further(machine, alloc, shared, served, &house.reception)

@@ -9,5 +9,6 @@ returns c =
     record {
       path = c.asked.ensures.path (codes "cover");
       lenient = c.asked.ensures.lenient (codes "cover");
+      interfaces = c.asked.ensures.interfaces (codes "cover");
       question = subst (AsksQuestion met) (sym c.asked.ensures.question) (refl, c.in_ok-cases.ensures);
     }

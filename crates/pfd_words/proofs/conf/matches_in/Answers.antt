@@ -9,5 +9,6 @@ returns c =
     record {
       path = c.asked.ensures.path (codes "explain");
       lenient = c.asked.ensures.lenient (codes "explain");
-      question = subst (AsksQuestion met) (sym c.asked.ensures.question) (refl, c.in_ok-packet.ensures);
+      interfaces = c.asked.ensures.interfaces (codes "explain");
+      question = subst (AsksQuestion met) (sym c.asked.ensures.question) (refl, c.requires, c.in_ok-packet.ensures);
     }

@@ -9,5 +9,6 @@ returns c =
     record {
       path = c.asked.ensures.path (codes "check");
       lenient = c.asked.ensures.lenient (codes "check");
+      interfaces = c.asked.ensures.interfaces (codes "check");
       question = subst (AsksQuestion met) (sym c.asked.ensures.question) (refl, c.text_if_any-anchor.ensures);
     }

@@ -9,5 +9,6 @@ returns c =
     record {
       path = c.asked.ensures.path (codes "test");
       lenient = c.asked.ensures.lenient (codes "test");
+      interfaces = c.asked.ensures.interfaces (codes "test");
       question = subst (AsksQuestion met) (sym c.asked.ensures.question) (refl, c.in_ok-cases.ensures, c.is_said-tap.ensures, c.text_if_any-junit.ensures);
     }
