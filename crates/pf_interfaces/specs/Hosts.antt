@@ -1,5 +1,5 @@
 -- Where hosts stand among a file's tokens (pf.conf(5), GRAMMAR): behind `from` and `to`, and in the lists of tables.
-use Rattle.std.specs.Prelude.{ℕ, ◌+◌, ◌-◌, ◌==◌, nat_lt, ◌&&◌, ◌||◌, not, Bool, true, false, codes, if◌then◌else◌}
+use Rattle.std.specs.Prelude.{◌+◌, ◌-◌, ◌==◌, nat_lt, ◌&&◌, ◌||◌, not, Bool, true, false, codes, if◌then◌else◌}
 use Rattle.pf_tokens.specs.declared.token.Token.{Token}
 use Rattle.pf_tokens.specs.Words.{is_word, is_symbol, is_newline}
 use Rattle.pf_interfaces.specs.declared.hosts.{Within.Within, Within.TheVariants.{Nothing, Side, Table, Load}, Context.Context}
