@@ -350,57 +350,74 @@ def play_one(client):
 
 
 class Round:
-    """What a round came to."""
+    """What a round came to: its order of changes, renewals, changes and replies, the longest wait of a line alone, and what the server holds."""
 
-    def __init__(self, program, renew, turn, world, clients, setter):
+    def __init__(self, program, renew, world, clients, setter):
         last = setter.look()
         histories = {"the setter": setter.told} | {client.number: client.told for client in clients}
-        self.renewals = last - world.opening
-        self.order = order = Order(histories, world, last, renew)
-        tell_sums(program, order)
-        for who, told in histories.items():
-            order.compare(who, told)
-        self.changes, self.replies = len(order.places), sum(map(len, histories.values()))
-        self.longest = max(client.longest for client in clients if type(client) in (Alone, Judging, Ticking))
         setter.told = []
+        self.renewals = last - world.opening
+        self.order = Order(histories, world, last, renew)
+        tell_sums(program, self.order)
+        for who, told in histories.items():
+            self.order.compare(who, told)
+        self.changes, self.replies = len(self.order.places), sum(map(len, histories.values()))
+        self.longest = max(client.longest for client in clients if type(client) in (Alone, Judging, Ticking))
+
+    def look_at(self, ways):
+        # (what clients left is closed by then)
+        time.sleep(0.5)
+        self.memory, self.files = ways.memory(), ways.open_files()
+
+    def __str__(self):
+        return (f"{self.renewals} renewals, {self.changes:,} changes, {self.replies:,} replies, {self.memory:,} kB, {self.files} descriptors; "
+                f"the longest wait of a line alone {self.longest:.2f} s; {len(self.order.wrong)} wrong")
 
 
-def look_at_memory(result, held):
-    """The kilobytes held behind each round: those behind the last one beside those behind a minute."""
+def play_round(options, result, ways, renew, world, setter, turn):
+    clients = played(ways, turn + 1000 * options.seed)
+    one = Round(options.program, renew, world, clients, setter)
+    result.wrong += one.order.wrong
+    result.passed += one.replies
+    result.compare("what is kept", should_be_kept(world), setter.kept())
+    one.look_at(ways)
+    return one
+
+
+def look_at_rounds(result, rounds):
+    """Memory and descriptors don't grow: the kilobytes held behind the last round beside those behind a minute."""
+    held = [one.memory for one in rounds]
     usual = held[min(len(held), 60 // ROUND) - 1]
     result.check(f"memory isn't flat: {usual:,} kB behind a minute, and {held[-1]:,} kB at the end", held[-1] <= MOST_GROWTH * usual)
+    files = [one.files for one in rounds]
+    result.check(f"descriptors behind each round: {files}", max(files) <= files[0])
+    result.check("the history was never renewed", any(one.renewals for one in rounds))
 
 
-def renewing(options, renew, minutes, say):
-    result, world, held, total = Result(), World(), [], [0, 0, 0]
+def look_behind_a_kill(result, ways, world):
+    setter = Setter(ways.full[1], 0, 0)
+    result.compare("the opening behind a kill", world.opening + 1, setter.look())
+    result.compare("what is kept behind a kill", should_be_kept(world), setter.kept())
+
+
+def renewing(options, renew, minutes, say=lambda text: None):
+    """Rounds for so many minutes, with a renewal behind so many changes, and then a kill."""
+    result, world, rounds = Result(), World(), []
     with new_folder() as folder:
         file = formatted(options.program, os.path.join(folder, "disk"), SIZE)
         with Ways(options.program, folder, file, renew) as ways:
             setter, silent = Setter(ways.full[1], 0, 0), Silent(ways)
             setter.set_up()
-            files = None
             for turn in range(max(1, round(minutes * 60 / ROUND))):
-                clients = played(ways, turn + 1000 * options.seed)
-                one = Round(options.program, renew, turn, world, clients, setter)
-                result.wrong += one.order.wrong
-                result.passed += one.replies
-                setter.in_session(lambda: None)
-                result.compare("what is kept", should_be_kept(world), setter.kept())
-                time.sleep(0.5)
-                files = files or ways.open_files()
-                result.check(f"{ways.open_files()} descriptors are open behind a round, and {files} behind the first", ways.open_files() <= files)
-                held.append(ways.memory())
-                total = [whole + more for whole, more in zip(total, (one.renewals, one.changes, one.replies))]
-                say(f"round {turn + 1}: {one.renewals} renewals, {one.changes:,} changes, {one.replies:,} replies, {held[-1]:,} kB, "
-                    f"{ways.open_files()} descriptors; the longest wait of a line alone {one.longest:.2f} s; {len(one.order.wrong)} wrong")
+                rounds.append(play_round(options, result, ways, renew, world, setter, turn))
+                say(f"round {turn + 1}: {rounds[-1]}")
                 if result.wrong:
                     break
             silent.end(result, world)
-        look_at_memory(result, held)
-        result.check("the history was never renewed", total[0] > 0)
         with Ways(options.program, folder, file, renew) as ways:
-            setter = Setter(ways.full[1], 0, 0)
-            result.compare("the opening behind a kill", world.opening + 1, setter.look())
-            result.compare("what is kept behind a kill", should_be_kept(world), setter.kept())
-    result.tell(f"{total[0]:,} renewals, {total[1]:,} changes, {total[2]:,} replies")
+            look_behind_a_kill(result, ways, world)
+    look_at_rounds(result, rounds)
+    renewals, changes, replies = (sum(some) for some in zip(*((one.renewals, one.changes, one.replies) for one in rounds)))
+    longest = max(one.longest for one in rounds)
+    result.tell(f"{renewals:,} renewals, {changes:,} changes, {replies:,} replies, {rounds[-1].memory:,} kB; the longest wait of a line alone {longest:.2f} s")
     return result

@@ -1,5 +1,5 @@
 -- One more element of a list, and one more token of a file.
-use Rattle.std.proofs.{Common.{◌≡◌, ℕ, zero, suc, ◌+◌, ◌-◌, ◌==◌, ◌<◌, ◌≤◌, ◌&&◌, Bool, true, false, if◌then◌else◌, List, [], ◌∷◌, ◌++◌, length, get_or, take, drop, map, Option, Some, None, refl, sym, ap, ◌∙◌, arith, add-one, append_assoc, append-nil}, Math.Seq.drop-cons, lemmas.List.{take_more, map-append, drop_all, drop-drop}}
+use Rattle.std.proofs.{Common.{◌≡◌, ℕ, zero, suc, ◌+◌, ◌-◌, ◌==◌, ◌<◌, ◌≤◌, ◌&&◌, ◌||◌, Bool, true, false, if◌then◌else◌, List, [], ◌∷◌, ◌++◌, length, get_or, take, drop, map, Option, Some, None, refl, sym, ap, ◌∙◌, arith, add-one, append_assoc, append-nil}, Math.Seq.drop-cons, lemmas.List.{take_more, map-append, drop_all, drop-drop}}
 use Rattle.std.specs.List.{flat_map}
 use Rattle.std.proofs.lemmas.Grind.{flat_map-append}
 use denote.Ref.{Bor}
@@ -84,10 +84,10 @@ pub front_deep : (c : Context) (t : Token) (m : Option Mention) → deep_of (fro
 unfolding behind
 front_deep c t (Some m) = either_deep (c.deep == 0) beginning c (c.deep + 1) (omega arith) (omega arith)
 front_deep c t None =
-    let more : Context = record { within = c.within; deep = c.deep + 1; is_named = false } in
-    let none : Context = record { within = within_behind c.within t; deep = 0; is_named = false } in
-    let fewer : Context = record { within = within_closed c; deep = c.deep - 1; is_named = false } in
-    let same : Context = record { within = c.within; deep = c.deep; is_named = is_symbol (codes "<") t } in
+    let more : Context = record { within = c.within; deep = c.deep + 1; is_bound = false } in
+    let none : Context = record { within = within_behind c.within t; deep = 0; is_bound = false } in
+    let fewer : Context = record { within = within_closed c; deep = c.deep - 1; is_bound = false } in
+    let same : Context = record { within = c.within; deep = c.deep; is_bound = is_symbol (codes "<") t || is_symbol (codes "!") t } in
     either_deep (is_symbol (codes "{") t && takes_list c) more _ (c.deep + 1) (omega arith)
     (either_deep (c.deep == 0) none _ (c.deep + 1) (omega arith)
     (either_deep (is_symbol (codes "}") t) fewer same (c.deep + 1) (omega arith) (omega arith)))

@@ -1,5 +1,5 @@
 -- No word without quotes is added.
-use Rattle.std.proofs.Common.{◌≡◌, ℕ, zero, suc, ◌+◌, ◌<◌, Bool, true, false, List, [], ◌∷◌, ◌++◌, length, get_or, Option, Some, None, refl, arith, if◌then◌else◌, ◌==◌}
+use Rattle.std.proofs.Common.{◌≡◌, ℕ, zero, suc, Bool, true, false, List, [], ◌∷◌, ◌++◌, Option, Some, None, refl, arith, if◌then◌else◌, ◌==◌}
 use Rattle.std.specs.Prelude.{All, Contains, codes}
 use Rattle.std.specs.List.{flat_map}
 use Rattle.std.proofs.lemmas.List.Elements.{All-nil, All-cons, All-tail, All-append, All-weaker, All-contains, All-contains_itself}
@@ -28,11 +28,17 @@ each_host : (p : Place) (negated : Bool) (texts : List Text) → All IsOther (fl
 each_host p negated [] = All-nil IsOther
 each_host p negated (text ∷ texts) = All-append IsOther (host_at p negated text) (flat_map (host_at p negated) texts) (one_host p negated text) (each_host p negated texts)
 
-in_list : (deep : ℕ) (m : Mention) → All IsOther (listed deep m)
-in_list zero m =
+as_list : (m : Mention) → All IsOther (symbol_at m.place (codes "{") ∷ hosts_at m ++ symbol_at m.place (codes "}") ∷ [])
+as_list m =
     All-append IsOther (symbol_at m.place (codes "{") ∷ hosts_at m) (symbol_at m.place (codes "}") ∷ [])
     (All-cons IsOther (symbol_at m.place (codes "{")) (hosts_at m) refl (each_host m.place m.is_negated m.texts)) (alone (symbol_at m.place (codes "}")) refl)
-in_list (suc deep) m = each_host m.place m.is_negated m.texts
+
+in_list : (deep : ℕ) (m : Mention) → All IsOther (listed deep m)
+in_list deep m =
+    elim (deep == 0) as (λ b. All IsOther (if b then (symbol_at m.place (codes "{") ∷ hosts_at m) ++ symbol_at m.place (codes "}") ∷ [] else hosts_at m)) [
+      | true ↦ as_list m
+      | false ↦ each_host m.place m.is_negated m.texts
+    ]
 
 other_of : (all : List Token) (t : Token) → IsOther t → IsOf all t
 other_of all t is word = absurd (cc)

@@ -1,8 +1,8 @@
 -- The tokens of a file in which each mention of interfaces is the list of their addresses, as pfctl puts them there (pf.conf(5), PARAMETERS,
 -- "from": "interface names .. are translated to the addresses").
-use Rattle.std.specs.Prelude.{◌≡◌, ℕ, zero, suc, ◌+◌, ◌==◌, Bool, true, false, List, [], ◌∷◌, ◌++◌, map, find, drop, codes, Option, Some, None, if◌then◌else◌}
+use Rattle.std.specs.Prelude.{◌≡◌, ℕ, zero, suc, ◌==◌, Bool, true, false, List, [], ◌∷◌, ◌++◌, map, find, drop, codes, Option, Some, None, if◌then◌else◌}
 use Rattle.std.specs.List.{flat_map}
-use Rattle.pf_tokens.specs.declared.{place.Place.Place, place.Placed.Placed, token.Token.Token, token.Kind.Kind, token.Kind.TheVariants.{Quoted, Symbol}}
+use Rattle.pf_tokens.specs.declared.{place.Place.Place, token.Token.Token, token.Kind.Kind, token.Kind.TheVariants.{Quoted, Symbol}}
 use Rattle.pf_tokens.specs.{Places.at, Words.is_word}
 use Rattle.pf_values.specs.Numbers.{Word}
 use Rattle.pf_interfaces.specs.declared.{interface.Interface.Interface, mention.Mention.Mention, hosts.Context.Context, hosts.Within.TheVariants.Table, addresses.Front.Front}

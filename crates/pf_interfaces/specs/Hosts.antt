@@ -1,5 +1,5 @@
 -- Where hosts stand among a file's tokens (pf.conf(5), GRAMMAR): behind `from` and `to`, and in the lists of tables.
-use Rattle.std.specs.Prelude.{ℕ, ◌+◌, ◌-◌, ◌==◌, nat_lt, ◌&&◌, ◌||◌, not, Bool, true, false, codes, if◌then◌else◌}
+use Rattle.std.specs.Prelude.{◌+◌, ◌-◌, ◌==◌, nat_lt, ◌&&◌, ◌||◌, not, Bool, true, false, codes, if◌then◌else◌}
 use Rattle.pf_tokens.specs.declared.token.Token.{Token}
 use Rattle.pf_tokens.specs.Words.{is_word, is_symbol, is_newline}
 use Rattle.pf_interfaces.specs.declared.hosts.{Within.Within, Within.TheVariants.{Nothing, Side, Table, Load}, Context.Context}
@@ -13,11 +13,11 @@ same_within _ _ = false
 
 -- before a file's first token
 abbrev pub beginning : Context
-beginning = record { within = Nothing; deep = 0; is_named = false }
+beginning = record { within = Nothing; deep = 0; is_bound = false }
 
 -- whether the next token may begin a host
 abbrev pub takes_host : Context → Bool
-takes_host c = not c.is_named && (nat_lt 0 c.deep || same_within c.within Side)
+takes_host c = not c.is_bound && (nat_lt 0 c.deep || same_within c.within Side)
 
 -- whether a list of hosts may begin here
 abbrev pub takes_list : Context → Bool
@@ -31,7 +31,6 @@ within_behind w t =
     else if is_word (codes "from") t || is_word (codes "to") t then Side
     else if is_word (codes "load") t then Load
     else if same_within w Table || is_word (codes "table") t then Table
-    else if same_within w Side && is_symbol (codes "!") t then Side
     else Nothing
 
 -- behind the last host of a side there are no more
@@ -41,10 +40,10 @@ within_closed c = if (c.deep == 1) && same_within c.within Side then Nothing els
 -- behind a token that is no part of a mention
 unfoldable pub behind : Token → Context → Context
 behind t c =
-    if is_symbol (codes "{") t && takes_list c then record { within = c.within; deep = c.deep + 1; is_named = false }
-    else if c.deep == 0 then record { within = within_behind c.within t; deep = 0; is_named = false }
-    else if is_symbol (codes "}") t then record { within = within_closed c; deep = c.deep - 1; is_named = false }
-    else record { within = c.within; deep = c.deep; is_named = is_symbol (codes "<") t }
+    if is_symbol (codes "{") t && takes_list c then record { within = c.within; deep = c.deep + 1; is_bound = false }
+    else if c.deep == 0 then record { within = within_behind c.within t; deep = 0; is_bound = false }
+    else if is_symbol (codes "}") t then record { within = within_closed c; deep = c.deep - 1; is_bound = false }
+    else record { within = c.within; deep = c.deep; is_bound = is_symbol (codes "<") t || is_symbol (codes "!") t }
 
 -- behind a host that stands alone there are no more
 abbrev pub behind_host : Context → Context

@@ -1,7 +1,7 @@
 -- Where a file's tokens mention the addresses of an interface (pf.conf(5), PARAMETERS, "from"): by its name, or by `self` for those of all;
 -- `:network` behind it is for its networks. In parentheses pf asks for them as they change.
-use Rattle.std.specs.{Prelude.{◌≡◌, ℕ, zero, suc, ◌+◌, ◌*◌, ◌==◌, nat_le, ◌&&◌, ◌||◌, not, Bool, true, false, List, [], ◌∷◌, map, take, drop, length, codes, count_by, position, Option, Some, None, if◌then◌else◌}, List.{list_any, flat_map}, Str.bytes_eq}
-use Rattle.pf_tokens.specs.declared.{place.Place.Place, token.Token.Token}
+use Rattle.std.specs.{Prelude.{ℕ, ◌+◌, ◌*◌, ◌==◌, nat_le, ◌&&◌, ◌||◌, not, Bool, true, false, List, [], ◌∷◌, map, take, drop, length, codes, count_by, position, Option, Some, None, if◌then◌else◌}, List.{list_any, flat_map}, Str.bytes_eq}
+use Rattle.pf_tokens.specs.declared.{token.Token.Token}
 use Rattle.pf_tokens.specs.{Places.text_of, Words.{is_word, is_symbol, is_string}}
 use Rattle.pf_values.specs.Numbers.{Word}
 use Rattle.pf_interfaces.specs.declared.{interface.Held.Held, interface.Interface.Interface, mention.Mention.Mention}

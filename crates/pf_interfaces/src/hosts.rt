@@ -23,8 +23,8 @@ pub(crate) struct Context {
     pub(crate) within: Within,
     /// In how many lists of hosts.
     pub(crate) deep: usize,
-    /// Whether a table's name comes next.
-    pub(crate) is_named: bool,
+    /// Whether the next token belongs to a `<` or a `!` before it: a table's name, or what is negated.
+    pub(crate) is_bound: bool,
 }
 
 impl Context {
@@ -35,7 +35,7 @@ impl Context {
         Context {
             within: Within::Nothing,
             deep: 0,
-            is_named: false,
+            is_bound: false,
         }
     }
 
@@ -43,7 +43,7 @@ impl Context {
     pub(crate) fn takes_host(self) -> bool
         ensures { result ≡ takes_host self }
     {
-        !self.is_named && (self.deep > 0 || self.within == Within::Side)
+        !self.is_bound && (self.deep > 0 || self.within == Within::Side)
     }
 
     /// Whether a list of hosts may begin here.
@@ -76,27 +76,27 @@ impl Context {
             return Context {
                 within,
                 deep,
-                is_named: false,
+                is_bound: false,
             };
         }
         if deep == 0 {
             return Context {
                 within: within.behind(token),
                 deep,
-                is_named: false,
+                is_bound: false,
             };
         }
         if token.is_symbol(b"}") {
             return Context {
                 within: self.within_closed(),
                 deep: deep - 1,
-                is_named: false,
+                is_bound: false,
             };
         }
         Context {
             within,
             deep,
-            is_named: token.is_symbol(b"<"),
+            is_bound: token.is_symbol(b"<") || token.is_symbol(b"!"),
         }
     }
 
@@ -131,9 +131,6 @@ impl Within {
         }
         if self == Within::Table || token.is_word(b"table") {
             return Within::Table;
-        }
-        if self == Within::Side && token.is_symbol(b"!") {
-            return Within::Side;
         }
         Within::Nothing
     }

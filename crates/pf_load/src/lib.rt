@@ -29,4 +29,4 @@ pub use laws::a_load_replaces_what_it_names;
 pub use lines::PART;
 pub use loading::load;
 pub use naming::{Begun, ruleset_names};
-pub use served::served;
+pub use served::served_conf;

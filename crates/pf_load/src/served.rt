@@ -61,19 +61,19 @@ fn target_of(alloc: Global, path: &Path, reference: &Reference) -> Result<Option
 
 /// What is known of a server.
 #[derive(Drop)]
-struct Served {
+struct Known {
     /// The paths that are asked for, each once.
     paths: Vec<Path>,
     rulesets: Items<Ruleset>,
     tables: Items<FilledTable>,
 }
 
-impl Served {
+impl Known {
     /// Nothing, but that main's path is asked for.
-    fn begun(alloc: Global) -> Result<Served, AllocError> {
+    fn begun(alloc: Global) -> Result<Known, AllocError> {
         let mut paths = Vec::new(alloc);
         paths.push(Path::main())?;
-        Ok(Served {
+        Ok(Known {
             paths,
             rulesets: Items::new(alloc),
             tables: Items::new(alloc),
@@ -140,21 +140,21 @@ impl Served {
 /// may be seen in part.
 ///
 /// The faults are those of [`load`](crate::load). `Fault::Wild`: an anchor rule leads to all rulesets within a path, whose names no line shows.
-pub fn served<B: BufRead, W: Write>(
+pub fn served_conf<B: BufRead, W: Write>(
     alloc: Global,
     server: &mut W,
     replies: &mut B,
 ) -> Result<Conf, Fault>
     ensures { AsksOnly result (W.contents server.old) (W.contents server.new) }
 {
-    let mut known = Served::begun(alloc)?;
+    let mut known = Known::begun(alloc)?;
     for number in 0..usize::MAX {
         let Some(path) = known.path_at(number) else {
             break;
         };
         known.ask(alloc, server, replies, &path)?;
     }
-    let Served {
+    let Known {
         rulesets,
         tables,
         ..

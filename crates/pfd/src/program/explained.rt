@@ -5,7 +5,7 @@ use crate::program::conf::told_of_conf;
 use crate::program::load::told_of_load;
 use crate::stream::Stream;
 use pf_conf::Conf;
-use pf_load::served;
+use pf_load::served_conf;
 use pfd_conf::{Fault as ConfFault, Firewall, Taken};
 use pfd_files::Fault;
 use pfd_words::ServerTask;
@@ -35,7 +35,7 @@ pub(crate) fn explain_served<
         return Err(Fault::Memory);
     };
     let mut server = &stream;
-    let conf = match served(alloc, &mut server, &mut replies) {
+    let conf = match served_conf(alloc, &mut server, &mut replies) {
         Ok(conf) => conf,
         Err(fault) => return Err(told_of_load(fault, faults)),
     };

@@ -1,6 +1,4 @@
 use Rattle.std.proofs.Common.{◌∙◌, sym, arith}
-use Rattle.pf_interfaces.specs.Interfaces.{all_held}
-use Rattle.pf_form.specs.Form.Words.{texts}
 use Rattle.pf_interfaces.proofs.Steps.{held_next, held_none}
 use Rattle.pf_interfaces.proofs.interface.all_held.Goals as goal
 
