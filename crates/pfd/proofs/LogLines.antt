@@ -1,5 +1,5 @@
 -- Lemmas on the lines of a log.
-use Rattle.std.proofs.Common.{◌≡◌, ◌++◌, ℕ, List, [], ◌∷◌, Option, Some, None, Result, Ok, Err, subst, sym}
+use Rattle.std.proofs.Common.{◌≡◌, ◌++◌, ℕ, List, [], Option, Some, Result, Ok, Err, subst, sym}
 use Rattle.std.specs.declared.io.Error.{Error}
 use Rattle.pf_addr.specs.Writing.{Continues, Continues-then, Writes, WritesFront}
 use Rattle.pf_session.proofs.Flushing.{whole_front}

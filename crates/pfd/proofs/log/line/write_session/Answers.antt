@@ -1,4 +1,4 @@
-use Rattle.std.proofs.Common.{rules, ◌≡◌, ap, codes, decimal, ℕ}
+use Rattle.std.proofs.Common.{rules, ◌≡◌, ap, codes, decimal}
 use Rattle.pfd.proofs.LogLines.{and_then}
 use Rattle.pfd.proofs.log.line.write_session.Goals as goal
 

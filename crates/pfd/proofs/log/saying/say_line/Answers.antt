@@ -1,4 +1,3 @@
-use Rattle.std.proofs.Common.{List, ℕ}
 use Rattle.pf_addr.specs.Writing.{Appends-none}
 use Rattle.pfd.proofs.LogLines.{said}
 use Rattle.pfd.proofs.log.saying.say_line.Goals as goal
