@@ -131,11 +131,13 @@ fn deed_of_states(states: &StateCommand) -> Deed
 }
 
 // How many records a message has. It has fewer than 65,536 where bytes were read.
+#[tactic(auto, using(std::proofs::lemmas::List::Sums::sum_by_more))]
 fn records_in(message: &Message) -> usize
     ensures { result ≡ min (sum_by record_count message.now.groups) 18446744073709551615 }
 {
+    let groups = message.groups.as_slice();
     let mut records: usize = 0;
-    for group in message.groups.as_slice() {
+    for group in groups {
         records = records.saturating_add(records_of(group));
     }
     records

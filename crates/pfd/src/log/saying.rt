@@ -1,6 +1,7 @@
 //! Standard error, while connections are served. No clause can say what is done under a lock, so what is said of a reply is proved, and not
 //! that it is said.
-ghost use Rattle.pf_addr.specs.Writing.{WritesFront};
+ghost use Rattle.std.specs.Prelude.{ℕ, List, [], Some};
+ghost use Rattle.pf_addr.specs.Writing.{Writes, WritesFront};
 ghost use Rattle.pfd.specs.Log.{fault_line, opening_line, reply_line};
 ghost use Rattle.pfd.specs.Fullness.{fullness_text};
 
@@ -13,13 +14,25 @@ use pf_addr::write_text;
 use pf_core::Reply;
 use pf_session::EngineFault;
 use std::alloc::{AllocError, Global};
-use std::io::Write;
+use std::io::{self, Write};
 use std::sync::{Mutex, Wait};
 
 // No line is as long.
 const LINE_ROOM: usize = 512;
 
-// Each of these makes a line in the room, and says it in one write. A line that can't be written can't be said anywhere else.
+// Says a line that was made, in one write. One that can't be written can't be said anywhere else.
+fn say_line<F: Write>(faults: &mut F, made: io::Result<()>, line: &[u8])
+    ensures { (text : List ℕ) → Writes made (Some []) (Some line.now) text → WritesFront (F.contents faults.old) (F.contents faults.new) text }
+{
+    match made {
+        Ok(()) => {
+            let _ = write_text(faults, line);
+        }
+        Err(_) => {}
+    }
+}
+
+// Each of these makes a line in the room, and says it.
 
 fn say_reply<F: Write>(
     faults: &mut F,
@@ -31,36 +44,32 @@ fn say_reply<F: Write>(
     ensures { WritesFront (F.contents faults.old) (F.contents faults.new) (reply_line session deed.now reply.now) }
 {
     room.clear();
-    if write_reply_line(room, Ok(()), session, deed, reply).is_ok() {
-        let _ = write_text(faults, room.as_slice());
-    }
+    let made = write_reply_line(room, Ok(()), session, deed, reply);
+    say_line(faults, made, room.as_slice());
 }
 
 fn say_opening<F: Write>(faults: &mut F, room: &mut Vec<u8>, epoch: u32, is_renewal: bool)
     ensures { WritesFront (F.contents faults.old) (F.contents faults.new) (opening_line epoch is_renewal) }
 {
     room.clear();
-    if write_opening(room, Ok(()), epoch, is_renewal).is_ok() {
-        let _ = write_text(faults, room.as_slice());
-    }
+    let made = write_opening(room, Ok(()), epoch, is_renewal);
+    say_line(faults, made, room.as_slice());
 }
 
 fn say_fault<F: Write>(faults: &mut F, room: &mut Vec<u8>, session: u32, fault: EngineFault)
     ensures { WritesFront (F.contents faults.old) (F.contents faults.new) (fault_line session fault) }
 {
     room.clear();
-    if write_fault(room, Ok(()), session, fault).is_ok() {
-        let _ = write_text(faults, room.as_slice());
-    }
+    let made = write_fault(room, Ok(()), session, fault);
+    say_line(faults, made, room.as_slice());
 }
 
 fn say_fullness<F: Write>(faults: &mut F, room: &mut Vec<u8>, hundredths: u64)
     ensures { WritesFront (F.contents faults.old) (F.contents faults.new) (fullness_text hundredths) }
 {
     room.clear();
-    if write_fullness(room, hundredths).is_ok() {
-        let _ = write_text(faults, room.as_slice());
-    }
+    let made = write_fullness(room, hundredths);
+    say_line(faults, made, room.as_slice());
 }
 
 // What lines are said on, and room for one.
