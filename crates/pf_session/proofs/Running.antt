@@ -146,7 +146,7 @@ module _ {C J G : Type 0} (passed : G → ℕ → ℕ → Type 0) (base : PlainD
       same = t.same;
       takes = record {
         gate = rw (u.same.gate, u.same.number) u.gates.0;
-        told = inl (Ok (Some c), first.meant.means, subst (λ (o : Option PlainPacket). RunsBy o base setting c (at_next_line (sitting a)) (sitting b) text) (sym first.meant.unjudged) t.runs);
+        told = inl (Ok (Some (Run c)), first.meant.means, subst (λ (o : Option PlainPacket). RunsBy o base setting c (at_next_line (sitting a)) (sitting b) text) (sym first.meant.unjudged) t.runs);
       };
     }
 

@@ -13,6 +13,7 @@
 //!   one opening to the next.
 //! - `client`: the other end of a connection. Only these last six know sockets.
 //! - `fullness`: how full the disk on a file is, and when that is said on standard error.
+//! - `log`: what a server says on standard error of what it did, a line for each change.
 //! - `laws`: the limits of the program, and the laws of sessions.
 //!
 //! `pf_session` answers lines and peers' streams, by a `Book` of `pf_book`, one history over a device; disks on files are `pfd_files`'.
@@ -36,6 +37,7 @@ mod door;
 mod fullness;
 pub mod laws;
 mod listener;
+mod log;
 mod patience;
 mod program;
 mod renewal;

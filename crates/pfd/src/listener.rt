@@ -3,10 +3,12 @@ ghost use Rattle.std.specs.Prelude.{◌≡◌, ◌⊎◌, IfErr};
 
 use crate::accepting::{Accept, Acceptor};
 use crate::connection::Connection;
+use crate::log::logged::Logged;
+use crate::log::{KeepLog, NoLog};
 use crate::stream::Arrival;
 use pf_book::shared::Shared;
 use pf_book::{Chapter, Disk, Numbering, Publisher, Seer};
-use pf_session::{EngineFault, Gate, LeftOff, NoPause, Pause};
+use pf_session::{Caller, EngineFault, Gate, LeftOff, NoPause, Pause};
 use std::alloc::{AllocError, Global};
 use std::collections::VecDeque;
 use std::net::TcpListener;
@@ -126,11 +128,13 @@ struct Server<
     S: Publisher<J> + Drop,
     G: Gate,
     P: Pause,
+    L: KeepLog,
 > {
     rt: &'a W,
     shared: &'a Shared<D, J, S>,
     gate: &'a G,
     pause: &'a P,
+    log: &'a L,
 }
 
 impl<
@@ -141,14 +145,21 @@ impl<
     S: Publisher<J> + Drop,
     G: Gate,
     P: Pause,
-> ServeConnection<J> for Server<'a, W, D, J, S, G, P> {
+    L: KeepLog,
+> ServeConnection<J> for Server<'a, W, D, J, S, G, P, L> {
     fn serve_connection(
         &self,
         alloc: Global,
         connection: &mut Connection,
         seer: &mut Seer<J>,
     ) -> Result<LeftOff, EngineFault> {
-        connection.serve(self.rt, alloc, self.shared, seer, self.gate, self.pause)
+        let caller = Caller::new(self.rt, self.shared);
+        let book = Logged::new(&caller, self.log, connection.number());
+        let served = connection.serve(alloc, &book, seer, self.gate, self.pause);
+        if let Err(fault) = &served {
+            self.log.note_fault(connection.number(), *fault);
+        }
+        served
     }
 }
 
@@ -195,6 +206,7 @@ pub(crate) fn serve_until<
     S: Publisher<J> + Drop + Send,
     G: Gate + Sync,
     P: Pause + Sync,
+    L: KeepLog + Sync,
 >(
     rt: &M,
     alloc: Global,
@@ -204,6 +216,7 @@ pub(crate) fn serve_until<
     seers: Vec<Seer<J>>,
     gate: &G,
     pause: &P,
+    log: &L,
 ) -> Result<Vec<Seer<J>>, EngineFault>
     ensures { IfErr result (λ fault. fault ≡ EngineFault.Memory) }
 {
@@ -212,6 +225,7 @@ pub(crate) fn serve_until<
         shared,
         gate,
         pause,
+        log,
     };
     work_all(rt, alloc, listener, reception, &server, pause, seers)
 }
@@ -283,7 +297,7 @@ pub fn serve_listener<
         return Err(EngineFault::Memory);
     };
     let _ = serve_until(
-        rt, alloc, listener, &reception, shared, seers, gate, &NoPause,
+        rt, alloc, listener, &reception, shared, seers, gate, &NoPause, &NoLog,
     )?;
     if reception.has_failed(rt) {
         return Err(EngineFault::Read);

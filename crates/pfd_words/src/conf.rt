@@ -103,6 +103,15 @@ fn tap<'a>(alloc: Global) -> Arg<'a>
         .help("Writes the outcomes in TAP")
 }
 
+fn from<'a>(alloc: Global) -> Arg<'a>
+    ensures rule { rule_of result ≡ text_rule (codes "from") }
+    ensures local { result.global ≡ false }
+{
+    Arg::new(alloc, "from").long("from").value_name("ADDR").help(
+        "Explains by what the server at this address has, without FILE",
+    )
+}
+
 fn junit<'a>(alloc: Global) -> Arg<'a>
     ensures rule { rule_of result ≡ text_rule (codes "junit") }
     ensures local { result.global ≡ false }
@@ -183,14 +192,11 @@ pub(crate) fn explain_words<'a>(alloc: Global) -> Result<Command<'a>, AllocError
         .required(true)
         .action(ArgAction::Append)
         .help("As in em0 tcp 198.51.100.9 40000 192.0.2.1 80");
-    let from = Arg::new(alloc, "from").long("from").value_name("ADDR").help(
-        "Explains by what the server at this address has, without FILE",
-    );
     let words = conf_words(alloc, "explain")?;
     words
         .about("Shows the rules of a pf.conf that match a packet, and the verdict")
         .arg(packet)?
-        .arg(from)
+        .arg(from(alloc))
 }
 
 /// The pf.conf that a subcommand names, and this question of it.
