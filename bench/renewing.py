@@ -32,6 +32,8 @@ SIZE, WORKERS, ROUND, PATIENCE = 1 << 18, 64, 20, 60
 TICKS, LASTS = 10, (20, 60)
 # Behind so many lines that come at once one asks for a ticket.
 CLOCK = 50
+# Within so many seconds a server has closed what its client has.
+CLOSES = 10
 # What one that may only ask sends too.
 DENIED = ("tkill - t", "begin filter -", "publish", "kill 1 1", "expire 0", "add - 1.1 pass all", "tset - t")
 # How much the memory that is held behind the last round may be above that behind a minute.
@@ -364,9 +366,11 @@ class Round:
         self.changes, self.replies = len(self.order.places), sum(map(len, histories.values()))
         self.longest = max(client.longest for client in clients if type(client) in (Alone, Judging, Ticking))
 
-    def look_at(self, ways):
-        # (what clients left is closed by then)
-        time.sleep(0.5)
+    def look_at(self, ways, files):
+        """So many descriptors were open before the first round. What clients left is closed within some seconds."""
+        end = time.monotonic() + CLOSES
+        while ways.open_files() > files and time.monotonic() < end:
+            time.sleep(0.1)
         self.memory, self.files = ways.memory(), ways.open_files()
 
     def __str__(self):
@@ -374,23 +378,23 @@ class Round:
                 f"the longest wait of a line alone {self.longest:.2f} s; {len(self.order.wrong)} wrong")
 
 
-def play_round(options, result, ways, renew, world, setter, turn):
+def play_round(options, result, ways, renew, world, setter, turn, files):
     clients = played(ways, turn + 1000 * options.seed)
     one = Round(options.program, renew, world, clients, setter)
     result.wrong += one.order.wrong
     result.passed += one.replies
     result.compare("what is kept", should_be_kept(world), setter.kept())
-    one.look_at(ways)
+    one.look_at(ways, files)
     return one
 
 
-def look_at_rounds(result, rounds):
+def look_at_rounds(result, rounds, files):
     """Memory and descriptors don't grow: the kilobytes held behind the last round beside those behind a minute."""
     held = [one.memory for one in rounds]
     usual = held[min(len(held), 60 // ROUND) - 1]
     result.check(f"memory isn't flat: {usual:,} kB behind a minute, and {held[-1]:,} kB at the end", held[-1] <= MOST_GROWTH * usual)
-    files = [one.files for one in rounds]
-    result.check(f"descriptors behind each round: {files}", max(files) <= files[0])
+    most = max(one.files for one in rounds)
+    result.check(f"{most} descriptors are open behind a round, and {files} were before the first", most <= files)
     result.check("the history was never renewed", any(one.renewals for one in rounds))
 
 
@@ -408,15 +412,16 @@ def renewing(options, renew, minutes, say=lambda text: None):
         with Ways(options.program, folder, file, renew) as ways:
             setter, silent = Setter(ways.full[1], 0, 0), Silent(ways)
             setter.set_up()
+            files = ways.open_files()
             for turn in range(max(1, round(minutes * 60 / ROUND))):
-                rounds.append(play_round(options, result, ways, renew, world, setter, turn))
+                rounds.append(play_round(options, result, ways, renew, world, setter, turn, files))
                 say(f"round {turn + 1}: {rounds[-1]}")
                 if result.wrong:
                     break
             silent.end(result, world)
         with Ways(options.program, folder, file, renew) as ways:
             look_behind_a_kill(result, ways, world)
-    look_at_rounds(result, rounds)
+    look_at_rounds(result, rounds, files)
     renewals, changes, replies = (sum(some) for some in zip(*((one.renewals, one.changes, one.replies) for one in rounds)))
     longest = max(one.longest for one in rounds)
     result.tell(f"{renewals:,} renewals, {changes:,} changes, {replies:,} replies, {rounds[-1].memory:,} kB; the longest wait of a line alone {longest:.2f} s")

@@ -37,6 +37,8 @@ CHANGES = [
     "track 8 1 out em0 udp 198.51.100.7 40001 192.0.2.1 80 until 9", "expire 9", "tset web v 10.0.0.1", "tkill web v", "rules web pass all",
     f"peer {EXAMPLE.hex()}", "tdel - t 10.9.0.0/16", "tkill - t",
 ]
+# The paths for which tickets were given.
+PATHS = ("clock", "-", "web")
 SECONDS = 30
 
 
@@ -187,8 +189,9 @@ def by_program(options, result, folder, what, image, moment):
     file = os.path.join(folder, "crashed")
     compare_run(options, file, image, result)
     write(file, image)
-    said = ran(options.program, "run", "--disk", file, given=f"add clock {moment.ticket} pass all\n".encode())[1]
-    result.compare(f"{what}: a ticket of before", b"busy 0\n", said)
+    lines = "".join(f"add {path} {moment.ticket} pass all\n" for path in PATHS)
+    said = ran(options.program, "run", "--disk", file, given=lines.encode())[1]
+    result.compare(f"{what}: a ticket of before", b"busy 0\n" * len(PATHS), said)
 
 
 def stopped(job):

@@ -44,7 +44,7 @@ fn push_given(alloc: Global, text: &str, interfaces: &mut Items<Interface>) -> R
 /// The interfaces that these texts give, each as `em0=192.0.2.1/24,2001:db8::1/64`.
 ///
 /// `Fault::Interface`: the first text that gives none; `Fault::Memory`: out of memory.
-#[tactic(auto, using(crate::proofs::Given::given_on, crate::proofs::Given::given_stops, crate::proofs::Given::given_end))]
+#[tactic(auto, using(crate::proofs::Given::given_end))]
 pub fn given_interfaces(alloc: Global, texts: &[&str]) -> Result<Items<Interface>, Fault>
     ensures { AreGiven (interfaces_given [] (map (λ t. t.now) texts.now)) result }
 {
