@@ -412,6 +412,7 @@ def renewing(options, renew, minutes, say=lambda text: None):
         with Ways(options.program, folder, file, renew) as ways:
             setter, silent = Setter(ways.full[1], 0, 0), Silent(ways)
             setter.set_up()
+            time.sleep(0.5)
             files = ways.open_files()
             for turn in range(max(1, round(minutes * 60 / ROUND))):
                 rounds.append(play_round(options, result, ways, renew, world, setter, turn, files))
