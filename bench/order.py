@@ -7,7 +7,6 @@ their numbers, and behind them the renewal and the changes of the next one.
 import bisect
 import heapq
 import itertools
-import os
 import random
 import re
 import socket
