@@ -141,7 +141,9 @@ fn serve_and_say<D: Disk + Drop + Send, N: Wait + Threads + Sync, L: KeepLog + S
     let (_, served) = thread::join(
         machine,
         || house.notice.say_all(machine, log),
-        || {
+        ||
+            requires { CanServe service.now }
+        {
             let served = serve_openings(machine, alloc, opening, service, doors, house, log);
             house.notice.end(machine);
             served
