@@ -109,6 +109,9 @@ module _ {X : Type 0} (holds : AllSigns → ℕ → ℕ → X → Type 0)
       };
       below = below_stays;
     } where
+      is_equal : (i j : ℕ) → i ≡ j → (i == j) ≡ true
+      is_equal i j e = grind (arith, nat_tests)
+
       not_here : (k : ℕ) → (k ≡ p.free → ⊥) → (t : Bool) → (k == p.free) ≡ t → cond t sign (sign_of wide k) ≡ sign_of wide k
       not_here k other true t = absurd (other (grind (arith, nat_tests)))
       not_here k other false t = refl
@@ -120,9 +123,6 @@ module _ {X : Type 0} (holds : AllSigns → ℕ → ℕ → X → Type 0)
           let front_is : a / 2 ^ k ≡ front p = ap (λ (j : ℕ). a / 2 ^ j) free_is ∙ by_front a front_ ∙ own in
           ap (λ b. cond b sign (s k (a / 2 ^ k))) (sym (is_equal (a / 2 ^ k) (front p) front_is))
       by a front_ k low less false t = (is.wide a front_).same k low less
-
-      is_equal : (i j : ℕ) → i ≡ j → (i == j) ≡ true
-      is_equal i j e = grind (arith, nat_tests)
 
   -- ---- forks
 
@@ -354,6 +354,25 @@ module _ {X : Type 0} (holds : AllSigns → ℕ → ℕ → X → Type 0) where
   fork_same s at front slots others count same is = record {
     each = λ g slot lt. slot_same s at (front * 16 + g) (get_or slots g slot) (get_or others g slot) (same.each g slot (omega (arith, lt, count))) (is.each g slot lt);
   }
+
+  -- a branch's fork, by the bits behind its slots' fronts
+  pub fork_below : (s : AllSigns) (top at a : ℕ) (slots : List (Signs × X)) → at ≡ top - 4 → IsForkOf holds s top (a / 2 ^ top) slots
+      → IsFork holds s at (a / 2 ^ at / 16) slots
+  fork_below s top at a slots same is =
+      let deep = is.deep in
+      let whole : top ≡ at + 4 = omega (arith, same, deep) in
+      subst (λ (n : ℕ). IsFork holds s at n slots) (ap (λ (k : ℕ). a / 2 ^ k) whole ∙ of_slot at a)
+      (subst (λ (k : ℕ). IsFork holds s k (a / 2 ^ top) slots) (sym same) is.fork)
+
+  pub fork_above : (s : AllSigns) (top at a : ℕ) (slots : List (Signs × X)) → at + 4 ≡ top → IsFork holds s at (a / 2 ^ at / 16) slots
+      → IsForkOf holds s top (a / 2 ^ top) slots
+  fork_above s top at a slots whole is =
+      let same : at ≡ top - 4 = omega (arith, whole) in
+      record {
+        deep = omega (arith, whole);
+        fork = subst (λ (k : ℕ). IsFork holds s k (a / 2 ^ top) slots) same
+            (subst (λ (n : ℕ). IsFork holds s at n slots) (sym (of_slot at a) ∙ ap (λ (k : ℕ). a / 2 ^ k) whole) is);
+      }
 
   pub itself : (slots : List (Signs × X)) → SameFork holds slots slots
   itself slots = record { count = refl; each = λ g slot lt. record { wide = refl; below = λ s top front is. is } }
