@@ -1,5 +1,5 @@
 -- Slots, forks and branches.
-use Rattle.std.proofs.{Common.{◌≡◌, ◌≢◌, ℕ, zero, suc, ◌+◌, ◌-◌, ◌*◌, ◌/◌, ◌%◌, ◌^◌, ◌<◌, ◌≤◌, ◌==◌, ◌&&◌, Bool, true, false, cond, nat_le, nat_lt, List, [], ◌∷◌, ◌++◌, length, get_or, set, take, filter, map, Option, Some, None, All, refl, sym, ap, ◌∙◌, subst, arith}, lemmas.{Bool.and_parts, Bool.Decides.nat_tests, Nat.{shr-shr, shl-shr, pow-add, pow_pos, shr_below, shl_whole}, List.{get_or_default, length-set, get_or-set_same, get_or-set_other, get_or-map, length-map, length-append, get_or_append_left, get_or-take, length-take-le}, List.Elements.{All-filter, filter_passes, All-map, All-weaker}, List.Kept.AllPairs-filter}, Math.{Nat.{div-mul-le_self, div-eq_of_lt}, Seq.get_or-append_seam}}
+use Rattle.std.proofs.{Common.{◌≡◌, ◌≢◌, ℕ, zero, suc, ◌+◌, ◌-◌, ◌*◌, ◌/◌, ◌%◌, ◌^◌, ◌<◌, ◌≤◌, ◌==◌, ◌&&◌, Bool, true, false, cond, nat_le, nat_lt, List, [], ◌∷◌, ◌++◌, length, get_or, set, take, filter, map, Option, Some, None, All, refl, sym, ap, ◌∙◌, subst, arith}, lemmas.{Bool.and_parts, Bool.Decides.nat_tests, Nat.{shr-shr, shl-shr, pow-add, pow_pos, shr_below, shl_whole}, List.{get_or_past, get_or_default, length-set, get_or-set_same, get_or-set_other, get_or-map, length-map, length-append, get_or_append_left, get_or-take, length-take-le}, List.Elements.{All-filter, filter_passes, All-map, All-weaker}, List.Kept.AllPairs-filter}, Math.{Nat.{div-mul-le_self, div-eq_of_lt}, Seq.get_or-append_seam}}
 use Rattle.std.specs.{List.{AllPairs, Any}, Arc.arc_value, declared.{sync.Arc.Arc}}
 use Rattle.pf_trie.specs.declared.{found.Found.{Found}, prefix.Prefix.{Prefix}, rows.Row.{Row}, signs.Signs.{Signs}, slot.TheConstants.{SLOT_BITS, SLOTS}}
 use Rattle.pf_trie.specs.{Prefixes.{AllSigns, Agree, front, first_of, with_sign, HasNone, Decides, Finds}, Signs.{sign_of, below_of, IsShortest}, Rows.{HasSigns, IsInOrder, IsAt, AreRows, cut_row}, Forks.{IsSlot, IsFork, IsForkOf, IsBranch, SameSlot, SameFork}}
@@ -349,11 +349,17 @@ module _ {X : Type 0} (holds : AllSigns → ℕ → ℕ → X → Type 0) where
     below = same.below s at n is.below;
   }
 
-  pub fork_same : (s : AllSigns) (at front : ℕ) (slots others : List (Signs × X)) → length slots ≡ 16 → SameFork holds slots others
-      → IsFork holds s at front slots → IsFork holds s at front others
-  fork_same s at front slots others count same is = record {
-    each = λ g slot lt. slot_same s at (front * 16 + g) (get_or slots g slot) (get_or others g slot) (same.each g slot (omega (arith, lt, count))) (is.each g slot lt);
-  }
+  pub fork_same : (s : AllSigns) (at front : ℕ) (slots others : List (Signs × X)) → SameFork holds slots others → IsFork holds s at front slots
+      → IsFork holds s at front others
+  fork_same s at front slots others same is = record { each = λ g slot lt. by g slot lt (nat_lt g (length slots)) refl } where
+    by : (g : ℕ) (slot : Signs × X) → g < 16 → (t : Bool) → nat_lt g (length slots) ≡ t → IsSlot holds s at (front * 16 + g) (get_or others g slot)
+    by g slot lt true t =
+        let near : g < length slots = grind (arith, nat_tests) in
+        slot_same s at (front * 16 + g) (get_or slots g slot) (get_or others g slot) (same.each g slot near) (is.each g slot lt)
+    by g slot lt false t =
+        let far : length slots ≤ g = grind (arith, nat_tests) in
+        let past : length others ≤ g = let c = same.count in omega (arith, c, far) in
+        subst (λ (x : Signs × X). IsSlot holds s at (front * 16 + g) x) (get_or_past slots g slot far ∙ sym (get_or_past others g slot past)) (is.each g slot lt)
 
   -- a branch's fork, by the bits behind its slots' fronts
   pub fork_below : (s : AllSigns) (top at a : ℕ) (slots : List (Signs × X)) → at ≡ top - 4 → IsForkOf holds s top (a / 2 ^ top) slots
@@ -403,26 +409,3 @@ module _ {X : Type 0} (holds : AllSigns → ℕ → ℕ → X → Type 0) where
         subst (λ (y : Signs × X). SameSlot holds y (get_or (others ++ x ∷ []) g slot)) (sym front_)
         (subst (λ (y : Signs × X). SameSlot holds (get_or (take i slots) g slot) y) (sym (get_or_append_left others (x ∷ []) slot g inside))
         (same.each g slot (let l : length (take i slots) ≡ i = length-take-le i slots (omega (arith, lt)) in omega (arith, l, near))))
-
--- ---- whole tries
-
--- what holds below all addresses, and the prefix that contains them all
-pub whole_found : (s : AllSigns) (a : ℕ) (f : Found) → Decides s 0 128 a f → Decides s 0 129 a f
-whole_found s a f d = record { within = omega arith; below = let b = d.below in omega (arith, b); sign = d.sign; longest = d.longest }
-
-pub whole_none : (s : AllSigns) (a : ℕ) → a < 2 ^ 128 → HasNone s 0 128 a → s 128 0 ≡ None → HasNone s 0 129 a
-whole_none s a fits none all = record { none = λ k le lt. by k lt (nat_lt k 128) refl } where
-  by : (k : ℕ) → k < 129 → (t : Bool) → nat_lt k 128 ≡ t → s k (a / 2 ^ k) ≡ None
-  by k lt true near = none.none k (omega arith) (grind (arith, nat_tests))
-  by k lt false far =
-      let same : k ≡ 128 = let past : 128 ≤ k = grind (arith, nat_tests) in omega (arith, past, lt) in
-      ap (λ (j : ℕ). s j (a / 2 ^ j)) same ∙ ap (s 128) (div-eq_of_lt fits) ∙ all
-
-pub whole_all : (s : AllSigns) (a : ℕ) (sign : Bool) → a < 2 ^ 128 → HasNone s 0 128 a → s 128 0 ≡ Some sign
-    → Decides s 0 129 a (record { free = 128; sign = sign })
-whole_all s a sign fits none all = record {
-  within = omega arith;
-  below = omega arith;
-  sign = ap (s 128) (div-eq_of_lt fits) ∙ all;
-  longest = λ k le lt. none.none k le lt;
-}
