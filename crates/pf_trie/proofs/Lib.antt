@@ -2,3 +2,4 @@ pub mod Bits
 pub mod Cuts
 pub mod RowLists
 pub mod ForkSlots
+pub mod Roots

@@ -4,3 +4,4 @@ pub mod Rows
 pub mod Pages
 pub mod Forks
 pub mod Agreeing
+pub mod Tries

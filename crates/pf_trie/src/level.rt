@@ -13,6 +13,9 @@ pub trait Level: Drop {
     /// Whether it holds just these signs, for this `top` and this front.
     ghost holds: { AllSigns → ℕ → ℕ → Self → Type 0 };
 
+    /// It holds the same wherever two agree on the prefixes that it has.
+    ghost agrees: { (s t : AllSigns) (top front : ℕ) (l : Self) → Agree s t top front → holds s top front l → holds t top front l };
+
     /// No signs. It takes no memory.
     fn empty() -> Self
         ensures { (s : AllSigns) (top front : ℕ) → AreRows s top front [] → holds s top front result };
@@ -42,6 +45,4 @@ pub trait Level: Drop {
         requires free { prefix.free < 128 }
         requires top { top ≤ 128 }
         ensures { IfOk result (λ l. (s : AllSigns) → prefix.free < top → holds s top (prefix.address / 2 ^ top) self → holds (with_sign s prefix sign) top (prefix.address / 2 ^ top) l) };
-
-    ghost agrees: { (s t : AllSigns) (top front : ℕ) (l : Self) → Agree s t top front → holds s top front l → holds t top front l };
 }

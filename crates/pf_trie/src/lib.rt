@@ -9,17 +9,19 @@
 mod branch;
 mod fork;
 mod found;
+mod four;
+mod index;
 mod level;
 mod page;
 mod prefix;
+mod rooted;
 mod rows;
 mod signs;
+mod sixteen;
 mod slot;
+mod trie;
 
-pub use branch::Branch;
 pub use found::Found;
-pub use level::Level;
-pub use page::Page;
+pub use index::PrefixIndex;
 pub use prefix::Prefix;
-pub use rows::Row;
-pub use signs::Signs;
+pub use trie::Trie;
