@@ -12,5 +12,5 @@ pub returns-in_err-push_given : goal.returns-in_err-push_given
 returns-in_err-push_given c =
     let p = err_from_is_err_and c.from_residual.result c.from_residual.ensures.1 in
     rw (p.1, p.2)
-    (given_stops c.args.texts.now c.loop-text.text-index _ c.loop-text.interfaces c.in_err-push_given.field-0.0 _ c.loop-text.invariant
-    (omega arith) c.in_err-push_given.ensures)
+    (given_stops c.args.texts.now c.loop-text.text-index _ c.loop-text.interfaces c.in_err-push_given.field-0.0 _
+    c.loop-text.invariant (omega arith) c.in_err-push_given.ensures)
