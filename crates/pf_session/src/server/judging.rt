@@ -35,9 +35,12 @@ fn packet_of(line: &[u8]) -> Option<Packet>
     if is_denied(line) {
         return None;
     }
-    match parse_judge(line) {
-        Some(Ok(packet)) => Some(packet),
-        _ => None,
+    let Some(said) = parse_judge(line) else {
+        return None;
+    };
+    match said {
+        Ok(packet) => Some(packet),
+        Err(_) => None,
     }
 }
 
