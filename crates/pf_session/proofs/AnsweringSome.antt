@@ -3,7 +3,7 @@ use Rattle.std.proofs.Common.{◌≡◌, ℕ, List, [], ◌∷◌, ◌++◌, Opt
 use Rattle.std.specs.{Prelude.{◌≢◌}, Io.KnownBytes.{Appends, Keeps}}
 use Rattle.pf_addr.specs.Writing.{WritesFront}
 use Rattle.pf_session.specs.{LineEngine.Chains.Chain, LineEngine.Lines.{newline, seen}, LineEngine.Pieces.{Failed, SessionSoFar}}
-use Rattle.pf_session.proofs.{AnsweredLines.{TakesSeen, cut-longer, line-answered, line-cut_off, still-so_far}, Cutting.{cut-newline, cut-byte, cut-more}}
+use Rattle.pf_session.proofs.{AnsweredLines.{TakesSeen, line-answered, line-cut_off, still-so_far}, Cutting.{cut-newline, cut-byte, cut-more}}
 
 module _ {S : Type 0} (Takes : List ℕ → S → S → List ℕ → Type 0) where
   -- a byte more of a line

@@ -6,7 +6,7 @@ use Rattle.pf_core.specs.{Durable.Changes.PlainDurable, Worlds.Setting}
 use Rattle.pf_line.specs.{declared.request.Request.TheVariants.Run, Lines.{Means, Parses, asked, line_at}}
 use Rattle.pf_book.specs.Receipts.{PlainReceipt}
 use Rattle.pf_session.specs.declared.server.judging.Judging.{Judging}
-use Rattle.pf_session.specs.{LineEngine.Chains.Chain, Server.{Askings.{AsksLine, AsksLines, AsksOrShows, IsHeard, is_denied}, Judgings.{IsSameJudging, JudgesInSession, seat}, Sittings.{IsJudged, RunsOrShows, Sitting, TakesLine, TakesLines, at_next_line, next_line}}, Telling.IsToldBy}
+use Rattle.pf_session.specs.{LineEngine.Chains.Chain, Server.{Askings.{AsksLine, AsksLines, AsksOrShows, IsHeard}, Judgings.{IsSameJudging, JudgesInSession, seat}, Sittings.{IsJudged, TakesLine, TakesLines, at_next_line}}, Telling.IsToldBy}
 
 -- a line that asks to judge a packet isn't refused for want of memory
 pub judge-means : (line : List ℕ) (packet : PlainPacket) → Parses (asked (Ok packet)) (line_at line) → Means (line_at line) (Ok (Some (Run (Ask (Judge packet)))))

@@ -1,9 +1,9 @@
 -- What is looked at of a line, where only those are answered that ask what happens to a packet.
-use Rattle.std.proofs.Common.{◌≡◌, ◌∙◌, ℕ, List, Option, Result, Ok, Some, false, sym, subst}
+use Rattle.std.proofs.Common.{◌∙◌, ℕ, List, Option, Result, Ok, Some, sym, subst}
 use Rattle.pf_rule.specs.Packets.{PlainPacket}
 use Rattle.pf_core.specs.declared.{command.Command.TheVariants.Ask, command.Question.TheVariants.Judge, reply.Refusal.Refusal}
 use Rattle.pf_core.specs.Durable.Changes.{PlainDurable}
-use Rattle.pf_line.specs.{Grammar.Spoken, declared.request.Request.TheVariants.Run, Lines.{line_at, Means}}
+use Rattle.pf_line.specs.{Grammar.Spoken, declared.request.Request.TheVariants.Run, Lines.{Means}}
 use Rattle.pf_session.specs.declared.server.judging.Judging.{Judging}
 use Rattle.pf_session.specs.{LineEngine.Lines.seen, Laws.{Asking.seen-denied, Seeing.seen-says}, Server.Judgings.{AsksToJudge, JudgesInSession}}
 

@@ -1,4 +1,4 @@
-use Rattle.std.proofs.{Common.{ℕ, ◌+◌, append-nil, refl, take, drop, arith}, lemmas.Result.err_from_is_err_and, lemmas.List.{length-take, take_more_set}}
+use Rattle.std.proofs.{Common.{ℕ, ◌+◌, append-nil, refl, drop, arith}, lemmas.Result.err_from_is_err_and, lemmas.List.{length-take, take_more_set}}
 use Rattle.pf_session.proofs.{AnsweredLines.{piece-on, piece-all, kept-more, kept-full}, AnsweringSome.{byte-behind, line-behind, line-cut, line-left}, line_engine.some.answer_some_in.Goals.{then-byte-eq10+else-is_due+in_ok-answer_some+else-not-branch, else-byte-eq10+then-len-lt-LOOKED_AT, else-byte-eq10+else-len-lt-LOOKED_AT}}
 use Rattle.pf_session.proofs.line_engine.some.answer_some_in.Goals as goal
 
