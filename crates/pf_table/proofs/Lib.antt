@@ -3,6 +3,7 @@ pub mod TableRows
 pub mod Batches
 pub mod Lookups
 pub mod TrieSigns
+pub mod AnswersAt
 pub mod Edits
 pub mod TableLaws
 pub mod Written

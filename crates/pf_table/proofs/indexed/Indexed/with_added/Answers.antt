@@ -1,6 +1,6 @@
-use Rattle.std.proofs.Common.{ℕ, ◌<◌, ◌∙◌, List, length, get_or, take, sym, ap, subst}
+use Rattle.std.proofs.Common.{ℕ, ◌<◌, ◌∙◌, List, length, take, sym, ap, subst}
 use Rattle.pf_table.specs.{Entries.PlainEntry, Edits.added, Indexed.AreIn}
-use Rattle.pf_table.proofs.{Batches.one_more, TrieSigns.{as_many_added, added_at}}
+use Rattle.pf_table.proofs.{Batches.one_more, TrieSigns.as_many_added, AnswersAt.added_at}
 use Rattle.pf_table.proofs.indexed.Indexed.with_added.Goals as goal
 
 pub loop-at-init : goal.loop-at-init
@@ -17,8 +17,7 @@ loop-at-preserved g c =
     let list = c.args.list.now in
     let i = c.loop-at.at in
     let x = c.index-list-at.result in
-    let answer = c.index-answers-at.result in
     subst (λ (l : List PlainEntry). AreIn g.T.PrefixIndex.has l c.in_ok-tries-2.tries.v4 c.in_ok-tries-2.tries.v6) (one_more es list i x c.loop-at-test.true c.index-list-at.is)
     (c.in_ok-tries-2.ensures (added es (take i list))
-    (added_at es list i x answer c.loop-at-test.true c.index-list-at.is (c.index-answers-at.is ∙ ap (λ l. get_or l i answer) c.requires.answers))
+    (added_at c.args.answers.now es list i x _ c.requires.answers c.loop-at-test.true c.index-list-at.is)
     c.loop-at.invariant)
