@@ -9,4 +9,4 @@ returns-in-Session g c =
 pub returns-in-Asking : goal.returns-in-Asking
 returns-in-Asking g c =
     rw c.in-Asking.is
-    (c.go_on_judging-2.new.session, refl, c.go_on_judging-2.ensures.number, c.go_on_judging-2.ensures.asking_part)
+    (c.go_on_judging-in-Asking.new.session, refl, c.go_on_judging-in-Asking.ensures.number, c.go_on_judging-in-Asking.ensures.asking_part)
