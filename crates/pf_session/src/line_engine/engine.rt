@@ -12,7 +12,7 @@ use std::alloc::Global;
 use std::io::{ErrorKind, Read, Write};
 
 // More reads than are ever made.
-pub(super) const MOST_READS: u64 = 1 << 62;
+const MOST_READS: u64 = 1 << 62;
 
 // Answers what was read, as far as no pause is due, and has all replies written. Returns whether it pauses. `Err`: a write or the flush
 // failed.

@@ -4,12 +4,14 @@ ghost use Rattle.pf_session.specs.declared.line_engine.left_off.LeftOff.TheVaria
 ghost use Rattle.pf_session.specs.{LineEngine.Chains.Chain, LineEngine.Intakes.{AnsweredSoFar, HasBegun, IsPart, LeavesOff}, LineEngine.Lines.seen, LineEngine.Pieces.{Failed, MayAnswer, SessionSoFar}};
 
 use crate::line_engine::answer_line::LOOKED_AT;
-use crate::line_engine::engine::MOST_READS;
 use crate::line_engine::fault::EngineFault;
 use crate::line_engine::intake::Intake;
 use crate::line_engine::left_off::{LeftOff, Pause};
 use crate::line_engine::pieces::Reached;
 use std::io::{self, ErrorKind, Read, Write};
+
+// More reads than are ever made.
+const MOST_READS: u64 = 1 << 62;
 
 /// What answers lines of some kinds, one after the other, and none of the others.
 pub trait AnswerSome {
