@@ -19,6 +19,7 @@ mod fork;
 mod found;
 mod four;
 mod index;
+mod indexed;
 mod level;
 mod page;
 mod prefix;
