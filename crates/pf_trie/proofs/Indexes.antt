@@ -68,15 +68,17 @@ no_rows_alike shift front rows none = record { alike = λ o k d lt. absurd (omeg
 -- what the first and the last one share all do
 pub rows_alike : (shift n first last : ℕ) (rows : List Row) (e x : Row) → 0 < length rows → first ≡ (get_or rows 0 e).first
     → last ≡ (get_or rows (length rows - 1) x).first → IsApart first last n → n ≤ shift + 5 → BeginAlike shift (first / 2 ^ shift / 32) rows
-rows_alike shift n first last rows e x some is_first is_last apart reach = record { alike = λ o k d lt.
-    let low = no_later rows 0 k d o (omega arith) lt in
-    let high = no_later rows k (length rows - 1) d o (omega (arith, lt)) (omega (arith, some)) in
-    let own_first : (get_or rows 0 d).first ≡ first = ap (λ (r : Row). r.first) (get_or_default rows 0 d e some) ∙ sym is_first in
-    let own_last : (get_or rows (length rows - 1) d).first ≡ last =
-    ap (λ (r : Row). r.first) (get_or_default rows (length rows - 1) d x (omega (arith, some))) ∙ sym is_last in
-    let up : first ≤ (get_or rows k d).first = omega (arith, low, own_first) in
-    let down : (get_or rows k d).first ≤ last = omega (arith, high, own_last) in
-    shr-shr (get_or rows k d).first shift 5 ∙ same (get_or rows k d).first up down ∙ sym (shr-shr first shift 5) }
+rows_alike shift n first last rows e x some is_first is_last apart reach = record {
+  alike = λ o k d lt.
+      let low = no_later rows 0 k d o (omega arith) lt in
+      let high = no_later rows k (length rows - 1) d o (omega (arith, lt)) (omega (arith, some)) in
+      let own_first : (get_or rows 0 d).first ≡ first = ap (λ (r : Row). r.first) (get_or_default rows 0 d e some) ∙ sym is_first in
+      let own_last : (get_or rows (length rows - 1) d).first ≡ last =
+      ap (λ (r : Row). r.first) (get_or_default rows (length rows - 1) d x (omega (arith, some))) ∙ sym is_last in
+      let up : first ≤ (get_or rows k d).first = omega (arith, low, own_first) in
+      let down : (get_or rows k d).first ≤ last = omega (arith, high, own_last) in
+      shr-shr (get_or rows k d).first shift 5 ∙ same (get_or rows k d).first up down ∙ sym (shr-shr first shift 5);
+}
   where
     same : (m : ℕ) → first ≤ m → m ≤ last → m / 2 ^ (shift + 5) ≡ first / 2 ^ (shift + 5)
     same m up down =

@@ -4,9 +4,9 @@ ghost use Rattle.pf_trie.specs.{Prefixes.{AllSigns, Finds}, Rows.{AreRows, HasSi
 ghost use Rattle.pf_trie.specs.Agreeing.{rows_agree};
 
 use crate::found::Found;
+use crate::indexed::Indexed;
 use crate::level::Level;
 use crate::prefix::Prefix;
-use crate::indexed::Indexed;
 use crate::rows::{Row, edited};
 use crate::signs::Signs;
 use std::alloc::{AllocError, Global};
