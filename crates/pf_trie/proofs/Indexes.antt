@@ -1,5 +1,5 @@
 -- Rows with an index: what is below and above the digit of an address.
-use Rattle.std.proofs.{Common.{◌≡◌, ◌≢◌, ℕ, ◌+◌, ◌-◌, ◌*◌, ◌/◌, ◌%◌, ◌^◌, ◌<◌, ◌≤◌, ◌==◌, min, Bool, true, false, nat_lt, List, length, get_or, set, refl, sym, ap, ◌∙◌, subst, arith}, lemmas.{Bool.Decides.nat_tests, Nat.shr-shr, List.{get_or_default, length-set, get_or-set_same, get_or-set_other}}, Math.Pow.shr_mono}
+use Rattle.std.proofs.{Common.{◌≡◌, ◌≢◌, ℕ, ◌+◌, ◌-◌, ◌/◌, ◌^◌, ◌<◌, ◌≤◌, ◌==◌, min, Bool, true, false, nat_lt, List, length, get_or, set, refl, sym, ap, ◌∙◌, subst, arith}, lemmas.{Bool.Decides.nat_tests, Nat.shr-shr, List.{get_or_default, length-set, get_or-set_same, get_or-set_other}}, Math.Pow.shr_mono}
 use Rattle.std.specs.List.{AllWithin}
 use Rattle.pf_trie.specs.declared.{rows.Row.{Row}}
 use Rattle.pf_trie.specs.{Prefixes.IsApart, Rows.{IsInOrder, IsBetween}, Indexes.{digit_at, IsUpToDigit, IsEntry, IsIndex, BeginAlike}}

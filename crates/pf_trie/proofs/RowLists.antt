@@ -1,8 +1,8 @@
 -- Rows: which is at an address or before it, and what edits leave.
-use Rattle.std.proofs.{Common.{◌≡◌, ◌≢◌, ℕ, zero, suc, ◌+◌, ◌-◌, ◌*◌, ◌/◌, ◌^◌, ◌<◌, ◌≤◌, ◌==◌, ◌&&◌, Bool, true, false, cond, nat_le, nat_lt, List, [], ◌∷◌, ◌++◌, length, get_or, set, take, drop, Option, Some, None, All, refl, sym, ap, ◌∙◌, subst, arith}, lemmas.{Bool.and_parts, Bool.Decides.nat_tests, Nat.shl-shr, List.{get_or_default, length-set, get_or-set_same, get_or-set_other}, List.Edits.{length-insert, get_or-insert_below, get_or-insert_at, get_or-insert_above, length-remove, get_or-remove_below, get_or-remove_above}, List.Elements.{All-append, All-take, All-drop, All-cons}}, Math.{Nat.div-mul-le_self, Seq.take-append_seam}}
+use Rattle.std.proofs.{Common.{◌≡◌, ◌≢◌, ℕ, suc, ◌+◌, ◌-◌, ◌*◌, ◌/◌, ◌^◌, ◌<◌, ◌≤◌, ◌==◌, ◌&&◌, Bool, true, false, cond, nat_le, nat_lt, List, ◌∷◌, ◌++◌, length, get_or, set, take, drop, Option, Some, None, All, refl, sym, ap, ◌∙◌, subst, arith}, lemmas.{Bool.and_parts, Bool.Decides.nat_tests, Nat.shl-shr, List.{get_or_default, length-set, get_or-set_same, get_or-set_other}, List.Edits.{length-insert, get_or-insert_below, get_or-insert_at, get_or-insert_above, length-remove, get_or-remove_below, get_or-remove_above}, List.Elements.{All-append, All-take, All-drop, All-cons}}, Math.{Nat.div-mul-le_self, Seq.take-append_seam}}
 use Rattle.std.specs.List.{AllPairs, AllWithin, Any, insert, remove}
 use Rattle.pf_trie.specs.declared.{found.Found.{Found}, prefix.Prefix.{Prefix}, rows.Row.{Row}, signs.Signs.{Signs}}
-use Rattle.pf_trie.specs.{Prefixes.{AllSigns, IsApart, front, first_of, with_sign, HasNone, Decides, Finds}, Signs.{sign_of, IsFirst, IsShortest}, Rows.{HasSigns, IsInOrder, IsAt, AreRows, AreRowsWith, IsUpTo, IsBetween, IsNoStart, Marks, MarksEach}}
+use Rattle.pf_trie.specs.{Prefixes.{AllSigns, IsApart, front, first_of, with_sign, Finds}, Signs.{sign_of, IsShortest}, Rows.{HasSigns, IsInOrder, IsAt, AreRows, AreRowsWith, IsUpTo, IsBetween, IsNoStart, Marks, MarksEach}}
 use Rattle.pf_trie.specs.Agreeing.{cut_off, cut_less, between}
 use Rattle.pf_trie.proofs.Cuts.{share_fewer}
 

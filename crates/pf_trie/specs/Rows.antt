@@ -1,7 +1,7 @@
 -- Rows: addresses with the signs of all their prefixes, in order.
 use Rattle.std.specs.{Prelude.{◌≡◌, ◌≢◌, ℕ, ◌*◌, ◌/◌, ◌^◌, ◌<◌, ◌≤◌, ◌==◌, ◌&&◌, Bool, cond, List, length, slice_index_or, Option, Some, None, All}, List.{AllPairs, AllWithin, Any}}
 use Rattle.pf_trie.specs.declared.{prefix.Prefix.{Prefix}, rows.Row.{Row}, signs.Signs.{Signs}}
-use Rattle.pf_trie.specs.{Prefixes.{AllSigns, front, first_of}, Signs.{sign_of, below_of}}
+use Rattle.pf_trie.specs.{Prefixes.{AllSigns, front}, Signs.{sign_of, below_of}}
 
 -- The signs of an address's prefixes that leave at least `low` bits free and fewer than `top`, and no others.
 pub record HasSigns (s : AllSigns) (low top a : ℕ) (signs : Signs) : Type 0 where
