@@ -31,8 +31,6 @@ from order import (AT_ONCE, DELETE, INSERT, RULES, Client, Log, Order, Peer, Tol
 SIZE, WORKERS, ROUND, PATIENCE = 1 << 18, 64, 20, 60
 # Ticks a second, and for how many of them a state is tracked.
 TICKS, LASTS = 10, (20, 60)
-# Behind so many lines that come at once one asks for a ticket.
-CLOCK = 50
 # Within so many seconds a server has closed what its client has.
 CLOSES = 10
 # What one that may only ask sends too.
@@ -66,13 +64,6 @@ class Sessions(Client):
             time.sleep(self.random.random() / 10)
         self.file = None
         return self
-
-    def ask(self, lines):
-        """Among many lines there are some that ask for tickets, which tell the opening."""
-        if len(lines) > 3:
-            clock = "begin", f"begin filter clock{self.number}"
-            lines = [one for first in range(0, len(lines), CLOCK) for one in (clock, *lines[first : first + CLOCK])] + [clock]
-        return super().ask(lines)
 
     def turn(self):
         if self.random.randrange(8) == 0:
@@ -160,9 +151,6 @@ class Asking(Alone):
 
     def mark(self):
         """It changes nothing, so the log has nothing of it."""
-
-    def ask(self, lines):
-        return Client.ask(self, lines)
 
     def turn(self):
         self.ask([self.question() for _ in range(self.random.choice((1, 1, 20)))])
@@ -378,6 +366,8 @@ class Round:
         tell_sums(program, self.order)
         for who, told in histories.items():
             self.order.compare(who, told)
+        broken = {who: told[-1].reply for who, told in histories.items() if told and told[-1].kind == "it goes on"}
+        self.order.wrong[:0] = [f"client {who} broke off: {reply}" for who, reply in broken.items()]
         self.changes, self.replies = len(self.order.places), sum(map(len, histories.values()))
         self.longest = max(client.longest for client in clients if type(client) in (Alone, Judging, Ticking))
 
