@@ -1,5 +1,5 @@
-"""What clients of a server were told, and whether it fits one order of all changes: for bench/serve, bench/kill-server, and for the renewals
-of bench/soak.
+"""What clients of a server were told, and whether it fits one order of all changes: for bench/serve, for bench/kill-server, and for the
+renewals of bench/soak.
 
 A server numbers its changes from 1 in each opening. Of which opening one is says its line in the log of `--log`, which is written before
 its reply: the lines of a session come in their order, and that of a renewal behind those of all changes before it. So each change gets its
@@ -336,13 +336,13 @@ class Change(NamedTuple):
 
 
 class Log:
-    """What a server said by `--log` since a world stood: of each session its changes, in their order, and in which opening it ended. `wrong`
-    says what isn't so of the numbers, or of what clients were told. What else a server said goes to standard error."""
+    """What a server said by `--log` since a world stood: of each session its changes, in their order, and in which opening it ended.
+    `wrong` says what isn't so of the numbers, or of what clients were told. What else a server said goes to standard error."""
 
-    def __init__(self, text, world, least=0, is_killed=False):
-        """Each opening that ended has at least so many changes. Of the last one's no number is missing, unless it was killed."""
+    def __init__(self, text, world, least=0, killed=None):
+        """Each opening that ended has at least so many changes. No number is missing, but for the opening in which the server was killed."""
         self.first = self.opening = world.opening
-        self.is_killed, self.changes, self.wrong = is_killed, {}, []
+        self.killed, self.changes, self.wrong = killed, {}, []
         numbers = {world.opening: [*range(1, world.length + 1)]}
         # a kill may cut a line, whose reply nobody has then
         for line in text.split("\n")[:-1]:
@@ -359,14 +359,13 @@ class Log:
             self.look_at_numbers(opening, some, least)
 
     def look_at_numbers(self, opening, some, least):
-        """Each comes once, and what was killed may not have said all of them."""
-        is_last, counts = opening == self.opening, collections.Counter(some)
-        missing = [number for number in range(1, max(some, default=0)) if number not in counts]
+        counts, last = collections.Counter(some), max(some, default=0)
+        missing = [number for number in range(1, last) if number not in counts]
         twice = [number for number, count in counts.items() if count > 1]
-        if twice or missing and not (is_last and self.is_killed):
+        if twice or missing and opening != self.killed:
             self.wrong.append(f"of opening {opening} the log lacks the changes {missing[:9]}, and has {twice[:9]} twice")
-        if not is_last and max(some, default=0) < least:
-            self.wrong.append(f"opening {opening} was renewed after change {max(some, default=0)}")
+        if opening < (self.killed or self.opening) and last < least:
+            self.wrong.append(f"opening {opening} was renewed after change {last}")
 
     def owners(self, histories):
         """Whose each session is, by the texts that one client alone was told of."""
@@ -408,7 +407,7 @@ class Log:
                 low = change[:2]
                 yield *low, who, at
         left = [*said]
-        if left and not self.is_killed:
+        if left and self.killed is None:
             self.wrong.append(f"client {who} wasn't told of {left[:3]}")
 
 

@@ -14,8 +14,8 @@ Two peers more send streams one after the other. Beside all that, over all round
 nothing, and a peer with half a message, which send the rest at the end.
 
 Behind each round every reply is compared with the order of all changes over the openings, which bench/order.py finds in the server's log,
-and all that is kept with what these changes leave. Then the server's memory and descriptors are looked at. Behind the last round it is killed, and what the next
-one has is compared too.
+and all that is kept with what these changes leave. Then the server's memory and descriptors are looked at. Behind the last round it is
+killed, and what the next one has is compared too.
 """
 import multiprocessing
 import os
@@ -25,8 +25,8 @@ import subprocess
 import time
 
 from hostile_parts.program import Result, formatted, new_folder
-from order import (AT_ONCE, DELETE, INSERT, RULES, Client, Log, Order, Peer, Told, World, connected, marked, marking, message_of, record, records,
-                   tell_sums)
+from order import (AT_ONCE, DELETE, INSERT, RULES, Client, Log, Order, Peer, Told, World, connected, marked, marking, message_of, record,
+                   records, tell_sums)
 
 SIZE, WORKERS, ROUND, PATIENCE = 1 << 18, 64, 20, 60
 # Ticks a second, and for how many of them a state is tracked.
