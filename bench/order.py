@@ -340,7 +340,7 @@ class Log:
     `wrong` says what isn't so of the numbers, or of what clients were told. What else a server said goes to standard error."""
 
     def __init__(self, text, world, least=0, killed=None):
-        """Each opening that ended has at least so many changes. No number is missing, but for the opening in which the server was killed."""
+        """Each opening that ended has at least so many changes. No number is missing, unless the server was killed in that opening."""
         self.first = self.opening = world.opening
         self.killed, self.changes, self.wrong = killed, {}, []
         numbers = {world.opening: [*range(1, world.length + 1)]}
