@@ -41,7 +41,7 @@ CHANGES = {"tadd", "tdel", "tset", "tkill", "commit", "main", "track", "kill", "
 
 
 class Told(NamedTuple):
-    """A line or a message, its reply, and when the one was sent and the other read, by the clock that all processes share."""
+    """A line, or how the log names a message, its reply, and when the one was sent and the other read, by the clock of all processes."""
 
     kind: str
     line: str
