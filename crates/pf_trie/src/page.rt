@@ -31,7 +31,8 @@ impl Model for Page {
 }
 
 impl Page {
-    /// Its rows for one owner: themselves where nobody else holds them, or else a copy with room for one more. `AllocError`: nothing is left.
+    /// Its rows for one owner: themselves where nobody else holds them, or else a copy with room for one more. `AllocError`: nothing is left
+    /// of the page.
     pub(crate) fn own_rows(self, alloc: Global) -> Result<RowList, AllocError>
         ensures { IfOk result (λ rows. rows ≡ self) }
     {
