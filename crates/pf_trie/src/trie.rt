@@ -1,5 +1,4 @@
 //! Tries.
-use crate::draft::Draft;
 use crate::found::Found;
 use crate::index::PrefixIndex;
 use crate::lower::LowerLevels;
@@ -30,12 +29,6 @@ impl PrefixIndex for Trie {
         Trie {
             signs: PrefixIndex::empty(),
         }
-    }
-
-    fn of(alloc: Global, draft: Draft) -> Result<Trie, AllocError> {
-        Ok(Trie {
-            signs: PrefixIndex::of(alloc, draft)?,
-        })
     }
 
     fn shared(&self) -> Result<Trie, AllocError> {
