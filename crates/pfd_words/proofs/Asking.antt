@@ -7,7 +7,8 @@ use Rattle.clap.specs.declared.error.kind.ErrorKind.{ErrorKind, TheVariants.OutO
 use Rattle.pfd_words.specs.declared.words.{Task.Task, Task.TheVariants.{Run, RunOn, Format, Show, Serve, Connect, Conf, Explain, Load, Status}, Limits.Limits, TheConstants.{MEMORY_SIZE, HISTORY_LIMIT, MOST_HISTORY}}
 use Rattle.pfd_words.specs.declared.conf.{Question.Question, Question.TheVariants.{Meaning, Outcomes, Coverage, Matches}}
 use Rattle.pfd_words.specs.{Conf.{AsksQuestion}, Options.{IsFlag}}
-use Rattle.pfd_words.specs.Words.{IsAsked, IsPlainRun, IsRefused, IsRefusedMode, MaySayNumber, SaysLimitsBy, SaysNumber, SaysRenewal, plain_run, program_words}
+use Rattle.pfd_words.specs.{Parameters.{with_rules, with_subcommands}, Subcommands.program_words}
+use Rattle.pfd_words.specs.Words.{IsAsked, IsPlainRun, IsRefused, IsRefusedMode, MaySayNumber, SaysLimitsBy, SaysNumber, SaysRenewal, plain_run}
 
 -- ---- `pfd run`
 
@@ -15,15 +16,15 @@ abbrev run_alone : Text → List Text
 run_alone name = name ∷ codes "run" ∷ []
 
 pub taken : (name : Text) → takes program_words (run_alone name) ≡ true
-unfolding clap_on_literals
+unfolding clap_on_literals with_rules with_subcommands
 taken name = refl
 
 pub simple : is_simple program_words ≡ true
-unfolding clap_on_literals
+unfolding clap_on_literals with_rules with_subcommands
 simple = refl
 
 pub met : (name : Text) → subcommand_of program_words (run_alone name) ≡ Some (codes "run", [])
-unfolding clap_on_literals
+unfolding clap_on_literals with_rules with_subcommands
 met name = refl
 
 -- a word with another first byte is another word; 114 is the r of `run`

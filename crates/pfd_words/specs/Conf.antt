@@ -1,58 +1,9 @@
--- The subcommands that ask something of a pf.conf, as clap reads them, and what they ask.
+-- What the subcommands of a pf.conf ask.
 use Rattle.std.specs.Prelude.{◌≡◌, ◌⊎◌, true, false, List, [], ◌∷◌, Option, Some, None, IsSome, codes, map, option_and_then, option_map, unwrap_or}
-use Rattle.clap.specs.Words.{App, Row, Rule, Text, all_of, new_app, new_rule, with_rule}
-use Rattle.clap.specs.declared.builder.action.ArgAction.TheVariants.{SetTrue, Append}
+use Rattle.clap.specs.Words.{Row, Text, all_of}
 use Rattle.clap.specs.declared.error.kind.ErrorKind.{ErrorKind, TheVariants.{ArgumentConflict, OutOfMemory}}
 use Rattle.pfd_words.specs.declared.conf.{ConfTask.ConfTask, ServerTask.ServerTask, Question.Question, Question.TheVariants.{Meaning, Outcomes, Coverage, Matches}}
 use Rattle.pfd_words.specs.Options.{text_in, SaysText, MaySayText, SaysTexts, SaysFlag}
-
--- ---- the subcommands and their options
-
-abbrev pub file_rule : Rule
-file_rule = record (new_rule (codes "file")) { value_names = 1; required = true }
-
--- an option without a value
-abbrev pub flag_rule : Text → Rule
-flag_rule name = record (new_rule name) { long = Some name; action = Some SetTrue }
-
-abbrev pub lenient_rule : Rule
-lenient_rule = flag_rule (codes "lenient")
-
--- an option with a text
-abbrev pub text_rule : Text → Rule
-text_rule name = record (new_rule name) { long = Some name; value_names = 1 }
-
--- one word or more
-abbrev pub several_rule : Text → Rule
-several_rule name = record (new_rule name) { value_names = 1; required = true; action = Some Append }
-
-abbrev pub cases_rule : Rule
-cases_rule = several_rule (codes "cases")
-
-abbrev pub interface_rule : Rule
-interface_rule = record (text_rule (codes "interface")) { action = Some Append }
-
--- a subcommand for a pf.conf, one where interfaces may have addresses, and one for its cases
-abbrev pub file_words : Text → App
-file_words name = with_rule (with_rule (new_app name) file_rule) lenient_rule
-
-abbrev pub conf_words : Text → App
-conf_words name = with_rule (file_words name) interface_rule
-
-abbrev pub case_words : Text → App
-case_words name = with_rule (conf_words name) cases_rule
-
-abbrev pub check_words : App
-check_words = with_rule (conf_words (codes "check")) (text_rule (codes "anchor"))
-
-abbrev pub test_words : App
-test_words = with_rule (with_rule (case_words (codes "test")) (flag_rule (codes "tap"))) (text_rule (codes "junit"))
-
-abbrev pub cover_words : App
-cover_words = case_words (codes "cover")
-
-abbrev pub explain_words : App
-explain_words = with_rule (with_rule (conf_words (codes "explain")) (several_rule (codes "packet"))) (text_rule (codes "from"))
 
 -- ---- what they ask. `met` is the subcommand that clap found, with its options
 

@@ -1,3 +1,5 @@
+pub mod Parameters
+pub mod Subcommands
 pub mod Options
 pub mod Conf
 pub mod Words

@@ -4,12 +4,13 @@
 //! `pfd` uses it. The modules:
 //!
 //! - `options`: what the options of a subcommand say.
-//! - `conf`: the subcommands `check`, `test`, `cover` and `explain`, which ask something of a pf.conf or of a server, and what they ask.
-//! - `words`: the subcommands `run`, `format`, `show`, `serve`, `connect`, `load` and `status`, and [`read_words`], which reads a command line
-//!   into a [`Task`].
+//! - `parameter`: options and words as data, and clap's commands made of it.
+//! - `subcommands`: the subcommands with their options and words.
+//! - `conf`: what `check`, `test`, `cover` and `explain` ask of a pf.conf or of a server.
+//! - `words`: what the other subcommands ask for, and [`read_words`], which reads a command line into a [`Task`].
 //!
-//! Read `specs/Words.antt` first: it has the subcommands with their options, and `IsAsked`, what a command line asks for by clap's own
-//! rules; `specs/Conf.antt` has those of a pf.conf. Proved, by the contracts of [`read_words`]: the task is what the words ask for (`asked`);
+//! Read `specs/Subcommands.antt` first: it has the subcommands with their options. `IsAsked` of `specs/Words.antt` says what a command line
+//! asks for by clap's own rules, and `specs/Conf.antt` the same of a pf.conf. Proved, by the contracts of [`read_words`]: the task is what the words ask for (`asked`);
 //! the numbers of changes and of workers are within their bounds (`history`); the word `run` alone is refused only when out of memory (`run`),
 //! and asks for a session in memory with the default size and history (`alone`).
 //!
@@ -18,6 +19,8 @@
 
 mod conf;
 mod options;
+mod parameter;
+mod subcommands;
 mod words;
 
 pub use conf::{ConfTask, Question, ServerTask};

@@ -1,16 +1,16 @@
-//! The subcommands with their options, as clap's commands, and the task that a command line asks for.
-ghost use Rattle.std.specs.Prelude.{◌≡◌, ◌≤◌, IfErr, IfOk, List, MatchOption, ℕ, Some, [], codes, false, map, option_map, string_bytes, true, unwrap_or};
-ghost use Rattle.clap.specs.Words.{app_of, found_of, kind_of, one_of, first_of, rows_of, rule_of, subcommand_of, subcommand_rows_of, takes};
-ghost use Rattle.clap.specs.declared.builder.command.Command.TheViews.{out-Command};
-ghost use Rattle.pfd_words.specs.Words.{IsPlainRun, plain_run, HasHistory, IsAsked, IsHistory, IsMode, IsNoMode, IsRefused, IsRefusedMode, MaySayNumber, SaysLimits, SaysMode, SaysNumber, disk_rule, history_rule, size_rule, listen_rule, workers_rule, sessions_rule, idle_rule, mode_rule, peers_rule, ask_rule, renew_rule, renew_bytes_rule, run_words, format_words, show_words, place_words, server_words, bounded_words, renewed_words, limited_words, asking_words, peer_words, serve_words, connect_words, engine_words, to_rule, retry_rule, placed_words, load_words, status_words, AsksLoad, reading_words, program_words};
+//! The task that a command line asks for.
+ghost use Rattle.std.specs.Prelude.{◌≡◌, ◌≤◌, IfErr, IfOk, List, MatchOption, ℕ, Some, codes, map, string_bytes, true, unwrap_or};
+ghost use Rattle.clap.specs.Words.{found_of, kind_of, one_of, first_of, rows_of, subcommand_of, subcommand_rows_of, takes};
+ghost use Rattle.pfd_words.specs.{Subcommands.program_words, Words.{IsPlainRun, plain_run, HasHistory, IsAsked, IsHistory, IsMode, IsNoMode, IsRefused, IsRefusedMode, MaySayNumber, SaysLimits, SaysMode, SaysNumber, AsksLoad}};
 
 use crate::conf::{
-    ConfTask, ServerTask, check_words, conf_words, cover_words, coverage_in, explain_words,
-    matches_in, meaning_in, outcomes_in, server_matches_in, test_words,
+    ConfTask, ServerTask, coverage_in, matches_in, meaning_in, outcomes_in, server_matches_in,
 };
 use crate::options::{is_said, text_if_any, text_in, texts_in};
+use crate::parameter::command_of;
+use crate::subcommands::{SERVE, program_words};
 use clap::error::ErrorKind;
-use clap::{Arg, ArgAction, ArgMatches, Command, Error, value_parser};
+use clap::{ArgMatches, Error};
 use std::alloc::{AllocError, Global};
 
 /// How many bytes a session's memory disk has by default. Definitions cite it.
@@ -54,9 +54,6 @@ const MOST_MODE: u32 = 0o777;
 // The greatest number that `--retry` can say.
 const MOST_RETRIES: usize = 4_294_967_295;
 
-/// The program's version, which `pfd --version` writes after its name.
-const VERSION: &str = "0.1.0";
-
 /// After how many changes, or how many bytes of them, a history is renewed.
 #[derive(Clone, Copy, Debug, PartialEq, Eq)]
 pub struct Limits {
@@ -67,7 +64,7 @@ pub struct Limits {
 }
 
 /// What `serve` asks for: a server, with its addresses, its disk and its limits.
-#[derive(Debug, PartialEq, Eq, Drop)]
+#[derive(Drop)]
 pub struct Service<'a> {
     /// The addresses to listen on, one or more, as they were typed: they may not be any.
     pub addresses: Vec<&'a str>,
@@ -100,7 +97,7 @@ pub struct Service<'a> {
 }
 
 /// What `load` asks for: a pf.conf, and a server that it is loaded into.
-#[derive(Debug, PartialEq, Eq, Drop)]
+#[derive(Drop)]
 pub struct LoadTask<'a> {
     /// The path of the file; `-` is standard input.
     pub path: &'a str,
@@ -119,7 +116,7 @@ pub struct LoadTask<'a> {
 }
 
 /// What a command line asks for. A `history` is 1 to 1,048,576 changes; a `size` is in bytes, any number up to 4,294,967,295.
-#[derive(Debug, PartialEq, Eq, Drop)]
+#[derive(Drop)]
 pub enum Task<'a> {
     /// A session on a disk in memory of `size` bytes, whose history may have `history` changes.
     Run {
@@ -157,355 +154,6 @@ pub enum Task<'a> {
     Status {
         address: &'a str,
     },
-}
-
-fn disk<'a>(alloc: Global) -> Arg<'a>
-    ensures rule { rule_of result ≡ disk_rule }
-    ensures local { result.global ≡ false }
-{
-    Arg::new(alloc, "disk")
-        .long("disk")
-        .value_name("FILE")
-        .help("The file that is the disk")
-}
-
-fn size<'a>(alloc: Global) -> Arg<'a>
-    ensures rule { rule_of result ≡ size_rule }
-    ensures local { result.global ≡ false }
-{
-    Arg::new(alloc, "size")
-        .long("size")
-        .value_name("N")
-        .value_parser(value_parser!(u32))
-}
-
-fn history<'a>(alloc: Global) -> Arg<'a>
-    ensures rule { rule_of result ≡ history_rule }
-    ensures local { result.global ≡ false }
-{
-    Arg::new(alloc, "history")
-        .long("history")
-        .value_name("N")
-        .value_parser(value_parser!(u32).range(1..=1_048_576))
-        .help("How many changes the session may have [default: 65536]")
-}
-
-fn listen<'a>(alloc: Global) -> Arg<'a>
-    ensures rule { rule_of result ≡ listen_rule }
-    ensures local { result.global ≡ false }
-{
-    Arg::new(alloc, "listen")
-        .long("listen")
-        .value_name("ADDR")
-        .action(ArgAction::Append)
-        .help(
-            "The address and port to listen on, as 127.0.0.1:7070 or [::1]:7070, or the path of a Unix socket; may be said again",
-        )
-}
-
-fn peers<'a>(alloc: Global) -> Arg<'a>
-    ensures rule { rule_of result ≡ peers_rule }
-    ensures local { result.global ≡ false }
-{
-    Arg::new(alloc, "peers")
-        .long("peers")
-        .value_name("ADDR")
-        .action(ArgAction::Append)
-        .help(
-            "A further address, for peers' streams alone, which no other then takes; may be said again",
-        )
-}
-
-fn ask<'a>(alloc: Global) -> Arg<'a>
-    ensures rule { rule_of result ≡ ask_rule }
-    ensures local { result.global ≡ false }
-{
-    Arg::new(alloc, "ask")
-        .long("ask")
-        .value_name("ADDR")
-        .action(ArgAction::Append)
-        .help("A further address, at which clients may ask and change nothing; may be said again")
-}
-
-// The mode of sockets, by the option of this name.
-fn mode<'a>(alloc: Global, name: &'a str) -> Arg<'a>
-    ensures rule { rule_of result ≡ mode_rule name.entry.now }
-    ensures local { result.global ≡ false }
-{
-    Arg::new(alloc, name).long(name).value_name("MODE")
-}
-
-fn workers<'a>(alloc: Global) -> Arg<'a>
-    ensures rule { rule_of result ≡ workers_rule }
-    ensures local { result.global ≡ false }
-{
-    Arg::new(alloc, "workers")
-        .long("workers")
-        .value_name("N")
-        .value_parser(value_parser!(u32).range(1..=64))
-        .help("How many connections are served at once [default: 4]")
-}
-
-fn sessions<'a>(alloc: Global) -> Arg<'a>
-    ensures rule { rule_of result ≡ sessions_rule }
-    ensures local { result.global ≡ false }
-{
-    Arg::new(alloc, "sessions")
-        .long("sessions")
-        .value_name("N")
-        .value_parser(value_parser!(u32))
-        .help("Ends once so many connections have ended; 0 never [default: 0]")
-}
-
-fn idle<'a>(alloc: Global) -> Arg<'a>
-    ensures rule { rule_of result ≡ idle_rule }
-    ensures local { result.global ≡ false }
-{
-    Arg::new(alloc, "idle")
-        .long("idle")
-        .value_name("SECONDS")
-        .value_parser(value_parser!(u32))
-        .help("Closes a connection on which nothing came for so long; 0 never [default: 0]")
-}
-
-fn renew<'a>(alloc: Global) -> Arg<'a>
-    ensures rule { rule_of result ≡ renew_rule }
-    ensures local { result.global ≡ false }
-{
-    Arg::new(alloc, "renew")
-        .long("renew")
-        .value_name("N")
-        .value_parser(value_parser!(u32).range(1..=524_288))
-        .help("Renews the history after so many changes, if --history isn't said [default: 65536]")
-}
-
-fn renew_bytes<'a>(alloc: Global) -> Arg<'a>
-    ensures rule { rule_of result ≡ renew_bytes_rule }
-    ensures local { result.global ≡ false }
-{
-    Arg::new(alloc, "renew-bytes")
-        .long("renew-bytes")
-        .value_name("N")
-        .value_parser(value_parser!(u32).range(1..=4_294_967_295))
-        .help("The same after so many bytes of changes [default: 268435456]")
-}
-
-fn run_words<'a>(alloc: Global) -> Result<Command<'a>, AllocError>
-    ensures app { IfOk result (λ c. app_of c ≡ run_words) }
-    ensures local { IfOk result (λ c. (out-Command c).has_globals ≡ false) }
-{
-    let disk = disk(alloc).help("The file that is its disk; without one it lies in memory");
-    let size = size(alloc).help("How many bytes the disk has [default in memory: 1048576]");
-    Command::new(alloc, "run")
-        .about("Answers the lines of standard input on standard output")
-        .arg(disk)?
-        .arg(size)?
-        .arg(history(alloc))
-}
-
-fn format_words<'a>(alloc: Global) -> Result<Command<'a>, AllocError>
-    ensures app { IfOk result (λ c. app_of c ≡ format_words) }
-    ensures local { IfOk result (λ c. (out-Command c).has_globals ≡ false) }
-{
-    let size = size(alloc).required(true).help(
-        "How many bytes it has: an even number from 256 to 1073741824",
-    );
-    Command::new(alloc, "format")
-        .about("Makes a file a disk that holds nothing")
-        .arg(disk(alloc).required(true))?
-        .arg(size)
-}
-
-fn show_words<'a>(alloc: Global) -> Result<Command<'a>, AllocError>
-    ensures app { IfOk result (λ c. app_of c ≡ show_words) }
-    ensures local { IfOk result (λ c. (out-Command c).has_globals ≡ false) }
-{
-    Command::new(alloc, "show")
-        .about("Shows what a disk holds")
-        .arg(disk(alloc).required(true))
-}
-
-// The options of `serve`, added two at a time.
-
-fn place_words<'a>(alloc: Global) -> Result<Command<'a>, AllocError>
-    ensures app { IfOk result (λ c. app_of c ≡ place_words) }
-    ensures local { IfOk result (λ c. (out-Command c).has_globals ≡ false) }
-{
-    Command::new(alloc, "serve")
-        .about("Answers the lines of connections over the disk on a file")
-        .arg(listen(alloc).required(true))?
-        .arg(disk(alloc).required(true))
-}
-
-fn server_words<'a>(alloc: Global) -> Result<Command<'a>, AllocError>
-    ensures app { IfOk result (λ c. app_of c ≡ server_words) }
-    ensures local { IfOk result (λ c. (out-Command c).has_globals ≡ false) }
-{
-    let size = size(alloc)
-        .required(true)
-        .help("How many bytes the file has");
-    place_words(alloc)?.arg(size)?.arg(workers(alloc))
-}
-
-fn bounded_words<'a>(alloc: Global) -> Result<Command<'a>, AllocError>
-    ensures app { IfOk result (λ c. app_of c ≡ bounded_words) }
-    ensures local { IfOk result (λ c. (out-Command c).has_globals ≡ false) }
-{
-    let history = history(alloc).help(
-        "How many changes the process may make [default: it renews its history]",
-    );
-    server_words(alloc)?.arg(history)?.arg(sessions(alloc))
-}
-
-fn renewed_words<'a>(alloc: Global) -> Result<Command<'a>, AllocError>
-    ensures app { IfOk result (λ c. app_of c ≡ renewed_words) }
-    ensures local { IfOk result (λ c. (out-Command c).has_globals ≡ false) }
-{
-    bounded_words(alloc)?
-        .arg(renew(alloc))?
-        .arg(renew_bytes(alloc))
-}
-
-fn limited_words<'a>(alloc: Global) -> Result<Command<'a>, AllocError>
-    ensures app { IfOk result (λ c. app_of c ≡ limited_words) }
-    ensures local { IfOk result (λ c. (out-Command c).has_globals ≡ false) }
-{
-    let mode = mode(alloc, "mode").help(
-        "The mode of the files of --listen's Unix sockets, in octal [default: 0600]",
-    );
-    renewed_words(alloc)?.arg(idle(alloc))?.arg(mode)
-}
-
-fn asking_words<'a>(alloc: Global) -> Result<Command<'a>, AllocError>
-    ensures app { IfOk result (λ c. app_of c ≡ asking_words) }
-    ensures local { IfOk result (λ c. (out-Command c).has_globals ≡ false) }
-{
-    let mode = mode(alloc, "ask-mode").help("The same of --ask's");
-    limited_words(alloc)?.arg(ask(alloc))?.arg(mode)
-}
-
-fn peer_words<'a>(alloc: Global) -> Result<Command<'a>, AllocError>
-    ensures app { IfOk result (λ c. app_of c ≡ peer_words) }
-    ensures local { IfOk result (λ c. (out-Command c).has_globals ≡ false) }
-{
-    let mode = mode(alloc, "peers-mode").help("The same of --peers'");
-    asking_words(alloc)?.arg(peers(alloc))?.arg(mode)
-}
-
-fn serve_words<'a>(alloc: Global) -> Result<Command<'a>, AllocError>
-    ensures app { IfOk result (λ c. app_of c ≡ serve_words) }
-    ensures local { IfOk result (λ c. (out-Command c).has_globals ≡ false) }
-{
-    let log = Arg::new(alloc, "log")
-        .long("log")
-        .action(ArgAction::SetTrue)
-        .help("Writes a line on standard error for each change, and for each opening");
-    peer_words(alloc)?.arg(log)
-}
-
-fn connect_words<'a>(alloc: Global) -> Result<Command<'a>, AllocError>
-    ensures app { IfOk result (λ c. app_of c ≡ connect_words) }
-    ensures local { IfOk result (λ c. (out-Command c).has_globals ≡ false) }
-{
-    let address = Arg::new(alloc, "address")
-        .value_name("ADDR")
-        .required(true)
-        .help("The server's address, as serve prints it");
-    Command::new(alloc, "connect")
-        .about("Sends standard input to a server, and its replies to standard output")
-        .arg(address)
-}
-
-fn to<'a>(alloc: Global) -> Arg<'a>
-    ensures rule { rule_of result ≡ to_rule }
-    ensures local { result.global ≡ false }
-{
-    Arg::new(alloc, "to").long("to").value_name("ADDR").help(
-        "The server's address and port, or the path of its socket [default: /var/run/pfd/pfd.sock]",
-    )
-}
-
-fn retry<'a>(alloc: Global) -> Arg<'a>
-    ensures rule { rule_of result ≡ retry_rule }
-    ensures local { result.global ≡ false }
-{
-    Arg::new(alloc, "retry")
-        .long("retry")
-        .value_name("N")
-        .value_parser(value_parser!(u32))
-        .help("Begins anew so many times if somebody else began meanwhile [default: 0]")
-}
-
-// The options of `load`, added two at a time.
-
-fn placed_words<'a>(alloc: Global) -> Result<Command<'a>, AllocError>
-    ensures app { IfOk result (λ c. app_of c ≡ placed_words) }
-    ensures local { IfOk result (λ c. (out-Command c).has_globals ≡ false) }
-{
-    let anchor = Arg::new(alloc, "anchor")
-        .long("anchor")
-        .value_name("PATH")
-        .help("Loads it as the rules of the anchor at this path");
-    conf_words(alloc, "load")?.arg(to(alloc))?.arg(anchor)
-}
-
-fn load_words<'a>(alloc: Global) -> Result<Command<'a>, AllocError>
-    ensures app { IfOk result (λ c. app_of c ≡ load_words) }
-    ensures local { IfOk result (λ c. (out-Command c).has_globals ≡ false) }
-{
-    let dry_run = Arg::new(alloc, "dry-run")
-        .long("dry-run")
-        .action(ArgAction::SetTrue)
-        .help("Shows what would change, and changes nothing");
-    let words = placed_words(alloc)?;
-    words
-        .about("Loads a pf.conf into a server: all of it in one commit, or nothing")
-        .arg(dry_run)?
-        .arg(retry(alloc))
-}
-
-fn status_words<'a>(alloc: Global) -> Result<Command<'a>, AllocError>
-    ensures app { IfOk result (λ c. app_of c ≡ status_words) }
-    ensures local { IfOk result (λ c. (out-Command c).has_globals ≡ false) }
-{
-    let address = Arg::new(alloc, "address").value_name("ADDR").help(
-        "The server's address and port, or the path of its socket [default: /var/run/pfd/pfd.sock]",
-    );
-    Command::new(alloc, "status")
-        .about("Shows how far a server is, and how much it keeps")
-        .arg(address)
-}
-
-fn engine_words<'a>(alloc: Global) -> Result<Command<'a>, AllocError>
-    ensures { IfOk result (λ c. app_of c ≡ engine_words) }
-{
-    Command::new(alloc, "pfd")
-        .about("A control plane for rulesets of pf")
-        .version(VERSION)
-        .subcommand_required(true)
-        .subcommand(run_words(alloc)?)?
-        .subcommand(format_words(alloc)?)?
-        .subcommand(show_words(alloc)?)?
-        .subcommand(serve_words(alloc)?)?
-        .subcommand(connect_words(alloc)?)
-}
-
-fn reading_words<'a>(alloc: Global) -> Result<Command<'a>, AllocError>
-    ensures { IfOk result (λ c. app_of c ≡ reading_words) }
-{
-    engine_words(alloc)?
-        .subcommand(check_words(alloc)?)?
-        .subcommand(test_words(alloc)?)?
-        .subcommand(cover_words(alloc)?)?
-        .subcommand(explain_words(alloc)?)
-}
-
-fn program_words<'a>(alloc: Global) -> Result<Command<'a>, AllocError>
-    ensures { IfOk result (λ c. app_of c ≡ program_words) }
-{
-    reading_words(alloc)?
-        .subcommand(load_words(alloc)?)?
-        .subcommand(status_words(alloc)?)
 }
 
 /// Reads a command line, which begins with the program's own name. The error has the text for the user: help, the version, what is wrong
@@ -699,7 +347,7 @@ fn wrong_mode(alloc: Global, option: &str, text: &str) -> Result<Error, AllocErr
     let message = format!(in alloc;
         "invalid value '{text}' for '--{option} <MODE>': a mode is 0 to 0777, in octal digits"
     )?;
-    let mut command = serve_words(alloc)?.bin_name("pfd serve")?;
+    let mut command = command_of(alloc, &SERVE)?.bin_name("pfd serve")?;
     command.error(ErrorKind::ValueValidation, message.as_str())
 }
 
