@@ -190,9 +190,9 @@ def options_of(path):
 
 @functools.cache
 def options_of_pfd():
-    # (the options that say modes have one function)
-    sources = "".join(text_of(it) for it in sorted(glob.glob(f"{TOP}/crates/pfd_words/src/*.rt")))
-    return {f"--{it}" for it in re.findall(r'(?:\.long\(|\bmode\(alloc, )"([\w-]+)"\)', sources)} | {"--help", "--version"}
+    parameters = re.findall(r"\w: Parameter = Parameter \{\n(.*?)\n\}", text_of(f"{TOP}/crates/pfd_words/src/subcommands.rt"), re.S)
+    named = {name for it in parameters if "is_option: false" not in it for name in re.findall(r'name: "([\w-]+)"', it)}
+    return {f"--{it}" for it in named} | {"--help", "--version"}
 
 
 @functools.cache
