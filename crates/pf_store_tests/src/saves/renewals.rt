@@ -8,7 +8,8 @@ use crate::books::{
     Asked, HISTORY_LIMIT, Outcome, Told, ask, ask_opened, asked_in_turn, told_in_turn,
 };
 use crate::rows::{cut_word, number};
-use pf_book::{Book, Chapter, Disk, FuseDisk, MemDisk, OpenFault, Opening};
+use pf_book::book::Book;
+use pf_book::{Chapter, Disk, FuseDisk, MemDisk, OpenFault, Opening, Publisher, Shower};
 use pf_disk::Fill;
 use std::alloc::{AllocError, Global};
 use std::marker::Brand;
@@ -64,7 +65,7 @@ fn renew_opened<D: Disk + Drop, J: Chapter, H: Wait + Drop + Copy>(
 ) -> Result<Renewal<D>, AllocError>
     requires { IsNamed J.base J.history J.setting opening HISTORY_LIMIT }
 {
-    match Book::<D, J, H>::of(waits, alloc, opening, HISTORY_LIMIT, 1) {
+    match Book::<D, J, Shower<J, H>>::of(waits, alloc, opening, HISTORY_LIMIT, 1) {
         Ok((mut book, _seers)) => {
             let replies = told_in_turn(alloc, &mut book, lines)?;
             let again = open_again(waits, alloc, book, questions)?;
@@ -75,10 +76,10 @@ fn renew_opened<D: Disk + Drop, J: Chapter, H: Wait + Drop + Copy>(
 }
 
 // Opens a Book's device again, and asks these questions.
-fn open_again<D: Disk + Drop, J: Chapter, H: Wait + Drop + Copy>(
+fn open_again<D: Disk + Drop, J: Chapter, S: Publisher<J> + Drop, H: Wait + Drop + Copy>(
     waits: H,
     alloc: Global,
-    book: Book<D, J, H>,
+    book: Book<D, J, S>,
     questions: Vec<Asked>,
 ) -> Result<Outcome<D>, AllocError> {
     if MOST_FAULTS <= book.disk().faults() {
@@ -160,7 +161,7 @@ impl<H: Wait + Drop + Copy> Bench<H> {
             let disk = FuseDisk::once(FuseDisk::once(self.device()?, first), calls);
             if let Some(Renewal { replies, again }) = self.renewed(disk, how)? {
                 let again = match again {
-                    Ok(_) => return Ok(()),
+                    Ok(_told) => return Ok(()),
                     Err((fault, disk)) => Err((fault, disk.into_inner())),
                 };
                 let text = self.text_of(Renewal { replies, again }, how)?;
@@ -191,22 +192,21 @@ impl<H: Wait + Drop + Copy> Bench<H> {
         let mut text = replies;
         text.push_str("; again ")?;
         tell_outcome(&mut text, &again)?;
-        if let Err((_fault, disk)) = again {
-            let below = disk.into_inner();
-            text.push_str("; then ")?;
-            self.tell_answers(
-                &mut text,
-                below.image(self.alloc, u64::MAX, Fill::Old)?,
-                how,
-            )?;
-            text.push_str("; or ")?;
-            self.tell_answers(
-                &mut text,
-                below.image(self.alloc, u64::MAX, Fill::New)?,
-                how,
-            )?;
+        match again {
+            Ok(_told) => Ok(text),
+            Err((_fault, disk)) => {
+                self.tell_left(&mut text, &disk.into_inner(), how)?;
+                Ok(text)
+            }
         }
-        Ok(text)
+    }
+
+    // Writes what is opened of the bytes of a device's last sync, and of all written bytes.
+    fn tell_left(&self, told: &mut String, below: &MemDisk, how: &str) -> Result<(), AllocError> {
+        told.push_str("; then ")?;
+        self.tell_answers(told, below.image(self.alloc, u64::MAX, Fill::Old)?, how)?;
+        told.push_str("; or ")?;
+        self.tell_answers(told, below.image(self.alloc, u64::MAX, Fill::New)?, how)
     }
 
     // Writes what a device with these bytes is opened as, and what is told to the questions then.
