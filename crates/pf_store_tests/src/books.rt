@@ -151,8 +151,8 @@ pub fn ask<D: Disk + Drop, H: Wait + Drop>(
     }
 }
 
-// The same of an opening.
-fn ask_opened<D: Disk + Drop, J: Chapter, H: Wait + Drop>(
+/// The same of an opening.
+pub fn ask_opened<D: Disk + Drop, J: Chapter, H: Wait + Drop>(
     waits: H,
     alloc: Global,
     opening: Opening<D>,

@@ -8,8 +8,8 @@
 //! - `files`: a thousand calls on a file beside the same calls in memory, and files that aren't taken as a device: one has another length,
 //!   one can't be synced. It also reads the images of older versions, on which `saves` plays rows.
 //! - `saves`: the rows of `stdin`, whose head says how they are written, on devices in memory: openings, saves, crashes and faults.
-//!   Behind them, in its `stops`, devices that tear a call and openings that are stopped, and in its `chances` lines, streams and images at
-//!   random.
+//!   Behind them, in its `stops`, devices that tear a call and openings that are stopped, in its `renewals` Books that open their devices
+//!   again, and in its `chances` lines, streams and images at random.
 //! - `books`: what is asked of a `Book` of `pf_book`, what it replies, and what is read of its device; `saves` uses it.
 //! - `streams`: peers' streams, at random and in pieces; `saves` uses it.
 //! - `words`: lines and messages at random, of words that rows give.

@@ -5,6 +5,7 @@ ghost use Rattle.pf_book.specs.Books.{IsNamed};
 ghost use Rattle.pf_store_tests.specs.declared.books.TheConstants.{HISTORY_LIMIT};
 
 mod chances;
+mod renewals;
 mod stops;
 
 use crate::books::{
@@ -30,7 +31,8 @@ const QUESTIONS: &str =
 
 /// The rows that may come anywhere, and need nothing that is open.
 const OF_DEVICES: &[&str] = &[
-    "bytes", "with", "openings", "faults", "failing", "pairs", "torn", "streams", "cuts", "images",
+    "bytes", "with", "openings", "faults", "failing", "again", "twice", "pairs", "torn", "streams",
+    "cuts", "images",
 ];
 
 /// The calls of an opening and of two saves, or of one save that begins the other bank, and one more.
@@ -203,6 +205,8 @@ impl<H: Wait + Drop + Copy> Bench<H> {
             "openings" => self.open_often(told, number(rest)),
             "faults" => self.tell_faults(told, rest),
             "failing" => self.tell_failing(told, rest),
+            "again" => self.tell_again(told, rest),
+            "twice" => self.tell_again_twice(told, rest),
             "pairs" => self.tell_pairs(told, rest),
             "torn" => self.tell_torn(told, rest),
             "word" => self.add_word(told, rest),

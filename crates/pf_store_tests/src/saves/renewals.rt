@@ -1,0 +1,221 @@
+// Books whose devices are opened again, also behind a call that failed.
+ghost use Rattle.std.specs.Prelude.{◌≡◌, ◌<◌, ◌^◌, IfOk};
+ghost use Rattle.pf_book.specs.Books.{IsNamed};
+ghost use Rattle.pf_store_tests.specs.declared.books.TheConstants.{HISTORY_LIMIT};
+
+use super::{Bench, fill};
+use crate::books::{
+    Asked, HISTORY_LIMIT, Outcome, Told, ask, ask_opened, asked_in_turn, told_in_turn,
+};
+use crate::rows::{cut_word, number};
+use pf_book::book::Book;
+use pf_book::{Chapter, Disk, FuseDisk, MemDisk, OpenFault, Opening, Publisher, Shower};
+use pf_disk::Fill;
+use std::alloc::{AllocError, Global};
+use std::marker::Brand;
+use std::sync::Wait;
+
+/// What is written between the lines and the questions behind the opening that follows them.
+const AGAIN: &str = " = ";
+
+/// No row makes so many calls of a device.
+const MOST_CALLS: u64 = 64;
+
+/// How many fills are known without any bytes.
+const PLAIN_FILLS: u32 = 5;
+
+/// An opening takes a device of fewer faults.
+const MOST_FAULTS: u64 = 1 << 63;
+
+/// What came of a Book whose device was opened again.
+#[derive(Drop)]
+struct Renewal<D: Disk + Drop> {
+    /// What was told to the lines.
+    replies: String,
+    /// What came of the second opening, and what was told to the questions then.
+    again: Outcome<D>,
+}
+
+/// Opens a device, asks these lines of a Book of the opening, opens its device again, and asks these questions. `None` if it isn't opened
+/// at first.
+fn renew<D: Disk + Drop, H: Wait + Drop + Copy>(
+    waits: H,
+    alloc: Global,
+    disk: D,
+    lines: Vec<Asked>,
+    questions: Vec<Asked>,
+) -> Result<Option<Renewal<D>>, AllocError>
+    requires { D.fault_count disk < 2 ^ 63 }
+{
+    match Opening::open(alloc, disk) {
+        Ok(opening) => Ok(Some(renew_opened::<_, Brand, _>(
+            waits, alloc, opening, lines, questions,
+        )?)),
+        Err(_) => Ok(None),
+    }
+}
+
+// The same of an opening.
+fn renew_opened<D: Disk + Drop, J: Chapter, H: Wait + Drop + Copy>(
+    waits: H,
+    alloc: Global,
+    opening: Opening<D>,
+    lines: Vec<Asked>,
+    questions: Vec<Asked>,
+) -> Result<Renewal<D>, AllocError>
+    requires { IsNamed J.base J.history J.setting opening HISTORY_LIMIT }
+{
+    match Book::<D, J, Shower<J, H>>::of(waits, alloc, opening, HISTORY_LIMIT, 1) {
+        Ok((mut book, _seers)) => {
+            let replies = told_in_turn(alloc, &mut book, lines)?;
+            let again = open_again(waits, alloc, book, questions)?;
+            Ok(Renewal { replies, again })
+        }
+        Err(_) => Err(AllocError),
+    }
+}
+
+// Opens a Book's device again, and asks these questions.
+fn open_again<D: Disk + Drop, J: Chapter, S: Publisher<J> + Drop, H: Wait + Drop + Copy>(
+    waits: H,
+    alloc: Global,
+    book: Book<D, J, S>,
+    questions: Vec<Asked>,
+) -> Result<Outcome<D>, AllocError> {
+    if MOST_FAULTS <= book.disk().faults() {
+        return Ok(Err((OpenFault::Fault, book.into_disk())));
+    }
+    let (opened, _closed) = book.open_again(alloc);
+    match opened {
+        Ok(opening) => Ok(Ok(ask_opened::<_, Brand, _>(waits, alloc, opening, questions)?)),
+        Err(fault) => Ok(Err(fault)),
+    }
+}
+
+// Writes an opening's epoch and what was told over it, or why it isn't opened.
+fn tell_outcome<D: Disk + Drop>(told: &mut String, outcome: &Outcome<D>) -> Result<(), AllocError> {
+    match outcome {
+        Ok(Told { epoch, text, .. }) => write!(told, "epoch {epoch}: {text}"),
+        Err((fault, _disk)) => write!(told, "{fault:?}"),
+    }
+}
+
+impl<H: Wait + Drop + Copy> Bench<H> {
+    /// Plays an opening, some lines, and another opening by the Book, on devices that fail each call behind the first opening in turn.
+    pub(super) fn tell_again(&self, told: &mut String, how: &str) -> Result<(), AllocError> {
+        for calls in 0..MOST_CALLS {
+            let disk = FuseDisk::after(self.device()?, calls);
+            if let Some(renewal) = self.renewed(disk, how)? {
+                if self.tell_calls(told, calls, renewal, how)? {
+                    return Ok(());
+                }
+            }
+        }
+        Ok(())
+    }
+
+    // What comes of it where all calls behind so many fail, and where one does. Returns whether no call was left to fail.
+    fn tell_calls(
+        &self,
+        told: &mut String,
+        calls: u64,
+        renewal: Renewal<FuseDisk<MemDisk>>,
+        how: &str,
+    ) -> Result<bool, AllocError> {
+        let is_whole = match &renewal.again {
+            Ok(over) => over.disk.faults() == 0,
+            Err(_) => false,
+        };
+        let text = self.text_of(renewal, how)?;
+        if is_whole {
+            write!(told, "\n  no call fails: {text}")?;
+            return Ok(true);
+        }
+        write!(told, "\n  all behind {calls} calls fail: {text}")?;
+        self.tell_torn_again(told, calls, how)?;
+        Ok(false)
+    }
+
+    // A torn call stands for several fills: what each of them comes to is told once.
+    fn tell_torn_again(&self, told: &mut String, calls: u64, how: &str) -> Result<(), AllocError> {
+        let mut texts = Vec::new(self.alloc);
+        for number in 0..PLAIN_FILLS {
+            let disk = FuseDisk::torn(self.alloc, self.device()?, calls, fill(number, &[]));
+            let text = match self.renewed(disk, how)? {
+                Some(renewal) => self.text_of(renewal, how)?,
+                None => String::new(self.alloc),
+            };
+            if !texts.iter().any(|other| *other == text) {
+                write!(told, "\n  one behind {calls} calls fails: {text}")?;
+                texts.push(text)?;
+            }
+        }
+        Ok(())
+    }
+
+    /// Plays the same on devices that fail a call behind so many, and then another one, each in turn.
+    pub(super) fn tell_again_twice(&self, told: &mut String, how: &str) -> Result<(), AllocError> {
+        let (first, how) = cut_word(how);
+        let first = number(first) as u64;
+        for calls in first.saturating_add(1)..MOST_CALLS {
+            let disk = FuseDisk::once(FuseDisk::once(self.device()?, first), calls);
+            if let Some(Renewal { replies, again }) = self.renewed(disk, how)? {
+                let again = match again {
+                    Ok(_told) => return Ok(()),
+                    Err((fault, disk)) => Err((fault, disk.into_inner())),
+                };
+                let text = self.text_of(Renewal { replies, again }, how)?;
+                write!(told, "\n  and one behind {calls}: {text}")?;
+            }
+        }
+        Ok(())
+    }
+
+    fn renewed<D: Disk + Drop>(&self, disk: D, how: &str) -> Result<Option<Renewal<D>>, AllocError>
+        requires { D.fault_count disk < 2 ^ 63 }
+    {
+        let (lines, questions) = how.split_once(AGAIN).unwrap_or((how, ""));
+        let (lines, questions) = (
+            asked_in_turn(self.alloc, lines)?,
+            asked_in_turn(self.alloc, questions)?,
+        );
+        renew(self.waits, self.alloc, disk, lines, questions)
+    }
+
+    // What came of it. If the device wasn't opened again, also what is opened of the bytes of its last sync, and of all written bytes.
+    fn text_of(
+        &self,
+        renewal: Renewal<FuseDisk<MemDisk>>,
+        how: &str,
+    ) -> Result<String, AllocError> {
+        let Renewal { replies, again } = renewal;
+        let mut text = replies;
+        text.push_str("; again ")?;
+        tell_outcome(&mut text, &again)?;
+        match again {
+            Ok(_told) => Ok(text),
+            Err((_fault, disk)) => {
+                self.tell_left(&mut text, &disk.into_inner(), how)?;
+                Ok(text)
+            }
+        }
+    }
+
+    // Writes what is opened of the bytes of a device's last sync, and of all written bytes.
+    fn tell_left(&self, told: &mut String, below: &MemDisk, how: &str) -> Result<(), AllocError> {
+        told.push_str("; then ")?;
+        self.tell_answers(told, below.image(self.alloc, u64::MAX, Fill::Old)?, how)?;
+        told.push_str("; or ")?;
+        self.tell_answers(told, below.image(self.alloc, u64::MAX, Fill::New)?, how)
+    }
+
+    // Writes what a device with these bytes is opened as, and what is told to the questions then.
+    fn tell_answers(&self, told: &mut String, bytes: Vec<u8>, how: &str) -> Result<(), AllocError> {
+        let (_lines, questions) = how.split_once(AGAIN).unwrap_or((how, ""));
+        let (disk, asked) = (
+            MemDisk::of(self.alloc, bytes)?,
+            asked_in_turn(self.alloc, questions)?,
+        );
+        tell_outcome(told, &ask(self.waits, self.alloc, disk, asked)?)
+    }
+}
