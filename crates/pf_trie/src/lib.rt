@@ -9,13 +9,14 @@
 //! `indexed` finds by a digit of theirs. A `row_list` keeps them in fewer bytes as long as all are `narrow`, as those of IPv4 are. A
 //! `level` is what a `slot` has below it: a `page` of rows, or the slots of a `fork`; a `branch` is a page until its rows are too many, and
 //! a fork then. `four` and `sixteen` have so many levels, and `lower` those of the last 64 bits. `index` is what a table asks for, `rooted`
-//! has it of any level, and `trie` of all of them.
+//! has it of any level, and `trie` of all of them; a whole trie is made of a `draft`.
 //!
 //! Proved, by the public contracts: a look-up finds the longest prefix that has a sign, and an edit replaces one sign and no other. No
 //! contract says how many nodes a look-up or an edit visits, or what versions share.
 #![tactic(auto)]
 
 mod branch;
+mod draft;
 mod fork;
 mod found;
 mod four;
@@ -34,6 +35,7 @@ mod sixteen;
 mod slot;
 mod trie;
 
+pub use draft::Draft;
 pub use found::Found;
 pub use index::PrefixIndex;
 pub use prefix::Prefix;

@@ -152,8 +152,8 @@ fn clear(rows: RowList, address: u128) -> RowList
     rows
 }
 
-// Rows with a sign at a prefix. `AllocError`: nothing is left of them.
-fn with_sign(
+/// Rows with a sign at a prefix. `AllocError`: nothing is left of them.
+pub(crate) fn with_sign(
     alloc: Global,
     rows: RowList,
     prefix: Prefix,
