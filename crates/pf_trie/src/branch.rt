@@ -5,11 +5,11 @@ ghost use Rattle.pf_trie.specs.Agreeing.{branch_agrees};
 
 use crate::fork::Fork;
 use crate::found::Found;
+use crate::in_order::edited;
 use crate::level::Level;
 use crate::page::Page;
 use crate::prefix::Prefix;
 use crate::row_list::RowList;
-use crate::rows::edited;
 use crate::slot::SLOT_BITS;
 use std::alloc::{AllocError, Global};
 use std::sync::Arc;

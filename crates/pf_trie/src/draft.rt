@@ -2,9 +2,9 @@
 ghost use Rattle.std.specs.Prelude.{◌≡◌, ℕ, ◌≤◌, Some, None, IfOk};
 ghost use Rattle.pf_trie.specs.{Prefixes.{AllSigns, with_sign}, Tries.IsDraft};
 
+use crate::in_order::with_sign;
 use crate::prefix::Prefix;
 use crate::row_list::RowList;
-use crate::rows::with_sign;
 use std::alloc::{AllocError, Global};
 use std::marker::Model;
 

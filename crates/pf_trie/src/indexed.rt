@@ -3,9 +3,9 @@ ghost use Rattle.std.specs.Prelude.{◌≡◌, ℕ, ◌/◌, ◌^◌, ◌<◌, �
 ghost use Rattle.std.specs.List.{AllWithin};
 ghost use Rattle.pf_trie.specs.{Prefixes.AllSigns, Rows.{IsInOrder, AreRows, HasSigns, IsBetween}, Indexes.{digit_at, IsUpToDigit, IsIndex, BeginAlike}};
 
+use crate::in_order::{signs_at, signs_by, up_to_between};
 use crate::prefix::apart;
 use crate::row_list::RowList;
-use crate::rows::{signs_at, signs_by, up_to_between};
 use crate::signs::Signs;
 use std::marker::Model;
 

@@ -4,11 +4,11 @@ ghost use Rattle.pf_trie.specs.{Prefixes.{AllSigns, Finds}, Rows.{AreRows, HasSi
 ghost use Rattle.pf_trie.specs.Agreeing.{rows_agree};
 
 use crate::found::Found;
+use crate::in_order::edited;
 use crate::indexed::Indexed;
 use crate::level::Level;
 use crate::prefix::Prefix;
 use crate::row_list::RowList;
-use crate::rows::edited;
 use crate::signs::Signs;
 use std::alloc::{AllocError, Global};
 use std::marker::Model;

@@ -3,8 +3,8 @@ use Rattle.std.proofs.lemmas.Result.{IfOk-weaker}
 use Rattle.pf_trie.specs.declared.rows.Row.{Row}
 use Rattle.pf_trie.specs.Rows.{AreRowsWith}
 use Rattle.pf_trie.proofs.RowLists.{row_there, row_added, not_at}
-use Rattle.pf_trie.proofs.rows.with_row.Goals.{else-place-gt0-via-then-place-gt0+else-at-address, else-place-gt0-via-else-place-gt0}
-use Rattle.pf_trie.proofs.rows.with_row.Goals as goal
+use Rattle.pf_trie.proofs.in_order.with_row.Goals.{else-place-gt0-via-then-place-gt0+else-at-address, else-place-gt0-via-else-place-gt0}
+use Rattle.pf_trie.proofs.in_order.with_row.Goals as goal
 
 pub returns-then-at-address : goal.returns-then-at-address
 returns-then-at-address c = λ s top front are in_front.

@@ -1,7 +1,7 @@
 use Rattle.std.proofs.Common.{◌∙◌, arith}
 use Rattle.pf_trie.proofs.RowLists.{one_kept, one_left_out}
-use Rattle.pf_trie.proofs.rows.rows_within.Goals.{then-row-at+in_ok-within, else-row-at}
-use Rattle.pf_trie.proofs.rows.rows_within.Goals as goal
+use Rattle.pf_trie.proofs.in_order.rows_within.Goals.{then-row-at+in_ok-within, else-row-at}
+use Rattle.pf_trie.proofs.in_order.rows_within.Goals as goal
 
 pub loop-place-preserved : goal.loop-place-preserved
 loop-place-preserved c = elim c.if-row-at.branch [

@@ -1,7 +1,7 @@
 use Rattle.std.proofs.Common.{ℕ, sym, subst}
 use Rattle.pf_trie.specs.Rows.{IsBetween}
 use Rattle.pf_trie.proofs.RowLists.{whole_between}
-use Rattle.pf_trie.proofs.rows.up_to.Goals as goal
+use Rattle.pf_trie.proofs.in_order.up_to.Goals as goal
 
 pub returns : goal.returns
 returns c = c.up_to_between.ensures.place

@@ -1,7 +1,7 @@
 use Rattle.std.proofs.Common.{◌+◌, ◌-◌, ◌/◌, ◌<◌, ◌≤◌, sym, subst, arith}
 use Rattle.pf_trie.specs.declared.rows.Row.{Row}
 use Rattle.pf_trie.proofs.RowLists.{after_middle, before_middle, between_ends}
-use Rattle.pf_trie.proofs.rows.up_to_between.Goals as goal
+use Rattle.pf_trie.proofs.in_order.up_to_between.Goals as goal
 
 pub halving-preserved-then-at-address : goal.halving-preserved-then-at-address
 halving-preserved-then-at-address c = record {

@@ -1,7 +1,7 @@
 use Rattle.std.proofs.Common.{◌≡◌, ◌<◌, ◌-◌, length, false, sym, subst, arith, rules}
 use Rattle.pf_trie.specs.Rows.{AreRows, IsNoStart}
 use Rattle.pf_trie.proofs.RowLists.{row_removed}
-use Rattle.pf_trie.proofs.rows.clear.Goals as goal
+use Rattle.pf_trie.proofs.in_order.clear.Goals as goal
 
 pub returns-then-not-is_start : goal.returns-then-not-is_start
 returns-then-not-is_start c = λ s top front are.

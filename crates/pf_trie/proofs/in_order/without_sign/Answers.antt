@@ -1,7 +1,7 @@
 use Rattle.std.proofs.Common.{None, arith}
 use Rattle.pf_trie.specs.Prefixes.{with_sign}
 use Rattle.pf_trie.proofs.RowLists.{marked_rows}
-use Rattle.pf_trie.proofs.rows.without_sign.Goals as goal
+use Rattle.pf_trie.proofs.in_order.without_sign.Goals as goal
 
 pub returns : goal.returns
 returns c = λ s top front are less in_front.

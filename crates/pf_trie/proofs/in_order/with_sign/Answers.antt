@@ -3,7 +3,7 @@ use Rattle.std.proofs.lemmas.Result.{IfOk-weaker}
 use Rattle.std.specs.List.{Any}
 use Rattle.pf_trie.specs.Rows.{AreRowsWith, IsAt}
 use Rattle.pf_trie.proofs.RowLists.{marked_rows, first_in_front}
-use Rattle.pf_trie.proofs.rows.with_sign.Goals as goal
+use Rattle.pf_trie.proofs.in_order.with_sign.Goals as goal
 
 pub returns : goal.returns
 returns c = IfOk-weaker c.mark.result _ _ (λ v marks s top front are less in_front.

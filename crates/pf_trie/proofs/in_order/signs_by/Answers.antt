@@ -2,7 +2,7 @@ use Rattle.std.proofs.Common.{ℕ, cond, nat_le, ap, ◌∙◌, ◌-◌, sym, su
 use Rattle.pf_trie.specs.declared.rows.Row.{Row}
 use Rattle.pf_trie.specs.{Prefixes.IsApart, Rows.IsUpTo, Signs.sign_of}
 use Rattle.pf_trie.proofs.RowLists.{none_before, signs_of_place}
-use Rattle.pf_trie.proofs.rows.signs_by.Goals as goal
+use Rattle.pf_trie.proofs.in_order.signs_by.Goals as goal
 
 pub returns-then-place-eq0 : goal.returns-then-place-eq0
 returns-then-place-eq0 c = λ s top front up are in_front. none_before s top front c.args.address c.args.rows.now c.none.result are in_front

@@ -1,4 +1,4 @@
-use Rattle.pf_trie.proofs.rows.edited.Goals as goal
+use Rattle.pf_trie.proofs.in_order.edited.Goals as goal
 
 pub returns-in-Some : goal.returns-in-Some
 returns-in-Some c = rw c.in-Some.is c.with_sign.ensures

@@ -2,7 +2,7 @@ use Rattle.std.proofs.Common.{ℕ, ◌+◌, List, sym, subst, arith}
 use Rattle.pf_trie.specs.declared.rows.Row.{Row}
 use Rattle.pf_trie.specs.Rows.{IsUpTo, Marks}
 use Rattle.pf_trie.proofs.RowLists.{MarkedBetween, one_marked, all_marked}
-use Rattle.pf_trie.proofs.rows.mark.Goals as goal
+use Rattle.pf_trie.proofs.in_order.mark.Goals as goal
 
 pub loop-place-preserved : goal.loop-place-preserved
 loop-place-preserved c =
