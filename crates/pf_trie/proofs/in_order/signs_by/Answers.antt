@@ -1,4 +1,4 @@
-use Rattle.std.proofs.Common.{ℕ, cond, nat_le, ap, ◌∙◌, ◌-◌, sym, subst, None, arith}
+use Rattle.std.proofs.Common.{ℕ, cond, nat_le, ap, ◌∙◌, sym, subst, None, arith}
 use Rattle.pf_trie.specs.declared.rows.Row.{Row}
 use Rattle.pf_trie.specs.{Prefixes.IsApart, Rows.IsUpTo, Signs.sign_of}
 use Rattle.pf_trie.proofs.RowLists.{none_before, signs_of_place}

@@ -1,4 +1,4 @@
-use Rattle.std.proofs.Common.{None, arith}
+use Rattle.std.proofs.Common.{None}
 use Rattle.pf_trie.specs.Prefixes.{with_sign}
 use Rattle.pf_trie.proofs.RowLists.{marked_rows}
 use Rattle.pf_trie.proofs.in_order.without_sign.Goals as goal
