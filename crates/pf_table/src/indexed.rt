@@ -4,6 +4,7 @@ ghost use Rattle.pf_addr.specs.Address.{IsNetwork};
 ghost use Rattle.pf_table.specs.{Tables.{AreEntries, IsTable, deciding}, Edits.{added, additions, deleted, deletions}};
 
 use crate::answer::{Addition, Deletion};
+use crate::drafts::Drafts;
 use crate::entry::Entry;
 use crate::entry_map::EntryMap;
 use crate::tries::Tries;
@@ -57,11 +58,14 @@ impl<T: PrefixIndex> Indexed<T> {
         ensures value { IfOk result (λ i. i ≡ map) }
         ensures networks { IfOk result (λ _. All (λ e. IsNetwork e.0) entries.now) }
     {
-        let mut tries = Tries::empty();
+        let mut drafts = Drafts::none(alloc);
         for entry in entries {
-            tries = tries.with(alloc, entry)?;
+            drafts = drafts.with(alloc, entry)?;
         }
-        Ok(Indexed { map, tries })
+        Ok(Indexed {
+            map,
+            tries: drafts.tries(alloc)?,
+        })
     }
 
     /// The same entries, shared and not copied. `AllocError`: they can't have another owner.

@@ -8,11 +8,11 @@
 //! specs/Laws/Tables.antt, which says both without recursion.
 //!
 //! Callers use `Table`. Its entries are in a map in the order of their networks (`entry_map`), over which `each` goes, and beside the map
-//! `tries` keep the signs of the networks by the first bits of addresses (specs/Indexed.antt): `indexed` keeps the two alike and finds the
-//! entry that decides, and `table_entries` is that over the tries of pf_trie. Few entries that were made at once have `columns` too. An
-//! edit is `batch`, which gathers its list, and `change`, which changes the map entry by entry; what became of each entry then says what to
-//! change in the tries. `entry` and `entry_form` are an entry and its bytes (specs/EntryForms.antt), `answer`, `refusal` and `limits` what
-//! edits answer and refuse, and `content` makes a table a map's value.
+//! `tries` keep the signs of the networks by the first bits of addresses (specs/Indexed.antt), made of `drafts` where a table gets all of its
+//! entries at once: `indexed` keeps the two alike and finds the entry that decides, and `table_entries` is that over the tries of pf_trie.
+//! Few entries that were made at once have `columns` too. An edit is `batch`, which gathers its list, and `change`, which changes the map
+//! entry by entry; what became of each entry then says what to change in the tries. `entry` and `entry_form` are an entry and its bytes
+//! (specs/EntryForms.antt), `answer`, `refusal` and `limits` what edits answer and refuse, and `content` makes a table a map's value.
 //!
 //! Proved: what a look-up finds, what each edit leaves, answers and refuses (the contracts of `Table`); that at most one entry decides,
 //! that equal signs make equal tables, that edits change only what they name, and that entries come back from their bytes (`laws`). Nothing
@@ -24,6 +24,7 @@ mod batch;
 mod change;
 mod columns;
 mod content;
+mod drafts;
 mod each;
 mod entry;
 mod entry_form;

@@ -22,8 +22,8 @@ fn wide_number(addr: Addr) -> u128
     }
 }
 
-// A network's front as a prefix of such numbers.
-fn prefix_of(net: Net) -> Prefix
+/// A network's front as a prefix of such numbers.
+pub(crate) fn prefix_of(net: Net) -> Prefix
     ensures { IsPrefixOf net result }
 {
     Prefix {
@@ -34,8 +34,8 @@ fn prefix_of(net: Net) -> Prefix
 
 /// The signs of networks, each at its prefix, in a trie for each family.
 pub(crate) struct Tries<T: PrefixIndex> {
-    v4: T,
-    v6: T,
+    pub(crate) v4: T,
+    pub(crate) v6: T,
 }
 
 impl<T: PrefixIndex> Drop for Tries<T> {
@@ -93,8 +93,8 @@ impl<T: PrefixIndex> Tries<T> {
         }
     }
 
-    /// With the sign of an entry whose network has none. `AllocError`: as after `replaced`.
-    pub(crate) fn with(self, alloc: Global, entry: &Entry) -> Result<Tries<T>, AllocError>
+    // With the sign of an entry whose network has none. `AllocError`: as after `replaced`.
+    fn with(self, alloc: Global, entry: &Entry) -> Result<Tries<T>, AllocError>
         ensures signs { IfOk result (λ t. (es : List PlainEntry) → AreIn T.has es self.v4 self.v6 → AreIn T.has (with_value net_order es entry.now.0 (Some entry.now.1)) t.v4 t.v6) }
         ensures network { IsNetwork entry.now.0 }
     {

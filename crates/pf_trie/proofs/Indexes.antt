@@ -2,7 +2,7 @@
 use Rattle.std.proofs.{Common.{◌≡◌, ◌≢◌, ℕ, ◌+◌, ◌-◌, ◌/◌, ◌^◌, ◌<◌, ◌≤◌, ◌==◌, min, Bool, true, false, nat_lt, List, length, get_or, set, refl, sym, ap, ◌∙◌, subst, arith}, lemmas.{Bool.Decides.nat_tests, Nat.shr-shr, List.{get_or_default, length-set, get_or-set_same, get_or-set_other}}, Math.Pow.shr_mono}
 use Rattle.std.specs.List.{AllWithin}
 use Rattle.pf_trie.specs.declared.{rows.Row.{Row}}
-use Rattle.pf_trie.specs.{Prefixes.IsApart, Rows.{IsInOrder, IsBetween}, Indexes.{digit_at, IsUpToDigit, IsEntry, IsIndex, BeginAlike}}
+use Rattle.pf_trie.specs.{Prefixes.IsApart, Rows.{IsInOrder, IsBetween}, Indexes.{digit_at, AreByDigit, IsUpToDigit, IsEntry, IsIndex, BeginAlike}}
 use Rattle.pf_trie.proofs.{Cuts.share_fewer, RowLists.no_later}
 
 -- ---- how the index is made
@@ -31,19 +31,26 @@ first_not_lower shift digit place found rows e lt is le before = record {
 pub all_lower : (shift digit n : ℕ) (rows : List Row) → n ≡ length rows → AllWithin (λ r. digit_at shift r.first < digit) rows 0 n → IsUpToDigit shift digit rows n
 all_lower shift digit n rows whole before = record { within = omega (arith, whole); lower = before; next = λ d lt. absurd (omega (arith, lt, whole)) }
 
--- the entries before a digit, and the rows that are below it
+-- where a row's digit is lower, those of the rows before it are too
+pub lower_before : (shift digit place found : ℕ) (rows : List Row) (e : Row) → AreByDigit shift rows → place < length rows
+    → found ≡ digit_at shift (get_or rows place e).first → found < digit → AllWithin (λ r. digit_at shift r.first < digit) rows 0 (place + 1)
+lower_before shift digit place found rows e sorted lt is less = one_lower shift digit place found rows e lt is less (λ k d low high.
+    let up = sorted k place d high lt in
+    let own : digit_at shift (get_or rows place d).first ≡ found =
+    ap (λ (x : Row). digit_at shift x.first) (get_or_default rows place d e lt) ∙ sym is in
+    omega (arith, up, own, less))
+
+-- the entries before a digit
 pub record IndexedUpTo (shift : ℕ) (before : List ℕ) (rows : List Row) (place digit : ℕ) : Type 0 where
   pub count : length before ≡ 32
   pub within : place ≤ length rows
-  pub lower : AllWithin (λ r. digit_at shift r.first < digit) rows 0 place
   pub each : (d : ℕ) → d < digit → IsEntry shift d rows (get_or before d 0)
 
 pub one_entry : (shift : ℕ) (before : List ℕ) (rows : List Row) (place digit n : ℕ) → IndexedUpTo shift before rows place digit → digit < 32
-    → IsUpToDigit shift digit rows n → IndexedUpTo shift (set before digit (min n 255)) rows n (digit + 1)
-one_entry shift before rows place digit n is lt up = record {
+    → n ≤ length rows → (AreByDigit shift rows → IsUpToDigit shift digit rows n) → IndexedUpTo shift (set before digit (min n 255)) rows n (digit + 1)
+one_entry shift before rows place digit n is lt within up = record {
   count = length-set before digit (min n 255) ∙ is.count;
-  within = up.within;
-  lower = λ k d low high. let less = up.lower k d low high in omega (arith, less);
+  within = within;
   each = λ d near. by d near (d == digit) refl;
 } where
   by : (d : ℕ) → d < digit + 1 → (t : Bool) → (d == digit) ≡ t → IsEntry shift d rows (get_or (set before digit (min n 255)) d 0)
@@ -51,7 +58,7 @@ one_entry shift before rows place digit n is lt up = record {
       let same : digit ≡ d = let e : d ≡ digit = grind (arith, nat_tests) in sym e in
       let long : digit < length before = let c = is.count in omega (arith, c, lt) in
       subst (λ (j : ℕ). IsEntry shift j rows (get_or (set before digit (min n 255)) j 0)) same
-      (record { count = n; up_to = up; byte = get_or-set_same before digit (min n 255) 0 long })
+      (record { count = n; within = within; up_to = up; byte = get_or-set_same before digit (min n 255) 0 long })
   by d near false t =
       let apart : d ≢ digit = λ e. grind (arith, nat_tests) in
       subst (λ (m : ℕ). IsEntry shift d rows m) (sym (get_or-set_other before digit d (min n 255) 0 apart)) (is.each d (omega (arith, near, apart)))
@@ -87,6 +94,24 @@ rows_alike shift n first last rows e x some is_first is_last apart reach = recor
         let high : m / 2 ^ (shift + 5) ≤ last / 2 ^ (shift + 5) = shr_mono (shift + 5) down in
         omega (arith, ends, low, high)
 
+-- bits that the first and the last one have all do
+pub ends_alike : (shift front first last : ℕ) (rows : List Row) (e x : Row) → 0 < length rows → first ≡ (get_or rows 0 e).first
+    → last ≡ (get_or rows (length rows - 1) x).first → first / 2 ^ shift / 32 ≡ front → last / 2 ^ shift / 32 ≡ front → BeginAlike shift front rows
+ends_alike shift front first last rows e x some is_first is_last low_is high_is = record {
+  alike = λ o k d lt.
+      let low = no_later rows 0 k d o (omega arith) lt in
+      let high = no_later rows k (length rows - 1) d o (omega (arith, lt)) (omega (arith, some)) in
+      let own_first : (get_or rows 0 d).first ≡ first = ap (λ (r : Row). r.first) (get_or_default rows 0 d e some) ∙ sym is_first in
+      let own_last : (get_or rows (length rows - 1) d).first ≡ last =
+      ap (λ (r : Row). r.first) (get_or_default rows (length rows - 1) d x (omega (arith, some))) ∙ sym is_last in
+      let up : first ≤ (get_or rows k d).first = omega (arith, low, own_first) in
+      let down : (get_or rows k d).first ≤ last = omega (arith, high, own_last) in
+      same (get_or rows k d).first (shr_mono shift up) (shr_mono shift down);
+}
+  where
+    same : (m : ℕ) → first / 2 ^ shift ≤ m / 2 ^ shift → m / 2 ^ shift ≤ last / 2 ^ shift → m / 2 ^ shift / 32 ≡ front
+    same m up down = omega (arith, up, down, low_is, high_is)
+
 -- ---- look-ups
 
 -- among addresses that have the same bits before a digit the one with the lower digit is less
@@ -102,7 +127,25 @@ lower_first shift x y same lt = by (nat_lt x y) refl where
       let up : y / 2 ^ shift ≤ x / 2 ^ shift = shr_mono shift le in
       absurd (omega (arith, up, less))
 
+-- rows in order that have the same bits before a digit are in the order of the digits
+pub by_digit : (shift front : ℕ) (rows : List Row) → IsInOrder rows → BeginAlike shift front rows → AreByDigit shift rows
+by_digit shift front rows order begin k m d less lt =
+    by (nat_lt (digit_at shift (get_or rows m d).first) (digit_at shift (get_or rows k d).first)) refl where
+      by : (t : Bool) → nat_lt (digit_at shift (get_or rows m d).first) (digit_at shift (get_or rows k d).first) ≡ t
+          → digit_at shift (get_or rows k d).first ≤ digit_at shift (get_or rows m d).first
+      by false t = grind (arith, nat_tests)
+      by true t =
+          let lower : digit_at shift (get_or rows m d).first < digit_at shift (get_or rows k d).first = grind (arith, nat_tests) in
+          let inside : k < length rows = omega (arith, less, lt) in
+          let same = begin.alike order m d lt ∙ sym (begin.alike order k d inside) in
+          let back = lower_first shift (get_or rows m d).first (get_or rows k d).first same lower in
+          let ahead = order k m d less lt in
+          absurd (omega (arith, back, ahead))
+
 module _ (shift a : ℕ) (rows : List Row) (order : IsInOrder rows) (begin : BeginAlike shift (a / 2 ^ shift / 32) rows) where
+  sorted : AreByDigit shift rows
+  sorted = by_digit shift (a / 2 ^ shift / 32) rows order begin
+
   -- rows up to a digit are before the address of the digit
   before_digit : (n low : ℕ) → IsUpToDigit shift (digit_at shift a) rows n → low ≤ n → AllWithin (λ r. r.first ≤ a) rows 0 low
   before_digit n low up le k d zero_ lt =
@@ -142,14 +185,14 @@ module _ (shift a : ℕ) (rows : List Row) (order : IsInOrder rows) (begin : Beg
       let low_byte = own.byte in
       let high_byte = next.byte in
       let exact : high ≡ next.count = omega (arith, is_high, high_byte, small) in
-      let grow = digits_grow own.count next.count (digit_at shift a) (digit_at shift a + 1) own.up_to next.up_to (omega arith) in
+      let grow = digits_grow own.count next.count (digit_at shift a) (digit_at shift a + 1) (own.up_to sorted) (next.up_to sorted) (omega arith) in
       let most : low ≤ own.count = omega (arith, is_low, low_byte) in
       record {
         ordered = omega (arith, most, grow, exact);
-        within = let w = next.up_to.within in omega (arith, w, exact);
-        before = λ o. before_digit own.count low own.up_to most;
+        within = let w = next.within in omega (arith, w, exact);
+        before = λ o. before_digit own.count low (own.up_to sorted) most;
         behind = λ o. subst (λ (n : ℕ). AllWithin (λ r. a < r.first) rows n (length rows)) (sym exact)
-            (behind_digit next.count (digit_at shift a + 1) next.up_to (omega arith));
+            (behind_digit next.count (digit_at shift a + 1) (next.up_to sorted) (omega arith));
       }
 
   pub to_end : (before : List ℕ) (low high : ℕ) → IsIndex shift before rows → digit_at shift a < 32 → low ≡ get_or before (digit_at shift a) 0
@@ -159,9 +202,9 @@ module _ (shift a : ℕ) (rows : List Row) (order : IsInOrder rows) (begin : Beg
       let low_byte = own.byte in
       let most : low ≤ own.count = omega (arith, is_low, low_byte) in
       record {
-        ordered = let w = own.up_to.within in omega (arith, w, most, whole);
+        ordered = let w = own.within in omega (arith, w, most, whole);
         within = omega (arith, whole);
-        before = λ o. before_digit own.count low own.up_to most;
+        before = λ o. before_digit own.count low (own.up_to sorted) most;
         behind = λ o k d le lt. absurd (omega (arith, le, lt, whole));
       }
 
@@ -171,5 +214,5 @@ pub entry_within : (shift digit entry : ℕ) (before : List ℕ) (rows : List Ro
 entry_within shift digit entry before rows index near is =
     let own = index.each digit near in
     let byte = own.byte in
-    let w = own.up_to.within in
+    let w = own.within in
     omega (arith, is, byte, w)

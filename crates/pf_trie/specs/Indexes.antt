@@ -1,5 +1,5 @@
 -- An index of rows by a digit of their addresses.
-use Rattle.std.specs.{Prelude.{◌≡◌, ℕ, ◌/◌, ◌%◌, ◌^◌, ◌<◌, ◌≤◌, min, List, length, slice_index_or, All}, List.AllWithin}
+use Rattle.std.specs.{Prelude.{◌≡◌, ℕ, ◌/◌, ◌%◌, ◌^◌, ◌<◌, ◌≤◌, min, List, length, slice_index_or, All}, List.{AllPairs, AllWithin}}
 use Rattle.pf_trie.specs.declared.{rows.Row.{Row}, indexed.TheConstants.{DIGITS}}
 use Rattle.pf_trie.specs.Rows.{IsInOrder}
 
@@ -7,16 +7,21 @@ use Rattle.pf_trie.specs.Rows.{IsInOrder}
 abbrev pub digit_at : ℕ → ℕ → ℕ
 digit_at shift a = a / 2 ^ shift % DIGITS
 
+-- no row's digit is lower than that of a row before it
+abbrev pub AreByDigit : ℕ → List Row → Type 0
+AreByDigit shift rows = AllPairs (λ r t. digit_at shift r.first ≤ digit_at shift t.first) rows
+
 -- so many rows come before the first whose digit isn't lower than this one
 pub record IsUpToDigit (shift digit : ℕ) (rows : List Row) (n : ℕ) : Type 0 where
   pub within : n ≤ length rows
   pub lower : AllWithin (λ r. digit_at shift r.first < digit) rows 0 n
   pub next : (d : Row) → n < length rows → digit ≤ digit_at shift (slice_index_or rows n d).first
 
--- how many those are, in a byte, whose last number stands for all higher ones
+-- how many those are of rows in the order of the digits, in a byte, whose last number stands for all higher ones
 pub record IsEntry (shift digit : ℕ) (rows : List Row) (entry : ℕ) : Type 0 where
   pub count : ℕ
-  pub up_to : IsUpToDigit shift digit rows count
+  pub within : count ≤ length rows
+  pub up_to : AreByDigit shift rows → IsUpToDigit shift digit rows count
   pub byte : entry ≡ min count 255
 
 -- an entry for each digit

@@ -9,7 +9,6 @@ use crate::level::Level;
 use crate::page::Page;
 use crate::prefix::Prefix;
 use crate::row_list::RowList;
-use crate::rows::edited;
 use crate::slot::SLOT_BITS;
 use std::alloc::{AllocError, Global};
 use std::sync::Arc;
@@ -43,6 +42,22 @@ impl<T: Level> Branch<T> {
         ensures { (s : AllSigns) (top front : ℕ) → AreRows s top front page → IsBranch T.holds s top front result.page result.fork }
     {
         Branch { page, fork: None }
+    }
+
+    // The branch of a page that may have too many rows, whose addresses begin as this one does. `AllocError`: nothing is left of the page.
+    fn of_any_page(
+        alloc: Global,
+        top: u8,
+        address: u128,
+        page: Page,
+    ) -> Result<Branch<T>, AllocError>
+        requires { top ≤ 128 }
+        ensures { IfOk result (λ b. (s : AllSigns) → AreRows s top (address / 2 ^ top) page → IsBranch T.holds s top (address / 2 ^ top) b.page b.fork) }
+    {
+        if page.fits() {
+            return Ok(Branch::of_page(page));
+        }
+        Branch::of_rows(alloc, top, address, page.own_rows(alloc)?)
     }
 }
 
@@ -104,8 +119,8 @@ impl<T: Level> Level for Branch<T> {
                 })
             }
             None => {
-                let rows = edited(alloc, page.own_rows(alloc)?, prefix, sign)?;
-                Branch::of_rows(alloc, top, prefix.address, rows)
+                let page = page.edited(alloc, prefix, sign)?;
+                Branch::of_any_page(alloc, top, prefix.address, page)
             }
         }
     }

@@ -1,7 +1,8 @@
 //! What a table asks of a trie.
 ghost use Rattle.std.specs.Prelude.{◌≡◌, ℕ, ◌≤◌, None, IfOk};
-ghost use Rattle.pf_trie.specs.Prefixes.{AllSigns, Finds, with_sign};
+ghost use Rattle.pf_trie.specs.{Prefixes.{AllSigns, Finds, with_sign}, Tries.IsDraft};
 
+use crate::draft::Draft;
 use crate::found::Found;
 use crate::prefix::Prefix;
 use std::alloc::{AllocError, Global};
@@ -14,6 +15,10 @@ pub trait PrefixIndex: Drop {
     /// No signs. It takes no memory.
     fn empty() -> Self
         ensures { (s : AllSigns) → ((k n : ℕ) → s k n ≡ None) → has s result };
+
+    /// The signs of a draft. `AllocError`: nothing is left of them.
+    fn of(alloc: Global, draft: Draft) -> Result<Self, AllocError>
+        ensures { IfOk result (λ t. (s : AllSigns) → IsDraft s draft → has s t) };
 
     /// The same signs, shared and not copied. `AllocError`: they can't have another owner.
     fn shared(&self) -> Result<Self, AllocError>

@@ -1,12 +1,15 @@
 //! Rows with an index by a digit of their addresses.
-ghost use Rattle.std.specs.Prelude.{◌≡◌, ℕ, ◌/◌, ◌^◌, ◌<◌, ◌≤◌, length};
+ghost use Rattle.std.specs.Prelude.{◌≡◌, ℕ, ◌/◌, ◌^◌, ◌<◌, ◌≤◌, true, length, IfOk};
 ghost use Rattle.std.specs.List.{AllWithin};
-ghost use Rattle.pf_trie.specs.{Prefixes.AllSigns, Rows.{IsInOrder, AreRows, HasSigns, IsBetween}, Indexes.{digit_at, IsUpToDigit, IsIndex, BeginAlike}};
+ghost use Rattle.pf_trie.specs.Prefixes.{AllSigns, with_sign};
+ghost use Rattle.pf_trie.specs.Rows.{IsInOrder, AreRows, HasSigns, IsBetween};
+ghost use Rattle.pf_trie.specs.Indexes.{digit_at, AreByDigit, IsUpToDigit, IsIndex, BeginAlike};
 
-use crate::prefix::apart;
+use crate::in_order::{edited, signs_at, signs_by, up_to_between};
+use crate::prefix::{Prefix, apart};
 use crate::row_list::RowList;
-use crate::rows::{signs_at, signs_by, up_to_between};
 use crate::signs::Signs;
+use std::alloc::{AllocError, Global};
 use std::marker::Model;
 
 /// How many bits of an address an index goes by.
@@ -61,12 +64,43 @@ fn span_of(rows: &RowList) -> (u8, u128)
     (shift, (first >> shift) / DIGITS as u128)
 }
 
+// Whether rows in order have these bits before the digit, by the first and the last of them.
+fn begin_alike(rows: &RowList, shift: u8, front: u128) -> bool
+    requires { shift < 128 }
+    ensures { result ≡ true → BeginAlike shift front rows.now }
+{
+    let count = rows.len();
+    if count == 0 {
+        return true;
+    }
+    let first = rows.at(0).first;
+    let last = rows.at(count - 1).first;
+    (first >> shift) / DIGITS as u128 == front && (last >> shift) / DIGITS as u128 == front
+}
+
+// How many rows end, up to a place, with the last one whose digit is lower than this.
+fn down_to_digit(rows: &RowList, from: usize, shift: u8, digit: usize) -> usize
+    requires shift { shift < 128 }
+    requires from { from ≤ length rows.now }
+    ensures within { result ≤ from }
+    ensures lower { AreByDigit shift rows.now → AllWithin (λ r. digit_at shift r.first < digit) rows.now 0 result }
+{
+    for above in 0..from {
+        let count = from - above;
+        if digit_of(rows.at(count - 1).first, shift) < digit {
+            return count;
+        }
+    }
+    0
+}
+
 // How many rows come before the first whose digit isn't lower than this one, where those up to a place do.
 fn up_to_digit(rows: &RowList, from: usize, shift: u8, digit: usize) -> usize
     requires shift { shift < 128 }
     requires from { from ≤ length rows.now }
-    requires lower { AllWithin (λ r. digit_at shift r.first < digit) rows.now 0 from }
-    ensures { IsUpToDigit shift digit rows.now result }
+    requires lower { AreByDigit shift rows.now → AllWithin (λ r. digit_at shift r.first < digit) rows.now 0 from }
+    ensures within { result ≤ length rows.now }
+    ensures place { AreByDigit shift rows.now → IsUpToDigit shift digit rows.now result }
 {
     for place in from..rows.len() {
         if digit_of(rows.at(place).first, shift) >= digit {
@@ -76,15 +110,17 @@ fn up_to_digit(rows: &RowList, from: usize, shift: u8, digit: usize) -> usize
     rows.len()
 }
 
-// The index of rows by a digit.
-fn index_of(rows: &RowList, shift: u8) -> [u8; DIGITS]
+// The index of rows by a digit. It looks at few rows where they are nearly those of another index.
+fn index_of(rows: &RowList, shift: u8, other: [u8; DIGITS]) -> [u8; DIGITS]
     requires { shift < 128 }
     ensures { IsIndex shift result rows.now }
 {
     let mut before = [0; DIGITS];
     let mut place = 0;
     for digit in 0..DIGITS {
-        place = up_to_digit(rows, place, shift, digit);
+        let near = usize::from(other[digit]).max(place).min(rows.len());
+        let low = down_to_digit(rows, near, shift, digit);
+        place = up_to_digit(rows, low, shift, digit);
         before[digit] = place.min(255) as u8;
     }
     before
@@ -117,9 +153,57 @@ impl Indexed {
         Indexed {
             shift,
             front,
-            before: index_of(&rows, shift),
+            before: index_of(&rows, shift, [0; DIGITS]),
             rows,
         }
+    }
+
+    // Rows with their index, by that of nearly the same rows.
+    fn after(rows: RowList, shift: u8, front: u128, before: [u8; DIGITS]) -> Indexed
+        requires { shift < 128 }
+        ensures { result ≡ rows }
+    {
+        if !begin_alike(&rows, shift, front) {
+            return Indexed::of(rows);
+        }
+        Indexed {
+            shift,
+            front,
+            before: index_of(&rows, shift, before),
+            rows,
+        }
+    }
+
+    /// A copy, with room for one row more. `AllocError`: nothing is made.
+    pub(crate) fn copied(&self, alloc: Global) -> Result<Indexed, AllocError>
+        ensures { IfOk result (λ x. x ≡ self.now) }
+    {
+        Ok(Indexed {
+            shift: self.shift,
+            front: self.front,
+            before: self.before,
+            rows: self.rows.copied(alloc)?,
+        })
+    }
+
+    /// The rows with the sign at a prefix replaced, or taken out. `AllocError`: nothing is left of them.
+    pub(crate) fn edited(
+        self,
+        alloc: Global,
+        prefix: Prefix,
+        sign: Option<bool>,
+    ) -> Result<Indexed, AllocError>
+        requires { prefix.free < 128 }
+        ensures { IfOk result (λ v. (s : AllSigns) (top front : ℕ) → AreRows s top front self → prefix.free < top → prefix.address / 2 ^ top ≡ front → AreRows (with_sign s prefix sign) top front v) }
+    {
+        let Indexed {
+            shift,
+            front,
+            before,
+            rows,
+        } = self;
+        let rows = edited(alloc, rows, prefix, sign)?;
+        Ok(Indexed::after(rows, shift, front, before))
     }
 
     /// The rows.

@@ -1,14 +1,15 @@
 //! Pages of rows.
-ghost use Rattle.std.specs.Prelude.{◌≡◌, ℕ, ◌/◌, ◌^◌, [], IfOk};
-ghost use Rattle.pf_trie.specs.{Prefixes.{AllSigns, Finds}, Rows.{AreRows, HasSigns}};
+ghost use Rattle.std.specs.Prelude.{◌≡◌, ℕ, ◌/◌, ◌^◌, ◌<◌, [], IfOk};
+ghost use Rattle.pf_trie.specs.{Prefixes.{AllSigns, Finds, with_sign}, Rows.{AreRows, HasSigns}};
 ghost use Rattle.pf_trie.specs.Agreeing.{rows_agree};
+ghost use Rattle.std.specs.Arc.{arc_value};
 
 use crate::found::Found;
+use crate::in_order::edited;
 use crate::indexed::Indexed;
 use crate::level::Level;
 use crate::prefix::Prefix;
 use crate::row_list::RowList;
-use crate::rows::edited;
 use crate::signs::Signs;
 use std::alloc::{AllocError, Global};
 use std::marker::Model;
@@ -30,6 +31,17 @@ impl Model for Page {
     ghost view = { λ p. shared_items p.rows };
 }
 
+// Rows for one owner: themselves where nobody else holds them, or else a copy with room for one more. `AllocError`: nothing is left of this
+// owner's rows.
+fn own(alloc: Global, rows: Arc<Indexed>) -> Result<Indexed, AllocError>
+    ensures { IfOk result (λ own. own ≡ arc_value rows) }
+{
+    match Arc::try_unwrap(rows) {
+        Ok(alone) => Ok(alone),
+        Err(shared) => shared.copied(alloc),
+    }
+}
+
 impl Page {
     /// Its rows for one owner: themselves where nobody else holds them, or else a copy with room for one more. `AllocError`: nothing is left
     /// of the page.
@@ -38,10 +50,7 @@ impl Page {
     {
         let Page { rows } = self;
         match rows {
-            Some(rows) => match Arc::try_unwrap(rows) {
-                Ok(alone) => Ok(alone.into_rows()),
-                Err(shared) => shared.rows().copied(alloc),
-            },
+            Some(rows) => Ok(own(alloc, rows)?.into_rows()),
             None => Ok(RowList::none(alloc)),
         }
     }
@@ -57,12 +66,45 @@ impl Page {
     pub(crate) fn of(alloc: Global, rows: RowList) -> Result<Page, AllocError>
         ensures { IfOk result (λ p. p ≡ rows) }
     {
-        if rows.len() == 0 {
+        Page::holding(alloc, Indexed::of(rows))
+    }
+
+    // The page of rows with their index. `AllocError`: nothing is left of them.
+    fn holding(alloc: Global, rows: Indexed) -> Result<Page, AllocError>
+        ensures { IfOk result (λ p. p ≡ rows) }
+    {
+        if rows.rows().len() == 0 {
             return Ok(Page::none());
         }
         Ok(Page {
-            rows: Some(Arc::new(alloc, Indexed::of(rows))?),
+            rows: Some(Arc::new(alloc, rows)?),
         })
+    }
+
+    /// Whether its rows are few enough for one page.
+    pub(crate) fn fits(&self) -> bool {
+        match &self.rows {
+            Some(rows) => rows.rows().fit_page(),
+            None => true,
+        }
+    }
+
+    /// With the sign at a prefix replaced, or taken out. Rows that nobody else holds are changed in place. `AllocError`: nothing is left of the
+    /// page.
+    pub(crate) fn edited(
+        self,
+        alloc: Global,
+        prefix: Prefix,
+        sign: Option<bool>,
+    ) -> Result<Page, AllocError>
+        requires { prefix.free < 128 }
+        ensures { IfOk result (λ p. (s : AllSigns) (top front : ℕ) → AreRows s top front self → prefix.free < top → prefix.address / 2 ^ top ≡ front → AreRows (with_sign s prefix sign) top front p) }
+    {
+        let Page { rows } = self;
+        match rows {
+            Some(rows) => Page::holding(alloc, own(alloc, rows)?.edited(alloc, prefix, sign)?),
+            None => Page::of(alloc, edited(alloc, RowList::none(alloc), prefix, sign)?),
+        }
     }
 
     /// The same rows, shared and not copied. `AllocError`: they can't have another owner.
@@ -121,8 +163,7 @@ impl Level for Page {
         prefix: Prefix,
         sign: Option<bool>,
     ) -> Result<Page, AllocError> {
-        let rows = self.own_rows(alloc)?;
-        Page::of(alloc, edited(alloc, rows, prefix, sign)?)
+        self.edited(alloc, prefix, sign)
     }
 
     ghost agrees = { λ s t top front p. rows_agree s t top front p };

@@ -1,6 +1,7 @@
 //! Levels of all addresses.
 ghost use Rattle.pf_trie.specs.Tries.{IsRooted};
 
+use crate::draft::Draft;
 use crate::found::Found;
 use crate::index::PrefixIndex;
 use crate::level::Level;
@@ -27,6 +28,14 @@ impl<L: Level> PrefixIndex for Rooted<L> {
             all: None,
             level: L::empty(),
         }
+    }
+
+    fn of(alloc: Global, draft: Draft) -> Result<Rooted<L>, AllocError> {
+        let (all, rows) = draft.parts();
+        Ok(Rooted {
+            all,
+            level: L::of_rows(alloc, 128, 0, rows)?,
+        })
     }
 
     fn shared(&self) -> Result<Rooted<L>, AllocError> {

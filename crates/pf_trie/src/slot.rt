@@ -3,10 +3,10 @@ ghost use Rattle.std.specs.Prelude.{◌≡◌, ℕ, ◌+◌, ◌-◌, ◌/◌, �
 ghost use Rattle.pf_trie.specs.{Prefixes.{AllSigns, Finds, with_sign}, Rows.AreRows, Forks.{IsSlot, SameSlot}};
 
 use crate::found::Found;
+use crate::in_order::{rows_within, signs_at};
 use crate::level::Level;
 use crate::prefix::Prefix;
 use crate::row_list::RowList;
-use crate::rows::{rows_within, signs_at};
 use crate::signs::Signs;
 use std::alloc::{AllocError, Global};
 use std::marker::Model;

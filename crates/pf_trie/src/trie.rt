@@ -1,4 +1,5 @@
 //! Tries.
+use crate::draft::Draft;
 use crate::found::Found;
 use crate::index::PrefixIndex;
 use crate::lower::LowerLevels;
@@ -29,6 +30,12 @@ impl PrefixIndex for Trie {
         Trie {
             signs: PrefixIndex::empty(),
         }
+    }
+
+    fn of(alloc: Global, draft: Draft) -> Result<Trie, AllocError> {
+        Ok(Trie {
+            signs: PrefixIndex::of(alloc, draft)?,
+        })
     }
 
     fn shared(&self) -> Result<Trie, AllocError> {

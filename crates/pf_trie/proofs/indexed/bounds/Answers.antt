@@ -1,5 +1,5 @@
 use Rattle.std.proofs.Common.{ap, ◌∙◌, ◌+◌, get_or, arith}
-use Rattle.pf_trie.proofs.Indexes.{to_next}
+use Rattle.pf_trie.proofs.Indexes.{to_next, to_end}
 use Rattle.pf_trie.proofs.indexed.bounds.Goals as goal
 
 pub returns-then-before-next-lt255-clause-between : goal.returns-then-before-next-lt255-clause-between
@@ -12,3 +12,11 @@ returns-then-before-next-lt255-clause-between c = λ order.
     to_next c.args.shift c.args.address c.args.rows.now order c.requires.alike c.args.before.now c.from-low.result c.from.result c.requires.index
     (omega (arith, digit, below)) (low ∙ ap (λ d. get_or c.args.before.now d 0) digit) (high ∙ ap (λ d. get_or c.args.before.now (d + 1) 0) digit)
     (omega (arith, high, small))
+
+pub returns-clause-between : goal.returns-clause-between
+returns-clause-between c = λ order.
+    let digit = c.digit_of-digit.ensures.value in
+    let within = c.digit_of-digit.ensures.within in
+    let low = c.from-low.ensures in
+    to_end c.args.shift c.args.address c.args.rows.now order c.requires.alike c.args.before.now c.from-low.result c.len.result c.requires.index
+    (omega (arith, digit, within)) (low ∙ ap (λ d. get_or c.args.before.now d 0) digit) c.len.ensures

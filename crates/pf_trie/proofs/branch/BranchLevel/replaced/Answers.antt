@@ -22,10 +22,9 @@ returns-in_ok-new-in-Some g c = λ s lt is.
     (sym c.in_ok-new-in-Some.ensures.ok)
     (fork_above g.T.Level.holds (with_sign s p c.args.sign) top at p.address c.in_ok-fork-in-Some.fork whole (c.in_ok-fork-in-Some.ensures s less own))
 
-pub returns-in_ok-rows-in-None : goal.returns-in_ok-rows-in-None
-returns-in_ok-rows-in-None g c = IfOk-weaker c.of_rows.result _ _ (λ branch divided s lt is.
+pub returns-in_ok-page-in-None : goal.returns-in_ok-page-in-None
+returns-in_ok-page-in-None g c = IfOk-weaker c.of_any_page.result _ _ (λ branch made s lt is.
     let p = c.args.prefix in
     let front = p.address / 2 ^ c.args.top in
     let held : AreRows s c.args.top front c.args.self.page = rw c.in-None.is at is in
-    let rows = subst (λ (v : List Row). AreRows s c.args.top front v) (sym c.in_ok-own_rows-in-None.ensures) held in
-    divided (with_sign s p c.args.sign) (c.in_ok-rows-in-None.ensures s c.args.top front rows lt refl)) c.of_rows.ensures
+    made (with_sign s p c.args.sign) (c.in_ok-page-in-None.ensures s c.args.top front held lt refl)) c.of_any_page.ensures

@@ -1,0 +1,163 @@
+//! Rows in order: which is at an address, and what edits leave.
+ghost use Rattle.std.specs.Prelude.{◌≡◌, ℕ, ◌/◌, ◌^◌, ◌<◌, ◌≤◌, ◌==◌, length, filter, map, Some, None, IfOk};
+ghost use Rattle.pf_trie.specs.Prefixes.{AllSigns, with_sign};
+ghost use Rattle.pf_trie.specs.Rows.{HasSigns, IsInOrder, AreRows, AreRowsWith, IsUpTo, IsBetween, MarksEach, cut_row};
+
+use crate::prefix::{Prefix, apart};
+use crate::row_list::RowList;
+use crate::rows::Row;
+use crate::signs::Signs;
+use std::alloc::{AllocError, Global};
+
+/// How many rows are at an address or before it, where they end between two places. What is left to look at is halved at each step.
+pub(crate) fn up_to_between(rows: &RowList, address: u128, from: usize, to: usize) -> usize
+    requires from { from ≤ length rows.now }
+    requires to { to ≤ length rows.now }
+    ensures within { result ≤ length rows.now }
+    ensures place { IsBetween rows.now address from to → IsUpTo rows.now address result }
+{
+    let mut low = from;
+    let mut high = to;
+    'halving: while low < high {
+        let middle = low + (high - low) / 2;
+        if rows.at(middle).first <= address {
+            low = middle + 1;
+        } else {
+            high = middle;
+        }
+    }
+    low
+}
+
+// How many rows are at an address or before it.
+fn up_to(rows: &RowList, address: u128) -> usize
+    ensures { IsUpTo rows.now address result }
+{
+    up_to_between(rows, address, 0, rows.len())
+}
+
+/// The signs of an address's prefixes, by the last row that isn't past it, of so many rows that aren't. Each prefix that has a sign and contains
+/// the address contains the row's address too: it begins at a row, and no row lies between the two.
+pub(crate) fn signs_by(rows: &RowList, place: usize, address: u128) -> Signs
+    requires { place ≤ length rows.now }
+    ensures { (s : AllSigns) (top front : ℕ) → IsUpTo rows.now address place → AreRows s top front rows.now → address / 2 ^ top ≡ front → HasSigns s 0 top address result }
+{
+    if place == 0 {
+        return Signs::none();
+    }
+    let row = rows.at(place - 1);
+    row.signs.from(apart(row.first, address))
+}
+
+/// The signs of an address's prefixes. It takes no memory.
+pub(crate) fn signs_at(rows: &RowList, address: u128) -> Signs
+    ensures { (s : AllSigns) (top front : ℕ) → AreRows s top front rows.now → address / 2 ^ top ≡ front → HasSigns s 0 top address result }
+{
+    signs_by(rows, up_to(rows, address), address)
+}
+
+// Rows with one at this address. `AllocError`: nothing is left of them.
+fn with_row(alloc: Global, rows: RowList, address: u128) -> Result<RowList, AllocError>
+    ensures { IfOk result (λ v. (s : AllSigns) (top front : ℕ) → AreRows s top front rows → address / 2 ^ top ≡ front → AreRowsWith s top front address v) }
+{
+    let place = up_to(&rows, address);
+    if place > 0 && rows.at(place - 1).first == address {
+        return Ok(rows);
+    }
+    let row = Row {
+        first: address,
+        signs: signs_by(&rows, place, address),
+    };
+    rows.insert(alloc, place, row)
+}
+
+// The rows with a prefix's sign replaced in all that it contains. `AllocError`: nothing is left of them.
+fn mark(
+    alloc: Global,
+    mut rows: RowList,
+    prefix: Prefix,
+    sign: Option<bool>,
+) -> Result<RowList, AllocError>
+    requires { prefix.free < 128 }
+    ensures { IfOk result (λ v. IsInOrder rows → MarksEach prefix sign rows v) }
+{
+    let from = up_to(&rows, prefix.first()).saturating_sub(1);
+    let to = up_to(&rows, prefix.last());
+    for place in from..to {
+        let row = rows.at(place).marked(prefix, sign);
+        rows = rows.set(alloc, place, row)?;
+    }
+    Ok(rows)
+}
+
+// The rows without the last one that isn't past an address, if no prefix that has a sign begins there.
+fn clear(rows: RowList, address: u128) -> RowList
+    ensures { (s : AllSigns) (top front : ℕ) → AreRows s top front rows → AreRows s top front result }
+{
+    let place = up_to(&rows, address);
+    if place > 0 && !rows.at(place - 1).is_start() {
+        return rows.remove(place - 1);
+    }
+    rows
+}
+
+/// Rows with a sign at a prefix. `AllocError`: nothing is left of them.
+pub(crate) fn with_sign(
+    alloc: Global,
+    rows: RowList,
+    prefix: Prefix,
+    sign: bool,
+) -> Result<RowList, AllocError>
+    requires { prefix.free < 128 }
+    ensures { IfOk result (λ v. (s : AllSigns) (top front : ℕ) → AreRows s top front rows → prefix.free < top → prefix.address / 2 ^ top ≡ front → AreRows (with_sign s prefix (Some sign)) top front v) }
+{
+    let rows = with_row(alloc, rows, prefix.first())?;
+    mark(alloc, rows, prefix, Some(sign))
+}
+
+// Rows with no sign at a prefix. `AllocError`: nothing is left of them.
+fn without_sign(alloc: Global, rows: RowList, prefix: Prefix) -> Result<RowList, AllocError>
+    requires { prefix.free < 128 }
+    ensures { IfOk result (λ v. (s : AllSigns) (top front : ℕ) → AreRows s top front rows → prefix.free < top → prefix.address / 2 ^ top ≡ front → AreRows (with_sign s prefix None) top front v) }
+{
+    let marked = mark(alloc, rows, prefix, None)?;
+    Ok(clear(marked, prefix.first()))
+}
+
+/// The rows with the sign at a prefix replaced, or taken out. `AllocError`: nothing is left of them.
+pub(crate) fn edited(
+    alloc: Global,
+    rows: RowList,
+    prefix: Prefix,
+    sign: Option<bool>,
+) -> Result<RowList, AllocError>
+    requires { prefix.free < 128 }
+    ensures { IfOk result (λ v. (s : AllSigns) (top front : ℕ) → AreRows s top front rows → prefix.free < top → prefix.address / 2 ^ top ≡ front → AreRows (with_sign s prefix sign) top front v) }
+{
+    match sign {
+        Some(sign) => with_sign(alloc, rows, prefix, sign),
+        None => without_sign(alloc, rows, prefix),
+    }
+}
+
+/// Of rows those whose addresses begin with `front` before the last `at` bits, with the signs of the prefixes that leave fewer bits free.
+/// `AllocError`: nothing is made.
+pub(crate) fn rows_within(
+    alloc: Global,
+    rows: &RowList,
+    at: u8,
+    front: u128,
+) -> Result<RowList, AllocError>
+    requires { at < 128 }
+    ensures { IfOk result (λ v. v ≡ map (cut_row at) (filter (λ r. r.first / 2 ^ at == front) rows.now)) }
+{
+    let mut within = RowList::none(alloc);
+    for place in 0..rows.len() {
+        let row = rows.at(place);
+        if row.first >> at == front {
+            let end = within.len();
+            within = within.insert(alloc, end, row.cut(at))?;
+        }
+    }
+    Ok(within)
+}
