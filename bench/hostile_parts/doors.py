@@ -38,7 +38,7 @@ WRONG = ("frob", "tadd", "commit filter - x", "track 1", "peer zz", "judged", "L
 QUESTIONS = (
     ("test - t 10.0.0.1", "match 10.0.0.0/8"), ("test - u 10.0.0.1", "nomatch"), ("judge in em0 tcp 10.9.9.1 5 10.0.0.2 80", "pass rule 0"),
     ("log", "log 10 acked 10 shown 10"), ("sum", "886e234b9265e355a4e6de823beba1c2"), ("judge", "err word 1"), ("show", "err word 1"),
-    ("test - t", "err word 3"), ("sum x", "err word 1"), ("show status x", "err word 2"),
+    ("test - t", "err word 3"), ("sum x", "err word 1"), ("show status x", "err word 2"), ("show anchors", "err word 2"), ("show anchors web", "end 0"),
     ("show status", f"epoch 1 changes 10 tick 5 rulesets 1 tables 1 states 1 held 444 of {SIZE // 2} sessions 3"), ("log \x01", "err line"), ("judge " + "x" * 5000, "err line"),
 )
 

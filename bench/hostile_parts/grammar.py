@@ -409,8 +409,8 @@ def message(words):
 
 
 def show(words):
-    what = words.known({word: word for word in ("rules", "tables", "states", "status")})
-    return (what, path(words)) if what in ("rules", "tables") else (what,)
+    what = words.known({word: word for word in ("rules", "tables", "anchors", "states", "status")})
+    return (what, path(words)) if what in ("rules", "tables", "anchors") else (what,)
 
 
 SHAPES = {

@@ -550,6 +550,9 @@ class Session:
         elif what == "tables":
             tables = sorted((name, rows) for (at, name), rows in self.held.tables.items() if at == path)
             lines = [" ".join([name.decode(), *(entry_text(*row) for row in sorted(rows.items()))]) for name, rows in tables]
+        elif what == "anchors":
+            front = path + b"/" if path else b""
+            lines = [at.decode() for at in sorted(self.held.rulesets) if at and at.startswith(front) and b"/" not in at[len(front) :]]
         else:
             lines = [state_text(*state) for state in sorted(self.held.states.items())]
         return [*lines, f"end {len(lines)}"]

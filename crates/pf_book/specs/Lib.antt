@@ -4,6 +4,7 @@ pub mod Groups
 pub mod Pairs
 pub mod Receipts
 pub mod Statuses
+pub mod Anchors
 pub mod Together
 -- what public clauses cite of the crates below
 pub use Rattle.pf_disk.specs.Disk

@@ -11,13 +11,14 @@
 //! - `chapter`: [`Chapter`], the name of an opening, as a type. [`Numbering`] names the register in which a shared Book's callers are numbered.
 //! - `receipt`: [`Receipt`], what a caller gets with a reply.
 //! - `status`: [`BookStatus`], what a Book says of itself.
+//! - `anchors`: which anchors a Book has below a path.
 //! - `worker`: what a worker does with a receipt: [`learn_from`] and [`judge_after`].
 //! - `shared`: a Book under a lock, which callers use in turn; commands of several callers that wait are run in one group. [`Shared`] is the
 //!   one over a [`Shower`].
 //! - `laws`: what follows for receipts, and for openings after crashes.
 //!
-//! Read `specs/Books.antt` first: what contracts see of a Book; then `specs/Receipts.antt`, `specs/Groups.antt`, `specs/Together.antt` and
-//! `specs/Statuses.antt`.
+//! Read `specs/Books.antt` first: what contracts see of a Book; then `specs/Receipts.antt`, `specs/Groups.antt`, `specs/Together.antt`,
+//! `specs/Statuses.antt` and `specs/Anchors.antt`.
 //! Contracts say what a Book does in the words of `pf_core`'s worlds.
 //!
 //! Proved, by public contracts: every reply is legal, and the Book stands for the world with the call at its end; at each moment of a call
@@ -32,6 +33,7 @@
 //! [`Store`] for its `peek`.
 #![tactic(auto)]
 
+mod anchors;
 pub mod book;
 mod chapter;
 mod course;

@@ -2,7 +2,7 @@
 ghost use Rattle.std.specs.{Option.option_copied, Prelude.{◌≡◌, ℕ, List, Option, nat_lt}};
 ghost use Rattle.pf_disk.specs.Disk.{EachMoment, IsImage};
 ghost use Rattle.pf_core.specs.{Calls.call, WorldBooks.{IsAt, Leads, LeadsGroup}, Worlds.{CurrentOpening, idle, calling, grouping, upshot}};
-ghost use Rattle.pf_book.specs.{Books.{HoldsLeft, IsOpenable, StaysOpenable, StaysUnlessAnyKept, StaysUnlessKept, world_book}, Groups.{IsGroupAnswered, replies_of, told}, Receipts.{IsReached, IsAnswered, TakesUp, PlainReceipt}, Statuses.SaysStatus, Together.IsAnsweredTogether};
+ghost use Rattle.pf_book.specs.{Anchors.{SaysAnchors, listed_in}, Books.{HoldsLeft, IsOpenable, StaysOpenable, StaysUnlessAnyKept, StaysUnlessKept, world_book}, Groups.{IsGroupAnswered, replies_of, told}, Receipts.{IsReached, IsAnswered, TakesUp, PlainReceipt}, Statuses.SaysStatus, Together.IsAnsweredTogether};
 
 mod together;
 
@@ -10,10 +10,12 @@ use crate::book::Book;
 use crate::chapter::Chapter;
 use crate::receipt::Receipt;
 use crate::status::BookStatus;
+use pf_anchor::Path;
 use pf_core::{Command, Refusal, Reply};
 use pf_disk::Disk;
 use pf_queue::{Numbering, Queue};
 use pf_view::Publisher;
+use std::alloc::AllocError;
 use std::marker::Model;
 use std::sync::Wait;
 use together::Asked;
@@ -94,6 +96,19 @@ impl<D: Disk + Drop, J: Chapter, S: Publisher<J> + Drop> Locked<D, J, S> {
     {
         self.book.look_at(last);
         self.book.status()
+    }
+
+    // Which anchors the Book has below a path.
+    fn anchors_below(
+        &mut self,
+        path: &Path,
+        last: Option<&Receipt<J>>,
+    ) -> Result<Vec<Path>, AllocError>
+        ensures says { SaysAnchors J.base J.setting path.now (listed_in result) (option_copied last.entry) }
+        ensures same { self.new ≡ self.old }
+    {
+        self.book.look_at(last);
+        self.book.anchors_below(path)
     }
 }
 
@@ -190,6 +205,25 @@ impl<D: Disk + Drop, J: Chapter + Numbering, S: Publisher<J> + Drop> Shared<D, J
         let status = self.queue.value(rt).status(last);
         self.queue.end(rt, turn);
         status
+    }
+
+    /// The anchors directly below a path, as [`Book::anchors_below`](crate::book::Book::anchors_below). It waits for its turn, and calls
+    /// nothing of the device. `AllocError`: nothing is made.
+    ///
+    /// The Book stands for some world of this opening, and its history begins with the front of a receipt that is handed in; that receipt's
+    /// change, if it has one, is acknowledged there.
+    pub fn anchors_below<W: Wait>(
+        &self,
+        rt: &W,
+        path: &Path,
+        last: Option<&Receipt<J>>,
+    ) -> Result<Vec<Path>, AllocError>
+        ensures { SaysAnchors J.base J.setting path.now (listed_in result) (option_copied last.entry) }
+    {
+        let turn = self.queue.come(rt);
+        let listed = self.queue.value(rt).anchors_below(path, last);
+        self.queue.end(rt, turn);
+        listed
     }
 
     /// The Book, once all callers have ended. It confirms each receipt of this opening. As after each call of `Book::run`, each image of

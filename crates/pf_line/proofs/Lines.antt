@@ -14,7 +14,7 @@ use Rattle.pf_core.specs.declared.reply.Refusal.{Refusal}
 use Rattle.pf_core.specs.declared.reply.Refusal.TheVariants as refusals
 use Rattle.pf_line.specs.declared.request.Request.{Request}
 use Rattle.pf_line.specs.Grammar as grammar
-use Rattle.pf_line.specs.{Grammar.{Spoken, Says, Tells, AsksStatus, decided}, Lines.{is_line_byte, is_bad_line, is_comment, no_command, is_silent, refusal_at, said, said_by, line_at, peer_command, Means, SpellsLine, IsRequest, Parses, Speaks, Refused, Answers}}
+use Rattle.pf_line.specs.{Grammar.{Spoken, Says, Tells, AsksStatus, AsksAnchors, decided}, Lines.{is_line_byte, is_bad_line, is_comment, no_command, is_silent, refusal_at, said, said_by, line_at, peer_command, Means, SpellsLine, IsRequest, Parses, Speaks, Refused, Answers}}
 use Rattle.std.proofs.Math.Bool.{or-true}
 
 -- ---- words that spell a line are no comment
@@ -81,6 +81,7 @@ one_meaning (Ok (Some (Says (Ok c)))) r s h i = h ∙ sym i
 one_meaning (Ok (Some (Says (Err mistake)))) r s h i = h ∙ sym i
 one_meaning (Ok (Some (Tells bytes))) r s (m, is, h) (n, js, i) = h ∙ ap peer_command (one_answer bytes m n is js) ∙ sym i
 one_meaning (Ok (Some AsksStatus)) r s h i = h ∙ sym i
+one_meaning (Ok (Some (AsksAnchors path))) r s h i = h ∙ sym i
 one_meaning (Err e) r s h i = h ∙ sym i
 
 abbrev IsSpelledBy : List Word → Answer → Type 0
@@ -95,6 +96,7 @@ said_found ws (Ok (Tells bytes)) r e (one, is, h) = rw h (by one is) where
   by (Err (Fault f)) is = tt
   by (Err Count) is = tt
 said_found ws (Ok AsksStatus) r e h = rw h (AsksStatus, found Spoken grammar.line decided ws AsksStatus e, refl)
+said_found ws (Ok (AsksAnchors path)) r e h = rw h (AsksAnchors path, found Spoken grammar.line decided ws (AsksAnchors path) e, refl)
 said_found ws (Err d) r e h = rw h tt
 
 pub is_found : (line : List ℕ) (r : Answer) → Answers line r → IsSpelledBy (words_of line) r
@@ -135,6 +137,7 @@ said_refused line s (Ok (Tells bytes)) r e (one, is, h) = rw h (by one is) where
   by (Err (Fault f)) is = (s, (bytes, found Spoken grammar.line decided (words_of line) (Tells bytes) e, is))
   by (Err Count) is = (s, (bytes, found Spoken grammar.line decided (words_of line) (Tells bytes) e, is))
 said_refused line s (Ok AsksStatus) r e h = rw h tt
+said_refused line s (Ok (AsksAnchors path)) r e h = rw h tt
 said_refused line s (Err (k, rest)) r e h = rw h (at_place line k (length (words_of line) - length rest) s (refused Spoken grammar.line decided (words_of line) k rest e))
 
 pub is_refused : (line : List ℕ) (r : Answer) → Answers line r → Fails line r

@@ -38,6 +38,13 @@ one_more_line q s t old mid more new ls l p w e =
       count = rw (last_added ls l) (omega (arith, whole.count, length-append ls (l ∷ [])));
     }
 
+-- ---- paths
+
+pub one_more_path : (q s t : Result (Unit {0}) Error) (old mid more new : Option (List ℕ)) (ps : List (List ℕ)) (i : ℕ) (p : List ℕ) → i < length ps → p ≡ get_or ps i p → WroteLines q old mid (take i ps) → GoesOn q mid s more p → Continues s more t new (10 ∷ []) → WroteLines t old new (take (i + 1) ps)
+one_more_path q s t old mid more new ps i p lt is before w e =
+    let more_paths : take (i + 1) ps ≡ take i ps ++ p ∷ [] = take_more ps i p lt ∙ ap (λ (x : List ℕ). take i ps ++ x ∷ []) (sym is) in
+    subst (WroteLines t old new) (sym more_paths) (one_more_line q s t old mid more new (take i ps) p before w e)
+
 -- ---- rules
 
 last_rule : (n : ℕ) (rs : List PlainRule) (r : PlainRule) → rule_lines n (rs ++ r ∷ []) ≡ rule_lines n rs ++ rule_line (n + length rs) r ∷ []

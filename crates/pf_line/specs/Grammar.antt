@@ -237,10 +237,12 @@ pub data Spoken : Type 0 where
   Tells : List ℕ → Spoken
   -- to show the status
   AsksStatus : Spoken
+  -- to show the anchors directly below this path
+  AsksAnchors : List ℕ → Spoken
 
--- "status" | what of what is kept is shown
+-- "status" | "anchors" PATH | what of what is kept is shown
 unfoldable pub showing : Form Spoken
-showing = or (codes "status") (nothing AsksStatus) (making Says shown)
+showing = or (codes "status") (nothing AsksStatus) (or (codes "anchors") (making AsksAnchors path) (making Says shown))
 
 -- "peer" HEX | "show" what is shown | a command that its words spell whole
 abbrev pub line : Form Spoken

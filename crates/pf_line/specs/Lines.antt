@@ -11,9 +11,9 @@ use Rattle.pf_rule.specs.declared.fault.Mistake.TheVariants as mistakes
 use Rattle.pf_state.specs.declared.{peer.fault.OneFault.OneFault, peer.fault.OneFault.TheVariants.{Fault, Count}, peer.message.Message.Message}
 use Rattle.pf_state.specs.Peer.One.{IsOne}
 use Rattle.pf_core.specs.declared.{command.Command.TheVariants.{States, Ask}, command.Question.TheVariants.Judge, command.StateCommand.TheVariants.Peer, reply.Refusal.Refusal, reply.Refusal.TheVariants.{BadLine, BadWord, NameTooLong, BadProto, MixedFamily, PortNeedsProto, BadPeer, PeerCount, Memory}}
-use Rattle.pf_line.specs.declared.{line.TheConstants.LINE_LIMIT, request.Request.Request, request.Request.TheVariants.{Run, ShowStatus}}
+use Rattle.pf_line.specs.declared.{line.TheConstants.LINE_LIMIT, request.Request.Request, request.Request.TheVariants.{Run, ShowStatus, ShowAnchors}}
 use Rattle.pf_line.specs.Grammar as grammar
-use Rattle.pf_line.specs.Grammar.{Spoken, Says, Tells, AsksStatus}
+use Rattle.pf_line.specs.Grammar.{Spoken, Says, Tells, AsksStatus, AsksAnchors}
 
 -- a printable byte of ASCII (a space among them), a tab or a carriage return
 abbrev pub is_line_byte : ℕ → Bool
@@ -80,6 +80,7 @@ Means (Ok (Some (Says (Ok c)))) r = r ≡ Ok (Some (Run c))
 Means (Ok (Some (Says (Err mistake)))) r = r ≡ Err (refusal_for mistake)
 Means (Ok (Some (Tells bytes))) r = (one : Result Message OneFault) × IsOne bytes one × (r ≡ peer_command one)
 Means (Ok (Some AsksStatus)) r = r ≡ Ok (Some ShowStatus)
+Means (Ok (Some (AsksAnchors path))) r = r ≡ Ok (Some (ShowAnchors path))
 Means (Err e) r = r ≡ Err e
 
 -- the answer to a line that asks what happens to a packet: the command, or why it is refused

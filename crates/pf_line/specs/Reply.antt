@@ -3,3 +3,4 @@ pub mod Texts
 pub mod StateTexts
 pub mod Replies
 pub mod StatusTexts
+pub mod AnchorTexts

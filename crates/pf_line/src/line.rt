@@ -2,12 +2,13 @@
 ghost use Rattle.std.specs.{Prelude.{◌≡◌, ◌-◌, ◌≤◌, ℕ, not, true, false, Some, None, Ok, Err, IfOk, IfErr, IfSome, length}, List.{list_all, find}};
 ghost use Rattle.pf_form.specs.{Form.Forms.{making, nothing, read_all}, Form.Words.{is_blank, words_of, texts}};
 ghost use Rattle.pf_core.specs.declared.reply.Refusal.TheVariants.{BadLine};
-ghost use Rattle.pf_line.specs.{declared.request.Request.Request, Grammar.{Says, Tells, AsksStatus, hex, shown, showing, command, line as the_grammar}, Lines.{is_line_byte, is_bad_line, is_silent, line_at, said_by, refusal_at, refusal_for, said, refusal_of, SpellsLine, IsRequest, Parses, Answers, Refused}};
+ghost use Rattle.pf_line.specs.{declared.request.Request.Request, Grammar.{Says, Tells, AsksStatus, AsksAnchors, hex, path, shown, showing, command, line as the_grammar}, Lines.{is_line_byte, is_bad_line, is_silent, line_at, said_by, refusal_at, refusal_for, said, refusal_of, SpellsLine, IsRequest, Parses, Answers, Refused}};
 
 use crate::commands::{command, show};
 use crate::cut::{CutFault, cut, cut_list, line_byte};
 use crate::request::Request;
 use crate::state::read_bytes;
+use crate::words::only_path;
 use pf_core::{Command, Refusal, StateCommand};
 use pf_form::form::{Kind, Unread, Words, end, is_blank, takes};
 use pf_rule::Mistake;
@@ -226,6 +227,9 @@ fn parse_show<'a>(words: Words<'a>, count: usize) -> Result<Option<Request>, Ref
     if takes(&mut rest, b"status") {
         return parse_status(rest, count);
     }
+    if takes(&mut rest, b"anchors") {
+        return parse_anchors(rest, count);
+    }
     parse_shown(rest, count)
 }
 
@@ -235,6 +239,17 @@ fn parse_status(words: &[&[u8]], count: usize) -> Result<Option<Request>, Refusa
 {
     match end(words) {
         Ok(()) => Ok(Some(Request::ShowStatus)),
+        Err(stop) => Err(refusal(Unread::Stopped(stop), count)),
+    }
+}
+
+/// That the anchors below a path are to be shown, which is the only word.
+#[tactic(auto, using(crate::proofs::Lines::made_ok, crate::proofs::Lines::made_stopped))]
+fn parse_anchors<'a>(words: Words<'a>, count: usize) -> Result<Option<Request>, Refusal>
+    ensures { Parses result (said count (read_all (making AsksAnchors path) (texts words.now))) }
+{
+    match only_path(words) {
+        Ok(path) => Ok(Some(Request::ShowAnchors(path))),
         Err(stop) => Err(refusal(Unread::Stopped(stop), count)),
     }
 }

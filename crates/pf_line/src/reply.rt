@@ -1,5 +1,6 @@
 //! Replies: how a client is answered.
 
+mod anchors;
 mod answer;
 mod entry;
 mod part;
@@ -11,5 +12,6 @@ mod status;
 mod ticket;
 mod verdict;
 
+pub use anchors::write_anchors;
 pub use reply::{write_judged, write_reply};
 pub use status::{Status, write_status};

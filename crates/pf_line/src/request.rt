@@ -1,4 +1,5 @@
 //! What a line asks.
+use pf_anchor::Path;
 use pf_core::Command;
 
 /// What a line asks of a server.
@@ -8,4 +9,6 @@ pub enum Request {
     Run(Command),
     /// To show the [`Status`](crate::Status).
     ShowStatus,
+    /// To show the anchors directly below this path.
+    ShowAnchors(Path),
 }

@@ -1,5 +1,5 @@
 //! Reading the words that stand for values, each from the front of the words left.
-ghost use Rattle.pf_form.specs.Form.Readers.{Moves};
+ghost use Rattle.pf_form.specs.Form.Readers.{Moves, ReadsWhole};
 ghost use Rattle.pf_line.specs.Grammar.{kind, path, ticket_text, table_name, row, name, entry, table, offered_table, id, tick, until, creator, state};
 
 use crate::entries::entry_of;
@@ -7,7 +7,7 @@ use crate::state::{read_creator, read_id};
 use crate::ticket::read_ticket;
 use pf_addr::path::TableName;
 use pf_anchor::Path;
-use pf_form::form::{Stop, Words, expect, takes};
+use pf_form::form::{Stop, Words, end, expect, takes};
 use pf_rule::take_word;
 use pf_state::StateName;
 use pf_ticket::{RulesetKind, RulesetName, RulesetTicket, Ticket};
@@ -26,6 +26,16 @@ pub(crate) fn path_word<'a>(words: &mut Words<'a>) -> Result<Path, Stop>
     ensures { Moves path result words.old.now words.new.now }
 {
     take_word!(words, word => Path::from_ascii(word))
+}
+
+/// A path, if it is the only word.
+pub(crate) fn only_path<'a>(words: Words<'a>) -> Result<Path, Stop>
+    ensures { ReadsWhole (λ x. x) path result words.now }
+{
+    let mut rest = words;
+    let path = path_word(&mut rest)?;
+    end(rest)?;
+    Ok(path)
 }
 
 pub(crate) fn ticket_word<'a>(words: &mut Words<'a>) -> Result<Ticket, Stop>

@@ -1,17 +1,20 @@
--- What a server is asked for all that it has (pfctl(8), -s rules, -s Tables and -a): for the rules and tables at some paths.
-use Rattle.std.specs.{Prelude.{ℕ, Bool, true, false, List, Option, Result}, List.flat_map}
+-- What a server is asked for all that it has (pfctl(8), -s rules, -s Tables, -s Anchors and -a): for the rules and tables at some paths, and
+-- for the anchors below some.
+use Rattle.std.specs.{Prelude.{ℕ, List, Option, Result, codes}, List.flat_map}
 use Rattle.pf_addr.specs.Writing.{Writes}
 use Rattle.pf_form.specs.Form.Words.{Word}
 use Rattle.pf_load.specs.Changes.{question, tables_question}
-use Rattle.std.specs.Prelude.{codes}
 
--- whether tables are asked for, or rules, and at which path
-abbrev pub Asked : Type 0
-Asked = Bool × Word
+-- what is asked for, and at which path
+pub data Asked : Type 0 where
+  Rules : Word → Asked
+  Tables : Word → Asked
+  Anchors : Word → Asked
 
 abbrev pub asked_text : Asked → Word
-asked_text (true, path) = tables_question path
-asked_text (false, path) = question (codes "show rules ") path
+asked_text (Rules path) = question (codes "show rules ") path
+asked_text (Tables path) = tables_question path
+asked_text (Anchors path) = question (codes "show anchors ") path
 
 -- Nothing but such questions was sent, the last one perhaps in part if it went wrong.
 pub record AsksOnly {A E : Type 0} (r : Result A E) (old new : Option (List ℕ)) : Type 0 where

@@ -12,8 +12,8 @@ pub enum Fault {
     /// The server refused this line with this reply.
     #[error("{line} -> {reply}")]
     Refused { line: Bytes, reply: Bytes },
-    /// An anchor rule leads to all rulesets within this path, whose names a server doesn't show.
-    #[error("anchor \"{0}/*\": a server doesn't show the names of rulesets")]
+    /// An anchor rule leads to all rulesets within this path, and the server, an older one, doesn't show their names.
+    #[error("anchor \"{0}/*\": the server doesn't show the names of rulesets")]
     Wild(Bytes),
     /// The server ended before it had answered, or what it sent is no reply.
     #[error("pfd: output")]
@@ -35,11 +35,19 @@ impl Fault {
         }
     }
 
-    /// The fault of a reference to all rulesets within the path of these names.
-    pub(crate) fn wild(alloc: Global, names: &[u8]) -> Fault {
-        match Items::copied(alloc, names) {
-            Ok(names) => Fault::Wild(names),
+    /// The fault of a reference to all rulesets within this path.
+    pub(crate) fn wild(alloc: Global, path: &[u8]) -> Fault {
+        match Items::copied(alloc, path) {
+            Ok(path) => Fault::Wild(path),
             Err(_) => Fault::Memory,
+        }
+    }
+
+    /// Whether the server has no line that begins with the first word alone.
+    pub(crate) fn is_of_unknown_line(&self) -> bool {
+        match self {
+            Fault::Refused { reply, .. } => reply.as_slice() == b"err word 1".as_slice(),
+            _ => false,
         }
     }
 

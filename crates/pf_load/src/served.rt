@@ -51,56 +51,92 @@ fn table_in(alloc: Global, path: &Path, line: &[u8]) -> Result<FilledTable, Faul
     })
 }
 
-/// The path that an anchor rule at this path leads to, if it leads to one.
-fn target_of(alloc: Global, path: &Path, reference: &Reference) -> Result<Option<Path>, Fault> {
-    if reference.is_wildcard() {
-        return Err(Fault::wild(alloc, reference.names()));
+/// The path of a line that shows an anchor below this path.
+fn anchor_in(path: &Path, line: &[u8]) -> Result<Path, Fault> {
+    match Path::from_ascii(line) {
+        Ok(anchor) if anchor.is_child_of(path) => Ok(anchor),
+        _ => Err(Fault::Ended),
     }
-    Ok(path.joined(reference.names()))
+}
+
+/// What is asked of a server.
+#[derive(Drop)]
+enum Sought {
+    /// The rules and tables at this path.
+    At(Path),
+    /// The anchors directly below this path.
+    Below(Path),
+}
+
+impl Sought {
+    fn is_same(&self, other: &Sought) -> bool {
+        match (self, other) {
+            (Sought::At(one), Sought::At(another)) => one.same(another),
+            (Sought::Below(one), Sought::Below(another)) => one.same(another),
+            _ => false,
+        }
+    }
+
+    fn copied(&self) -> Sought {
+        match self {
+            Sought::At(path) => Sought::At(path.copied()),
+            Sought::Below(path) => Sought::Below(path.copied()),
+        }
+    }
+}
+
+/// What an anchor rule at this path leads to, if it leads to a path.
+fn target_of(path: &Path, reference: &Reference) -> Option<Sought> {
+    let target = path.joined(reference.names())?;
+    if reference.is_wildcard() {
+        Some(Sought::Below(target))
+    } else {
+        Some(Sought::At(target))
+    }
 }
 
 /// What is known of a server.
 #[derive(Drop)]
 struct Known {
-    /// The paths that are asked for, each once.
-    paths: Vec<Path>,
+    /// What is asked for, each once.
+    sought: Vec<Sought>,
     rulesets: Items<Ruleset>,
     tables: Items<FilledTable>,
 }
 
 impl Known {
-    /// Nothing, but that main's path is asked for.
+    /// Nothing, but that main's rules and tables are asked for.
     fn begun(alloc: Global) -> Result<Known, AllocError> {
-        let mut paths = Vec::new(alloc);
-        paths.push(Path::main())?;
+        let mut sought = Vec::new(alloc);
+        sought.push(Sought::At(Path::main()))?;
         Ok(Known {
-            paths,
+            sought,
             rulesets: Items::new(alloc),
             tables: Items::new(alloc),
         })
     }
 
-    /// The path with this number, if there are so many.
-    fn path_at(&self, number: usize) -> Option<Path> {
-        let path = self.paths.get(number)?;
-        Some(path.copied())
+    /// What is asked for with this number, if there is so much.
+    fn sought_at(&self, number: usize) -> Option<Sought> {
+        let sought = self.sought.get(number)?;
+        Some(sought.copied())
     }
 
-    /// Adds a path, if it isn't there.
-    fn add_path(&mut self, path: Path) -> Result<(), AllocError> {
-        if !self.paths.iter().any(|known| known.same(&path)) {
-            self.paths.push(path)?;
+    /// Adds what is to be asked for, if it isn't there.
+    fn seek(&mut self, target: Sought) -> Result<(), AllocError> {
+        if !self.sought.iter().any(|known| known.is_same(&target)) {
+            self.sought.push(target)?;
         }
         Ok(())
     }
 
-    /// Adds the rules at a path, and the paths that they lead to.
+    /// Adds the rules at a path, and what they lead to.
     fn add_rules(&mut self, alloc: Global, path: &Path, list: &[Bytes]) -> Result<(), Fault> {
         let rules = rules_in(alloc, list)?;
         for rule in rules.as_slice() {
             if let Effect::Evaluate(reference) = rule.is.effect() {
-                if let Some(target) = target_of(alloc, path, &reference)? {
-                    self.add_path(target)?;
+                if let Some(target) = target_of(path, &reference) {
+                    self.seek(target)?;
                 }
             }
         }
@@ -117,8 +153,16 @@ impl Known {
         Ok(())
     }
 
+    /// Adds the anchors below a path.
+    fn add_anchors(&mut self, path: &Path, list: &[Bytes]) -> Result<(), Fault> {
+        for line in list {
+            self.seek(Sought::At(anchor_in(path, line.as_slice())?))?;
+        }
+        Ok(())
+    }
+
     /// Asks for the rules and then for the tables at a path, and adds them.
-    fn ask<B: BufRead, W: Write>(
+    fn ask_at<B: BufRead, W: Write>(
         &mut self,
         alloc: Global,
         server: &mut W,
@@ -132,15 +176,48 @@ impl Known {
         let tables = ask_list(alloc, server, replies, b"show tables ", path)?;
         self.add_tables(alloc, path, &tables)
     }
+
+    /// Asks for the anchors below a path, and adds them.
+    fn ask_below<B: BufRead, W: Write>(
+        &mut self,
+        alloc: Global,
+        server: &mut W,
+        replies: &mut B,
+        path: &Path,
+    ) -> Result<(), Fault>
+        ensures { AsksOnly result (W.contents server.old) (W.contents server.new) }
+    {
+        match ask_list(alloc, server, replies, b"show anchors ", path) {
+            Ok(anchors) => self.add_anchors(path, &anchors),
+            Err(fault) if fault.is_of_unknown_line() => Err(Fault::wild(alloc, path.as_bytes())),
+            Err(fault) => Err(fault),
+        }
+    }
+
+    /// Asks for what is sought, and adds it.
+    fn ask<B: BufRead, W: Write>(
+        &mut self,
+        alloc: Global,
+        server: &mut W,
+        replies: &mut B,
+        sought: &Sought,
+    ) -> Result<(), Fault>
+        ensures { AsksOnly result (W.contents server.old) (W.contents server.new) }
+    {
+        match sought {
+            Sought::At(path) => self.ask_at(alloc, server, replies, path),
+            Sought::Below(path) => self.ask_below(alloc, server, replies, path),
+        }
+    }
 }
 
 /// What a server has: the rules and tables of main, and of each path that anchor rules lead to from there. Rules stand in no file.
 ///
-/// The server isn't asked to change anything: nothing is sent but `show rules PATH` and `show tables PATH`. What is changed there meanwhile
-/// may be seen in part.
+/// The server isn't asked to change anything: nothing is sent but `show rules PATH`, `show tables PATH` and `show anchors PATH`. What is
+/// changed there meanwhile may be seen in part.
 ///
-/// The faults are those of [`load`](crate::load). `Fault::Wild`: an anchor rule leads to all rulesets within a path, whose names no line
-/// shows.
+/// The faults are those of [`load`](crate::load). `Fault::Wild`: an anchor rule leads to all rulesets within a path, and the server knows no
+/// line that shows their names.
 pub fn served_conf<B: BufRead, W: Write>(
     alloc: Global,
     server: &mut W,
@@ -150,10 +227,10 @@ pub fn served_conf<B: BufRead, W: Write>(
 {
     let mut known = Known::begun(alloc)?;
     for number in 0..usize::MAX {
-        let Some(path) = known.path_at(number) else {
+        let Some(sought) = known.sought_at(number) else {
             break;
         };
-        known.ask(alloc, server, replies, &path)?;
+        known.ask(alloc, server, replies, &sought)?;
     }
     let Known {
         rulesets,

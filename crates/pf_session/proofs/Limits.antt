@@ -1,7 +1,7 @@
 -- A session keeps within what its opening was given.
 use Rattle.std.proofs.Common.{◌≡◌, ℕ, List, Option, Result, Ok, Err, inl, inr, ap, ◌∙◌}
 use Rattle.pf_book.specs.Books.{PlainBook, world_book}
-use Rattle.pf_line.specs.declared.{request.Request.Request, request.Request.TheVariants.{Run, ShowStatus}}
+use Rattle.pf_line.specs.declared.{request.Request.Request, request.Request.TheVariants.{Run, ShowStatus, ShowAnchors}}
 use Rattle.pf_session.specs.declared.line_engine.fault.EngineFault.{EngineFault}
 use Rattle.pf_session.specs.declared.line_engine.fault.EngineFault.TheVariants as fault
 use Rattle.pf_session.specs.{LineEngine.Sessions.{Answered, CutOff, SessionEnds}, Serving.{CallsOrShows, Serves}, Telling.IsToldBy}
@@ -17,6 +17,7 @@ module _ {D : Type 0} (faults : D → ℕ) where
   request-keeps : (q : Request) (a b : PlainBook D) (text : List ℕ) → CallsOrShows faults q a b text → keeps a b
   request-keeps (Run c) a b text ran = ran.setting
   request-keeps ShowStatus a b text shows = same-keeps a b shows.same
+  request-keeps (ShowAnchors path) a b text shows = same-keeps a b shows.same
 
   line-keeps : (line : List ℕ) (a b : PlainBook D) (text : List ℕ) → IsToldBy (CallsOrShows faults) line a b text → keeps a b
   line-keeps = told-moves (CallsOrShows faults) keeps same-keeps request-keeps

@@ -2,7 +2,7 @@
 use Rattle.std.proofs.Common.{◌≡◌, ◌∙◌, ℕ, List, [], ◌∷◌, Option, Some, None, Result, Ok, Err, inl, inr, refl, sym, ap, subst}
 use Rattle.pf_rule.specs.Packets.{PlainPacket}
 use Rattle.pf_core.specs.declared.{command.Command.Command, reply.Refusal.Refusal}
-use Rattle.pf_line.specs.declared.{request.Request.Request, request.Request.TheVariants.{Run, ShowStatus}}
+use Rattle.pf_line.specs.declared.{request.Request.Request, request.Request.TheVariants.{Run, ShowStatus, ShowAnchors}}
 use Rattle.pf_core.specs.{Durable.Changes.PlainDurable, Worlds.Setting}
 use Rattle.pf_session.specs.declared.server.session.Session.{Session}
 use Rattle.pf_session.specs.{LineEngine.Chains.Chain, Telling.{IsToldBy, Says}, Server.Sittings.{RunsBy, RunsOrShows, TakesLines, Sitting, next_line, packet_in}, Server.SessionRuns.{IsSame, RunsInSession, TakesInSession, sitting}}
@@ -63,6 +63,7 @@ request-moves : (base : PlainDurable) (setting : Setting) (Moves : Sitting → S
     (q : Request) (a b : Sitting) (text : List ℕ) → RunsOrShows base setting q a b text → Moves a b
 request-moves base setting Moves still runs (Run c) a b text ran = runs (packet_in c) c a b text ran
 request-moves base setting Moves still runs ShowStatus a b text shown = still a b shown.same
+request-moves base setting Moves still runs (ShowAnchors path) a b text shown = still a b shown.same
 
 -- and so whatever its line is
 pub line-moves : (base : PlainDurable) (setting : Setting) (Moves : Sitting → Sitting → Type 0) (still : (a b : Sitting) → b ≡ a → Moves a b)

@@ -1,5 +1,6 @@
 pub mod LineEngine
 pub mod Statuses
+pub mod Anchors
 pub mod Telling
 pub mod Serving
 pub mod Renewing

@@ -6,7 +6,8 @@ ghost use Rattle.pf_book.specs.Books.{HoldsLeft, IsOpenable, world_book};
 ghost use Rattle.pf_session.specs.{LineEngine.Sessions.IsSession, Serving.{CallsOrShows, Serves}, Telling.IsToldBy, Laws.Seeing.seen-told};
 
 use crate::line_engine::{AnswerLine, EngineFault, serve};
-use crate::telling::{RunCommands, answer, show, tell};
+use crate::telling::{RunCommands, answer, show, tell, tell_anchors};
+use pf_addr::path::Path;
 use pf_book::book::Book;
 use pf_book::{Chapter, Publisher};
 use pf_core::Command;
@@ -30,6 +31,10 @@ impl<D: Disk + Drop, J: Chapter, S: Publisher<J> + Drop> RunCommands for Book<D,
 
     fn show_status<W: Write>(&mut self, writer: &mut W) -> io::Result<()> {
         show(writer, self.status(), 1)
+    }
+
+    fn show_anchors<W: Write>(&mut self, path: &Path, writer: &mut W) -> io::Result<()> {
+        tell_anchors(writer, self.anchors_below(path))
     }
 }
 

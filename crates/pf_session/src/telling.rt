@@ -2,15 +2,19 @@
 ghost use Rattle.std.specs.Prelude.{◌≡◌, ℕ, List, IfErr};
 ghost use Rattle.pf_addr.specs.Writing.{Writes};
 ghost use Rattle.pf_core.specs.declared.{command.Command.Command, command.Command.TheVariants.Ask, command.Question.TheVariants.Judge, reply.Reply.TheVariants.Refused};
-ghost use Rattle.pf_line.specs.declared.{request.Request.Request, request.Request.TheVariants.{Run, ShowStatus}};
+ghost use Rattle.pf_line.specs.declared.{request.Request.Request, request.Request.TheVariants.{Run, ShowStatus, ShowAnchors}};
 ghost use Rattle.pf_line.specs.{Lines.{Parses, Refused as IsRefusal, line_at}, Reply.Replies.reply_text};
-ghost use Rattle.pf_session.specs.{Statuses.{shown_text, with_sessions}, Telling.IsToldBy};
+ghost use Rattle.pf_book.specs.Anchors.{listed_in};
+ghost use Rattle.pf_session.specs.{Anchors.{listed_text}, Statuses.{shown_text, with_sessions}, Telling.IsToldBy};
 
+use pf_addr::path::Path;
 use pf_book::BookStatus;
 use pf_core::{Command, Refusal, Reply};
-use pf_line::{Request, Status, may_judge, parse_judge, parse_line, write_reply, write_status};
+use pf_line::{
+    Request, Status, may_judge, parse_judge, parse_line, write_anchors, write_reply, write_status,
+};
 use pf_rule::Packet;
-use std::alloc::Global;
+use std::alloc::{AllocError, Global};
 use std::io::{self, Write};
 
 /// What does requests, one after the other, and writes the reply to each. In its functions `Err` says that a write failed; some front of
@@ -32,6 +36,11 @@ pub(crate) trait RunCommands {
     /// Shows the status.
     fn show_status<W: Write>(&mut self, writer: &mut W) -> io::Result<()>
         ensures { (text : List ℕ) × Runs ShowStatus self.old self.new text ×
+            Writes result (W.contents writer.old) (W.contents writer.new) text };
+
+    /// Shows the anchors directly below a path.
+    fn show_anchors<W: Write>(&mut self, path: &Path, writer: &mut W) -> io::Result<()>
+        ensures { (text : List ℕ) × Runs (ShowAnchors path.now) self.old self.new text ×
             Writes result (W.contents writer.old) (W.contents writer.new) text };
 }
 
@@ -109,6 +118,7 @@ fn do_request<A: RunCommands, W: Write>(
     match request {
         Request::Run(command) => runner.run_command(command, writer),
         Request::ShowStatus => runner.show_status(writer),
+        Request::ShowAnchors(path) => runner.show_anchors(&path, writer),
     }
 }
 
@@ -131,6 +141,19 @@ pub(crate) fn show<W: Write>(writer: &mut W, book: BookStatus, sessions: u32) ->
     ensures { Writes result (W.contents writer.old) (W.contents writer.new) (shown_text book sessions) }
 {
     write_status(writer, &with_sessions(book, sessions))
+}
+
+/// Writes the anchors that a Book listed, or that there was no memory for that.
+pub(crate) fn tell_anchors<W: Write>(
+    writer: &mut W,
+    listed: Result<Vec<Path>, AllocError>,
+) -> io::Result<()>
+    ensures { Writes result (W.contents writer.old) (W.contents writer.new) (listed_text (listed_in listed)) }
+{
+    match listed {
+        Ok(paths) => write_anchors(writer, paths.as_slice()),
+        Err(AllocError) => refuse(writer, Refusal::Memory),
+    }
 }
 
 // What is shown of a Book, beside how many sessions are open.

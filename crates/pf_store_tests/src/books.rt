@@ -68,7 +68,9 @@ pub enum Asked {
 pub fn asked_by(alloc: Global, line: &[u8]) -> Result<Asked, AllocError> {
     match parse_line(alloc, line) {
         Ok(Some(Request::Run(command))) => Ok(Asked::One(command)),
-        Ok(Some(Request::ShowStatus)) | Ok(None) => Ok(Asked::Nothing(String::new(alloc))),
+        Ok(Some(Request::ShowStatus | Request::ShowAnchors(_))) | Ok(None) => {
+            Ok(Asked::Nothing(String::new(alloc)))
+        }
         Err(refusal) => Ok(Asked::Nothing(text_of(alloc, &Reply::Refused(refusal))?)),
     }
 }

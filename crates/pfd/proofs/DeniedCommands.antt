@@ -5,9 +5,9 @@ use Rattle.pf_form.specs.Form.{Words.{Word, words_of}, Forms.{Form, nothing, key
 use Rattle.pf_rule.specs.declared.fault.Mistake.{Mistake}
 use Rattle.pf_state.specs.declared.peer.fault.OneFault.TheVariants.{Fault, Count}
 use Rattle.pf_core.specs.declared.{command.Command.Command, command.Command.TheVariants.States, command.StateCommand.TheVariants.Peer, reply.Refusal.Refusal}
-use Rattle.pf_line.specs.declared.{request.Request.Request, request.Request.TheVariants.{Run, ShowStatus}}
+use Rattle.pf_line.specs.declared.{request.Request.Request, request.Request.TheVariants.{Run, ShowStatus, ShowAnchors}}
 use Rattle.pf_line.specs.Grammar as grammar
-use Rattle.pf_line.specs.{Grammar.{Spoken, Says, Tells, AsksStatus}, Lines.{line_at, peer_command, Means, SpellsLine, long_line}}
+use Rattle.pf_line.specs.{Grammar.{Spoken, Says, Tells, AsksStatus, AsksAnchors}, Lines.{line_at, peer_command, Means, SpellsLine, long_line}}
 use Rattle.pf_line.proofs.Lines.{is_found}
 use Rattle.pf_session.specs.{LineEngine.Lines.seen, Server.{Askings.{denies, first_word, is_denied}, Inquiries.is_inquiry}}
 use Rattle.pfd.proofs.FirstWords.{first_of, first_word-words}
@@ -164,10 +164,11 @@ commands-denied =
 
 -- ---- lines
 
--- what a request for a line is: its command is an inquiry or not, and a status is none that is denied
+-- what a request for a line is: its command is an inquiry or not, and a status and anchors are none that is denied
 abbrev Denied : Request → Word → Type 0
 Denied (Run c) w = denies w ≡ not (is_inquiry c)
 Denied ShowStatus w = denies w ≡ false
+Denied (ShowAnchors path) w = denies w ≡ false
 
 peer-states : (one : _) (q : Request) (w : Word) → (let said : Result (Option Request) Refusal = Ok (Some q) in said) ≡ peer_command one → denies w ≡ true → Denied q w
 peer-states (Ok m) q w is denied = let same : Run (States (Peer m)) ≡ q = cc in subst (λ (r : Request). Denied r w) same denied
@@ -187,12 +188,20 @@ status-said q w x asks means allowed =
     let same : ShowStatus ≡ q = cc in
     subst (λ (p : Request). Denied p w) same allowed
 
+anchors-said : (q : Request) (w : Word) (x : Spoken) (path : Word) → x ≡ AsksAnchors path → Means (Ok (Some x)) (Ok (Some q)) → denies w ≡ false → Denied q w
+anchors-said q w x path asks means allowed =
+    let is = subst (λ (y : Spoken). Means (Ok (Some y)) (Ok (Some q))) asks means in
+    let same : ShowAnchors path ≡ q = cc in
+    subst (λ (p : Request). Denied p w) same allowed
+
 -- words behind `show`
 showing-denied : (ws rest : List Word) (q : Request) (x : Spoken) → ws ≡ codes "show" ∷ rest → Spells grammar.showing x rest → Means (Ok (Some x)) (Ok (Some q)) → Denied q (first_of ws)
 unfolding grammar.showing
 showing-denied ws rest q x is (inl (more, (asks, none), behind)) means =
     status-said q (first_of ws) x asks means (ap (λ (vs : List Word). denies (first_of vs)) is)
-showing-denied ws rest q x is (inr (r, spelled, says)) means =
+showing-denied ws rest q x is (inr (inl (more, (path, spelled, asks), behind))) means =
+    anchors-said q (first_of ws) x path asks means (ap (λ (vs : List Word). denies (first_of vs)) is)
+showing-denied ws rest q x is (inr (inr (r, spelled, says))) means =
     says-denied ws q x r says means (λ c ok. ap (λ (vs : List Word). denies (first_of vs)) is ∙ ap not (sym (shown-makes.kind r rest c spelled ok)))
 
 said-denied : (ws : List Word) (q : Request) → SpellsLine q ws → Denied q (first_of ws)
@@ -220,3 +229,6 @@ line-denied line c means = first-seen line (Run c) means ∙ request-denied line
 
 pub status-denied : (line : List ℕ) → Means (line_at line) (Ok (Some ShowStatus)) → is_denied line ≡ false
 status-denied line means = first-seen line ShowStatus means ∙ request-denied line ShowStatus means
+
+pub anchors-denied : (line path : List ℕ) → Means (line_at line) (Ok (Some (ShowAnchors path))) → is_denied line ≡ false
+anchors-denied line path means = first-seen line (ShowAnchors path) means ∙ request-denied line (ShowAnchors path) means

@@ -3,7 +3,7 @@ use Rattle.std.specs.{Prelude.{◌≡◌, ◌≢◌, ◌⊎◌, ℕ, ◌+◌, �
 use Rattle.pf_ticket.specs.{Mentions.{after, switches}, Tickets.fresh}
 use Rattle.pf_core.specs.{Commands.step_by, Cores.{PlainCore, core_with, stepped}, Durable.Changes.{PlainDurable, applied, kept_nothing, voided_by}}
 use Rattle.pf_core.specs.declared.{command.Command.{Command, TheVariants.{Transact, Edit}}, command.Transaction.TheVariants.Rollback, command.TableEdit.TheVariants.Set, reply.Refusal.Refusal, step.Step.{Step, TheVariants.Wants}}
-use Rattle.pf_line.specs.{declared.{request.Request.Request, request.Request.TheVariants.{Run, ShowStatus}}, Lines.{Means, line_at}, Reply.Replies.refusal_text}
+use Rattle.pf_line.specs.{declared.{request.Request.Request, request.Request.TheVariants.{Run, ShowStatus, ShowAnchors}}, Lines.{Means, line_at}, Reply.Replies.refusal_text}
 use Rattle.wirdalf_c.specs.declared.lines.{LineRefusal.LineRefusal, LineRefusal.TheVariants.{Refused, Unfit, Memory}, LineFault.LineFault}
 
 -- the lines of a text: what is before, between and after its newlines (10)
@@ -35,6 +35,7 @@ abbrev pub done_by : PlainCore → Result (Option Request) Refusal → Result Pl
 done_by w (Ok None) = Ok w
 done_by w (Ok (Some (Run c))) = if makes c then stepped_by w c (step_by w.tickets w.durable c) else Err Unfit
 done_by w (Ok (Some ShowStatus)) = Err Unfit
+done_by w (Ok (Some (ShowAnchors path))) = Err Unfit
 done_by w (Err e) = Err (Refused e)
 
 -- A line comes to this.

@@ -113,7 +113,7 @@ fn do_request(core: &mut Core, request: &Request) -> Result<(), LineRefusal>
 {
     match request {
         Request::Run(command) => do_command(core, command),
-        Request::ShowStatus => Err(LineRefusal::Unfit),
+        Request::ShowStatus | Request::ShowAnchors(_) => Err(LineRefusal::Unfit),
     }
 }
 

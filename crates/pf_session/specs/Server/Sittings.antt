@@ -6,10 +6,10 @@ use Rattle.pf_rule.specs.Packets.{PlainPacket}
 use Rattle.pf_core.specs.declared.{command.Command.Command, command.Command.TheVariants.Ask, command.Question.TheVariants.Judge, reply.Answer.TheVariants.Judged, reply.Refusal.TheVariants.Fault, reply.Reply.Reply, reply.Reply.TheVariants.{Answer, Refused}}
 use Rattle.pf_core.specs.{Durable.Changes.{PlainDurable, after, verdict}, Worlds.{Setting, CurrentOpening, amid, changes_due}}
 use Rattle.pf_view.specs.Seers.{PlainSeer}
-use Rattle.pf_line.specs.{declared.{request.Request.Request, request.Request.TheVariants.{Run, ShowStatus}}, Reply.Replies.reply_text}
-use Rattle.pf_book.specs.{Groups.{Answered as Receipted, IsGroupAnswered}, Receipts.{PlainReceipt, IsAnswered, learns_from}, Statuses.SaysStatus, declared.status.BookStatus.BookStatus}
+use Rattle.pf_line.specs.{declared.{request.Request.Request, request.Request.TheVariants.{Run, ShowStatus, ShowAnchors}}, Reply.Replies.reply_text}
+use Rattle.pf_book.specs.{Anchors.SaysAnchors, Groups.{Answered as Receipted, IsGroupAnswered}, Receipts.{PlainReceipt, IsAnswered, learns_from}, Statuses.SaysStatus, declared.status.BookStatus.BookStatus}
 use Rattle.pf_session.specs.declared.line_engine.fault.EngineFault.{EngineFault}
-use Rattle.pf_session.specs.{LineEngine.Chains.Chain, LineEngine.Sessions.IsSession, Server.Streams.last_receipt, Statuses.shown_text, Telling.IsToldBy}
+use Rattle.pf_session.specs.{Anchors.listed_text, LineEngine.Chains.Chain, LineEngine.Sessions.IsSession, Server.Streams.last_receipt, Statuses.shown_text, Telling.IsToldBy}
 
 -- Where a session has come to: the number of its last line, the receipt of its last call, and what its seer saw and learnt.
 pub record Sitting : Type 0 where
@@ -124,9 +124,18 @@ pub record IsStatusShown (base : PlainDurable) (setting : Setting) (old new : Si
   pub told : text ≡ shown_text status sessions
   pub same : new ≡ old
 
+-- The Book listed the anchors directly below a path, or had no memory for that, with the receipt of the session's last call handed in.
+-- Nothing is done.
+pub record AreAnchorsShown (base : PlainDurable) (setting : Setting) (path : List ℕ) (old new : Sitting) (text : List ℕ) : Type 0 where
+  pub listed : Option (List (List ℕ))
+  pub says : SaysAnchors base setting path listed old.last
+  pub told : text ≡ listed_text listed
+  pub same : new ≡ old
+
 abbrev pub RunsOrShows : PlainDurable → Setting → Request → Sitting → Sitting → List ℕ → Type 0
 RunsOrShows base setting (Run c) old new text = Runs base setting c old new text
 RunsOrShows base setting ShowStatus old new text = IsStatusShown base setting old new text
+RunsOrShows base setting (ShowAnchors path) old new text = AreAnchorsShown base setting path old new text
 
 -- ---- lines
 

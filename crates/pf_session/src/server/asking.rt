@@ -13,7 +13,8 @@ use crate::server::gate::Gate;
 use crate::server::inquiry::Inquiry;
 use crate::server::line_session::LineSession;
 use crate::server::session::{packet_in, write_verdict};
-use crate::telling::{RunCommands, answer, show, tell};
+use crate::telling::{RunCommands, answer, show, tell, tell_anchors};
+use pf_addr::path::Path;
 use pf_book::shared::Shared;
 use pf_book::{Chapter, Disk, Numbering, Publisher, Receipt, Seer};
 use pf_core::{Command, Reply};
@@ -103,6 +104,11 @@ impl<'a, A: AskBook<J>, J: Chapter, G: Gate> RunCommands for Asker<'a, A, J, G> 
     fn show_status<O: Write>(&mut self, writer: &mut O) -> io::Result<()> {
         let status = self.book.status(self.last.as_ref());
         show(writer, status, self.gate.sessions())
+    }
+
+    fn show_anchors<O: Write>(&mut self, path: &Path, writer: &mut O) -> io::Result<()> {
+        let listed = self.book.anchors_below(path, self.last.as_ref());
+        tell_anchors(writer, listed)
     }
 }
 

@@ -1,11 +1,13 @@
 //! What sessions and streams call: a Book that others use too.
 ghost use Rattle.std.specs.{Option.option_copied, Prelude.{◌≡◌, MatchOption, None, Ok, Err}};
-ghost use Rattle.pf_book.specs.{Groups.{IsGroupAnswered, told}, Receipts.IsAnswered, Statuses.SaysStatus, Together.IsAnsweredTogether};
+ghost use Rattle.pf_book.specs.{Anchors.{SaysAnchors, listed_in}, Groups.{IsGroupAnswered, told}, Receipts.IsAnswered, Statuses.SaysStatus, Together.IsAnsweredTogether};
 
 use crate::server::inquiry::Inquiry;
+use pf_addr::path::Path;
 use pf_book::shared::Shared;
 use pf_book::{BookStatus, Chapter, Disk, Numbering, Publisher, Receipt};
 use pf_core::{Command, Refusal, Reply};
+use std::alloc::AllocError;
 use std::sync::Wait;
 
 /// What runs the commands of a session and the messages of a peer, with receipts of the opening `J`. Whoever is generic in it needn't name
@@ -36,6 +38,10 @@ pub trait CallBook<J: Chapter> {
     /// What the Book says of itself, as [`Shared::status`] does.
     fn status(&self, last: Option<&Receipt<J>>) -> BookStatus
         ensures { SaysStatus J.base J.setting result (option_copied last.entry) };
+
+    /// The anchors directly below a path, as [`Shared::anchors_below`] gives them.
+    fn anchors_below(&self, path: &Path, last: Option<&Receipt<J>>) -> Result<Vec<Path>, AllocError>
+        ensures { SaysAnchors J.base J.setting path.now (listed_in result) (option_copied last.entry) };
 }
 
 /// What answers the questions of a session that may change nothing, with receipts of the opening `J`. It can do nothing else.
@@ -47,6 +53,10 @@ pub trait AskBook<J: Chapter> {
     /// What the Book says of itself, as [`Shared::status`] does.
     fn status(&self, last: Option<&Receipt<J>>) -> BookStatus
         ensures { SaysStatus J.base J.setting result (option_copied last.entry) };
+
+    /// The anchors directly below a path, as [`Shared::anchors_below`] gives them.
+    fn anchors_below(&self, path: &Path, last: Option<&Receipt<J>>) -> Result<Vec<Path>, AllocError>
+        ensures { SaysAnchors J.base J.setting path.now (listed_in result) (option_copied last.entry) };
 }
 
 /// A caller of a Book under a lock, which waits for it by a handle.
@@ -100,6 +110,14 @@ impl<'a, W: Wait, D: Disk + Drop, J: Chapter + Numbering, S: Publisher<J> + Drop
     fn status(&self, last: Option<&Receipt<J>>) -> BookStatus {
         self.shared.status(self.rt, last)
     }
+
+    fn anchors_below(
+        &self,
+        path: &Path,
+        last: Option<&Receipt<J>>,
+    ) -> Result<Vec<Path>, AllocError> {
+        self.shared.anchors_below(self.rt, path, last)
+    }
 }
 
 impl<'a, W: Wait, D: Disk + Drop, J: Chapter + Numbering, S: Publisher<J> + Drop> AskBook<J>
@@ -110,5 +128,13 @@ impl<'a, W: Wait, D: Disk + Drop, J: Chapter + Numbering, S: Publisher<J> + Drop
 
     fn status(&self, last: Option<&Receipt<J>>) -> BookStatus {
         self.shared.status(self.rt, last)
+    }
+
+    fn anchors_below(
+        &self,
+        path: &Path,
+        last: Option<&Receipt<J>>,
+    ) -> Result<Vec<Path>, AllocError> {
+        self.shared.anchors_below(self.rt, path, last)
     }
 }

@@ -10,7 +10,8 @@ use crate::line_engine::{self, AnswerLine, EngineFault, Intake, LeftOff, Pause};
 use crate::server::caller::{CallBook, Caller};
 use crate::server::gate::Gate;
 use crate::server::line_session::LineSession;
-use crate::telling::{RunCommands, answer, show, tell};
+use crate::telling::{RunCommands, answer, show, tell, tell_anchors};
+use pf_addr::path::Path;
 use pf_addr::write_text;
 use pf_book::shared::Shared;
 use pf_book::{Chapter, Disk, Gone, Numbering, Publisher, Receipt, Seer, learn_from};
@@ -144,6 +145,11 @@ impl<'a, C: CallBook<J>, J: Chapter, G: Gate> RunCommands for Session<'a, C, J, 
     fn show_status<O: Write>(&mut self, writer: &mut O) -> io::Result<()> {
         let status = self.book.status(self.last.as_ref());
         show(writer, status, self.gate.sessions())
+    }
+
+    fn show_anchors<O: Write>(&mut self, path: &Path, writer: &mut O) -> io::Result<()> {
+        let listed = self.book.anchors_below(path, self.last.as_ref());
+        tell_anchors(writer, listed)
     }
 }
 

@@ -1,12 +1,14 @@
 //! A caller of a Book whose replies are noted.
 ghost use Rattle.std.specs.{Option.option_copied, Prelude.{◌≡◌, MatchOption, None, Ok, Err}};
-ghost use Rattle.pf_book.specs.{Groups.{IsGroupAnswered, told}, Receipts.IsAnswered, Statuses.SaysStatus, Together.IsAnsweredTogether};
+ghost use Rattle.pf_book.specs.{Anchors.{SaysAnchors, listed_in}, Groups.{IsGroupAnswered, told}, Receipts.IsAnswered, Statuses.SaysStatus, Together.IsAnsweredTogether};
 
 use crate::log::KeepLog;
 use crate::log::deed::deed_in;
+use pf_addr::path::Path;
 use pf_book::{BookStatus, Chapter, Receipt};
 use pf_core::{Command, Refusal, Reply};
 use pf_session::{AskBook, CallBook, Inquiry};
+use std::alloc::AllocError;
 
 /// What a session calls, of which each reply is noted before the session has it, and outside the Book's lock.
 #[derive(Drop)]
@@ -66,6 +68,14 @@ impl<C: CallBook<J>, J: Chapter, L: KeepLog> CallBook<J> for Logged<'_, C, L> {
     fn status(&self, last: Option<&Receipt<J>>) -> BookStatus {
         self.book.status(last)
     }
+
+    fn anchors_below(
+        &self,
+        path: &Path,
+        last: Option<&Receipt<J>>,
+    ) -> Result<Vec<Path>, AllocError> {
+        self.book.anchors_below(path, last)
+    }
 }
 
 // A question acknowledges nothing.
@@ -76,5 +86,13 @@ impl<C: AskBook<J>, J: Chapter, L: KeepLog> AskBook<J> for Logged<'_, C, L> {
 
     fn status(&self, last: Option<&Receipt<J>>) -> BookStatus {
         self.book.status(last)
+    }
+
+    fn anchors_below(
+        &self,
+        path: &Path,
+        last: Option<&Receipt<J>>,
+    ) -> Result<Vec<Path>, AllocError> {
+        self.book.anchors_below(path, last)
     }
 }

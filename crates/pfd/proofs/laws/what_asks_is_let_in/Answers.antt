@@ -1,4 +1,4 @@
-use Rattle.pfd.proofs.DeniedCommands.{line-denied, status-denied}
+use Rattle.pfd.proofs.DeniedCommands.{line-denied, status-denied, anchors-denied}
 use Rattle.pfd.proofs.laws.what_asks_is_let_in.Goals as goal
 
 pub returns-clause-commands : goal.returns-clause-commands
@@ -6,3 +6,6 @@ returns-clause-commands c = line-denied
 
 pub returns-clause-status : goal.returns-clause-status
 returns-clause-status c = status-denied
+
+pub returns-clause-anchors : goal.returns-clause-anchors
+returns-clause-anchors c = anchors-denied

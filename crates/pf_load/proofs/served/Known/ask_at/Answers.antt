@@ -1,11 +1,11 @@
-use Rattle.std.proofs.Common.{true, false, Ok}
-use Rattle.pf_load.specs.Served.{Asked, asked_text}
+use Rattle.std.proofs.Common.{Ok}
+use Rattle.pf_load.specs.Served.{Asked, Rules, Tables, asked_text}
 use Rattle.pf_load.proofs.{Texts.{sent_front, sent_whole, whole_front}, Asked.{asks_one, asks_then}}
-use Rattle.pf_load.proofs.served.Known.ask.Goals as goal
+use Rattle.pf_load.proofs.served.Known.ask_at.Goals as goal
 
 pub returns-in_err-rules : goal.returns-in_err-rules
 returns-in_err-rules g c =
-    let rules : Asked = (false, c.args.path.now) in
+    let rules : Asked = Rules c.args.path.now in
     let old = g.W.Write.contents c.args.server.now in
     let mid = g.W.Write.contents c.ask_list.new.server in
     asks_one c.from_residual.result old mid rules
@@ -13,7 +13,7 @@ returns-in_err-rules g c =
 
 pub returns-in_err-add_rules : goal.returns-in_err-add_rules
 returns-in_err-add_rules g c =
-    let rules : Asked = (false, c.args.path.now) in
+    let rules : Asked = Rules c.args.path.now in
     let old = g.W.Write.contents c.args.server.now in
     let mid = g.W.Write.contents c.ask_list.new.server in
     let r = c.from_residual-in_err-add_rules.result in
@@ -22,8 +22,8 @@ returns-in_err-add_rules g c =
 
 pub returns-in_err-tables : goal.returns-in_err-tables
 returns-in_err-tables g c =
-    let rules : Asked = (false, c.args.path.now) in
-    let tables : Asked = (true, c.args.path.now) in
+    let rules : Asked = Rules c.args.path.now in
+    let tables : Asked = Tables c.args.path.now in
     let old = g.W.Write.contents c.args.server.now in
     let mid = g.W.Write.contents c.ask_list.new.server in
     let new = g.W.Write.contents c.ask_list-2.new.server in
@@ -33,8 +33,8 @@ returns-in_err-tables g c =
 
 pub returns : goal.returns
 returns g c =
-    let rules : Asked = (false, c.args.path.now) in
-    let tables : Asked = (true, c.args.path.now) in
+    let rules : Asked = Rules c.args.path.now in
+    let tables : Asked = Tables c.args.path.now in
     let old = g.W.Write.contents c.args.server.now in
     let mid = g.W.Write.contents c.ask_list.new.server in
     let new = g.W.Write.contents c.ask_list-2.new.server in

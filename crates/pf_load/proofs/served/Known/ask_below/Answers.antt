@@ -1,0 +1,10 @@
+use Rattle.pf_load.specs.Served.{Asked, Anchors, asked_text}
+use Rattle.pf_load.proofs.{Texts.sent_whole, Asked.asks_one}
+use Rattle.pf_load.proofs.served.Known.ask_below.Goals as goal
+
+pub returns-in-Ok : goal.returns-in-Ok
+returns-in-Ok g c =
+    let anchors : Asked = Anchors c.args.path.now in
+    let old = g.W.Write.contents c.args.server.now in
+    let new = g.W.Write.contents c.ask_list.new.server in
+    asks_one c.add_anchors.result old new anchors (sent_whole c.add_anchors.result old new (asked_text anchors) c.in-Ok.ensures)
