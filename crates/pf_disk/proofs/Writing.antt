@@ -1,7 +1,7 @@
 -- Calls that may write, one after the other.
-use Rattle.std.proofs.Common.{◌≡◌, inl, inr, ⊎_elim, ℕ, ◌+◌, ◌≤◌, Bool, true, false, cond, List, length, refl, ◌∙◌, sym, ap, subst, arith, Result, Ok, Err}
+use Rattle.std.proofs.Common.{◌≡◌, inl, inr, ⊎_elim, ℕ, ◌+◌, ◌≤◌, Bool, false, cond, List, length, refl, ◌∙◌, sym, subst, arith, Result, Ok, Err}
 use Rattle.std.specs.Prelude.{is_err}
-use Rattle.pf_disk.specs.{Disk.{CountsFault, Elapses, EachMoment, IsImage}, Runs.MayWrite, declared.disk.Disk.Ghosts}
+use Rattle.pf_disk.specs.{Disk.{CountsFault, Elapses, IsImage}, Runs.MayWrite, declared.disk.Disk.Ghosts}
 
 -- what is read is an image
 pub read_is : (seen : List ℕ) (set : ℕ → Bool) → IsImage seen set seen
