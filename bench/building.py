@@ -19,7 +19,7 @@ NEEDS = {
     "lanes": "pf_addr pf_rule pf_table pf_anchor",
     "no_memory": "pf_book pf_line pf_core pf_state pf_ticket pf_anchor pf_rule pf_lanes pf_addr",
     "saves": "pf_book pf_store pf_line pf_core pf_snap pf_disk",
-    "seers": "pfd pf_book pf_store pf_line pf_core pf_anchor pf_rule left_right",
+    "seers": "pf_book pf_store pf_line pf_core pf_anchor pf_rule left_right",
     "tables": "pf_addr pf_table",
     "versions": "pf_state pf_map pf_rule pf_addr pf_form",
 }

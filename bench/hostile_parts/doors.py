@@ -4,8 +4,9 @@ At an address that may only ask every kind of line is sent, and each wrong one, 
 are denied and leave nothing, and its questions are answered by what the other did. A peer's stream is sent to each kind of address, and
 a line to those of peers. Silent clients at these addresses leave a worker to the others, or are sent away. Of a socket's file it is looked
 at who may open it, what becomes of it at each end of the server and where several start at once, and that nothing is ever removed at its
-place but the file of a socket at which nobody answers.
+place but the file of a socket at which nobody answers. The examples' lines are told over a socket what `pfd run` tells them.
 """
+import glob
 import os
 import signal
 import socket
@@ -14,10 +15,13 @@ import subprocess
 import threading
 import time
 
-from .program import Client, PATIENCE, Result, formatted, new_folder, ran, received, send_all, write
+from .program import Client, PATIENCE, Result, bytes_of, formatted, new_folder, ran, received, send_all, write
 from .streams import EXAMPLE
 
 SIZE = 1 << 20
+EXAMPLES = os.path.join(os.path.dirname(os.path.abspath(__file__)), "..", "..", "examples", "*.txt")
+# So many lines of each example.
+MOST_LINES = 100
 DENIED = "err denied"
 # A user who may not open a socket's file.
 REFUSED = b"refused"
@@ -34,7 +38,8 @@ WRONG = ("frob", "tadd", "commit filter - x", "track 1", "peer zz", "judged", "L
 QUESTIONS = (
     ("test - t 10.0.0.1", "match 10.0.0.0/8"), ("test - u 10.0.0.1", "nomatch"), ("judge in em0 tcp 10.9.9.1 5 10.0.0.2 80", "pass rule 0"),
     ("log", "log 10 acked 10 shown 10"), ("sum", "886e234b9265e355a4e6de823beba1c2"), ("judge", "err word 1"), ("show", "err word 1"),
-    ("test - t", "err word 3"), ("sum x", "err word 1"), ("log \x01", "err line"), ("judge " + "x" * 5000, "err line"),
+    ("test - t", "err word 3"), ("sum x", "err word 1"), ("show status x", "err word 2"),
+    ("show status", f"epoch 1 changes 10 tick 5 rulesets 1 tables 1 states 1 held 444 of {SIZE // 2} sessions 3"), ("log \x01", "err line"), ("judge " + "x" * 5000, "err line"),
 )
 
 
@@ -347,9 +352,22 @@ def connects(options, folder):
     return result
 
 
+def examples(options, folder):
+    """The first lines of each example over a Unix socket."""
+    result, path = Result(), os.path.join(folder, "examples.sock")
+    for name in sorted(glob.glob(EXAMPLES)):
+        lines = b"".join(bytes_of(name).splitlines(keepends=True)[:MOST_LINES])
+        file = formatted(options.program, os.path.join(folder, "examples"), SIZE)
+        with Doors(options.program, file, "--listen", path):
+            replies = ran(options.program, "run", given=lines)[1]
+            result.check(f"{os.path.basename(name)} has replies", replies.count(b"\n") > 5)
+            result.compare(f"{os.path.basename(name)} over a socket", replies, told(path, lines))
+    return result
+
+
 def play(options):
     result = Result()
-    for work in (asked_only, peers_only, many_at_once, socket_files, modes_of_kinds, others_may_ask, silent_ones, guests_leave_a_worker,
+    for work in (examples, asked_only, peers_only, many_at_once, socket_files, modes_of_kinds, others_may_ask, silent_ones, guests_leave_a_worker,
                  raced, never_removed, connects):
         with new_folder() as folder:
             result.add(work(options, folder))

@@ -199,7 +199,8 @@ class Play:
         self.result.compare(f"{self.name}, log", [f"log {count} acked {before.changes} shown {before.changes}"], program.ask("log", 1))
         for line in QUESTIONS:
             if line != "log":
-                should = before.reply(line.encode())
+                # (a status counts all changes, as a log does)
+                should = [said.replace(f" changes {before.changes} ", f" changes {count} ") for said in before.reply(line.encode())]
                 self.result.compare(f"{self.name}, behind the fault, {line}", should, program.ask(line, len(should)))
         if self.way == "serve":
             self.result.compare(f"{self.name}, a peer behind the fault", ["err halted"] * 2, program.stream(EXAMPLE * 2))

@@ -409,8 +409,8 @@ def message(words):
 
 
 def show(words):
-    what = words.known({word: word for word in ("rules", "tables", "states")})
-    return (what,) if what == "states" else (what, path(words))
+    what = words.known({word: word for word in ("rules", "tables", "states", "status")})
+    return (what, path(words)) if what in ("rules", "tables") else (what,)
 
 
 SHAPES = {

@@ -44,7 +44,7 @@ EDGE_STATES = ["18446744073709551615 1", "18446744073709551616 1", "000000000000
 EDGE_TICKS = ["0", "00000000000000000000", "000000000000000000001", "18446744073709551616", "x", "-1", "5 5", "until 5"]
 EDGE_HOSTS = ["<>", "<", "<a", "<a>b", "any any", "! any", "!any", "! ! 10/8", f"<{'t' * 31}>", f"<{'t' * 32}>", "< t >"]
 STRANGE = [b"\0", b"\r", b"\t", b"\x80", b"\xff", b"\x7f", b"\x1b", b"\v", b"\f", b"\xc3\xa9", *(bytes([byte]) for byte in b' !<>/:.-#"*')]
-QUESTIONS = ["sum", "log", "publish", "show states", "export", *(f"show rules {path}" for path in dict.fromkeys(PATHS)),
+QUESTIONS = ["sum", "log", "publish", "show states", "show status", "export", *(f"show rules {path}" for path in dict.fromkeys(PATHS)),
              *(f"show tables {path}" for path in dict.fromkeys(PATHS))]
 
 

@@ -536,7 +536,15 @@ class Session:
     def sum(self):
         return self.held.checksum().hex()
 
+    def status(self):
+        """That of a session which is alone."""
+        held, used = self.held, HEADER + self.length() + writing.SPARE
+        return (f"epoch {held.epoch} changes {self.changes} tick {held.tick} rulesets {len(held.rulesets)} tables {len(held.tables)}"
+                f" states {len(held.states)} held {used} of {self.half} sessions 1")
+
     def show(self, what, path=b""):
+        if what == "status":
+            return [self.status()]
         if what == "rules":
             lines = [f"@{number} {rule_text(form)}" for number, form in enumerate(self.held.rulesets.get(path, []))]
         elif what == "tables":

@@ -149,7 +149,9 @@ class Server:
     """`pfd serve` on a file. It is killed behind a `with`."""
 
     def __init__(self, program, file, size, workers=8, history=65_536, more=(), **how):
-        words = ["serve", "--listen", "127.0.0.1:0", "--disk", file, "--size", size, "--workers", workers, "--history", history, *more]
+        """Without a history it renews the one that it has."""
+        limit = ["--history", history] if history else []
+        words = ["serve", "--listen", "127.0.0.1:0", "--disk", file, "--size", size, "--workers", workers, *limit, *more]
         self.process = subprocess.Popen([program, *map(str, words)], stdout=subprocess.PIPE, stderr=subprocess.PIPE, **how)
         line = self.process.stdout.readline().decode().split()
         if not line:

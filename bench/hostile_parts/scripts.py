@@ -10,9 +10,11 @@ import subprocess
 from .program import Result, spread
 
 BENCH = os.path.dirname(os.path.dirname(os.path.abspath(__file__)))
-QUICK = [("refuse-allocations", "The first session", "The most specific entry of a table"), ("kill-server", "3"), ("kill-peer", "3"), ("kill", "4"),
+QUICK = [("refuse-allocations", "The first session", "The most specific entry of a table"), ("kill-server", "3"),
+         ("kill-server", "--renew", "100", "3"), ("kill-peer", "3"), ("kill", "4"),
          ("worst", "--quick")]
-WHOLE = [("refuse-allocations",), ("kill-server", "90"), ("kill-peer", "60"), ("kill", "50"), ("worst",)]
+WHOLE = [("refuse-allocations",), ("kill-server", "90"), ("kill-server", "--renew", "100", "100"), ("kill-peer", "60"),
+         ("kill-peer", "--renew", "1000", "30"), ("kill", "50"), ("worst",)]
 # Those that play programs of their own, and the words with which they do.
 BUILT = {"saves": ["--refuse"], "seers": ["--refuse"], "no-memory": []}
 

@@ -3,7 +3,8 @@
 Some clients play sessions of lines and streams of messages on rules, tables and states of their own; each reply has to be the plain model's.
 The server is killed at a random moment, and what the file then holds has to be, of each client, what it was last answered, or that with what it
 had sent and not been answered. The next server goes on from there. Memory and file descriptors are told and have to stay flat from one server
-to the next; within one its history grows by each change, so a server lasts for so many changes.
+to the next; within one its history grows by each change, so a server lasts for so many changes. Then one server renews its history, as the head of
+bench/renewing.py says.
 """
 import copy
 import os
@@ -12,6 +13,8 @@ import socket
 import threading
 import time
 from typing import NamedTuple
+
+from renewing import renewing
 
 from . import reading
 from .lines import Maker
@@ -254,4 +257,4 @@ def look_at_memory(result, peaks):
 
 
 def play(options):
-    return soak(options, options.few(1, 5))
+    return soak(options, options.few(1, 5)).add(renewing(options, options.few(200, 1_000), options.few(1 / 3, 3)))

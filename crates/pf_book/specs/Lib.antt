@@ -3,6 +3,7 @@ pub mod Courses
 pub mod Groups
 pub mod Pairs
 pub mod Receipts
+pub mod Statuses
 pub mod Together
 -- what public clauses cite of the crates below
 pub use Rattle.pf_disk.specs.Disk

@@ -10,12 +10,14 @@
 //!   group come to one after the other.
 //! - `chapter`: [`Chapter`], the name of an opening, as a type. [`Numbering`] names the register in which a shared Book's callers are numbered.
 //! - `receipt`: [`Receipt`], what a caller gets with a reply.
+//! - `status`: [`BookStatus`], what a Book says of itself.
 //! - `worker`: what a worker does with a receipt: [`learn_from`].
 //! - `shared`: a Book under a lock, which callers use in turn; commands of several callers that wait are run in one group. [`Shared`] is the
 //!   one over a [`Shower`].
 //! - `laws`: what follows for receipts, and for openings after crashes.
 //!
-//! Read `specs/Books.antt` first: what contracts see of a Book; then `specs/Receipts.antt`, `specs/Groups.antt` and `specs/Together.antt`.
+//! Read `specs/Books.antt` first: what contracts see of a Book; then `specs/Receipts.antt`, `specs/Groups.antt`, `specs/Together.antt` and
+//! `specs/Statuses.antt`.
 //! Contracts say what a Book does in the words of `pf_core`'s worlds.
 //!
 //! Proved, by public contracts: every reply is legal, and the Book stands for the world with the call at its end; at each moment of a call
@@ -39,6 +41,7 @@ mod receipt;
 mod saving;
 pub mod shared;
 mod showing;
+mod status;
 mod worker;
 
 pub use chapter::Chapter;
@@ -51,6 +54,7 @@ pub use pf_view::past::{Front, Naming};
 pub use pf_view::{Gone, Publisher, Seer, Shower, Token};
 pub use receipt::Receipt;
 pub use shared::NewCalls;
+pub use status::BookStatus;
 pub use worker::learn_from;
 
 /// A Book over a [`Shower`], which by its handle `R` waits for workers that are judging.

@@ -2,13 +2,14 @@
 ghost use Rattle.std.specs.{Option.option_copied, Prelude.{◌≡◌, ℕ, List, Option, nat_lt}};
 ghost use Rattle.pf_disk.specs.Disk.{IsImage};
 ghost use Rattle.pf_core.specs.{Calls.call, WorldBooks.{IsAt, Leads, LeadsGroup}, Worlds.{CurrentOpening, idle, calling, grouping, upshot}};
-ghost use Rattle.pf_book.specs.{Books.{HoldsLeft, IsLeft, IsOpenable, StaysUnlessAnyKept, StaysUnlessKept, UsesDevice, is_fault_reply, is_fault_result, world_book}, Groups.{IsGroupAnswered, replies_of, told}, Receipts.{IsReached, IsAnswered, TakesUp, PlainReceipt}, Together.IsAnsweredTogether};
+ghost use Rattle.pf_book.specs.{Books.{HoldsLeft, IsLeft, IsOpenable, StaysUnlessAnyKept, StaysUnlessKept, UsesDevice, is_fault_reply, is_fault_result, world_book}, Groups.{IsGroupAnswered, replies_of, told}, Receipts.{IsReached, IsAnswered, TakesUp, PlainReceipt}, Statuses.SaysStatus, Together.IsAnsweredTogether};
 
 mod together;
 
 use crate::book::Book;
 use crate::chapter::Chapter;
 use crate::receipt::Receipt;
+use crate::status::BookStatus;
 use pf_core::{Command, Refusal, Reply};
 use pf_disk::Disk;
 use pf_queue::{Numbering, Queue};
@@ -80,6 +81,15 @@ impl<D: Disk + Drop, J: Chapter, S: Publisher<J> + Drop> Locked<D, J, S> {
         let answers = self.book.answer_each(commands);
         self.book.between_calls();
         answers
+    }
+
+    // What the Book says of itself.
+    fn status(&mut self, last: Option<&Receipt<J>>) -> BookStatus
+        ensures says { SaysStatus J.base J.setting result (option_copied last.entry) }
+        ensures same { self.new ≡ self.old }
+    {
+        self.book.look_at(last);
+        self.book.status()
     }
 }
 
@@ -163,6 +173,19 @@ impl<D: Disk + Drop, J: Chapter + Numbering, S: Publisher<J> + Drop> Shared<D, J
         let answers = self.queue.value(rt).group(commands, last);
         self.queue.end(rt, turn);
         answers
+    }
+
+    /// What the Book says of itself, as [`Book::status`](crate::book::Book::status). It waits for its turn, and calls nothing of the device.
+    ///
+    /// The Book stands for some world of this opening, and its history begins with the front of a receipt that is handed in; that receipt's
+    /// change, if it has one, is acknowledged there.
+    pub fn status<W: Wait>(&self, rt: &W, last: Option<&Receipt<J>>) -> BookStatus
+        ensures { SaysStatus J.base J.setting result (option_copied last.entry) }
+    {
+        let turn = self.queue.come(rt);
+        let status = self.queue.value(rt).status(last);
+        self.queue.end(rt, turn);
+        status
     }
 
     /// The Book, once all callers have ended. It confirms each receipt of this opening. As after each call of `Book::run`, each image of

@@ -4,6 +4,7 @@ pub mod Defined
 pub mod Loads
 pub mod Texts
 pub mod Entries
+pub mod Spoofs
 pub mod Leniently
 pub mod Kept
 pub mod Places

@@ -1,6 +1,7 @@
 -- Where rules stand.
-use Rattle.std.proofs.Common.{◌≡◌, ℕ, suc, ◌+◌, ◌==◌, Bool, true, false, List, [], ◌∷◌, ◌++◌, map, length, get_or, Result, Ok, arith, subst, nat_le, if◌then◌else◌, inl, inr}
-use Rattle.std.specs.Prelude.{All, Contains}
+use Rattle.std.proofs.Common.{◌≡◌, ℕ, suc, ◌+◌, ◌==◌, ◌&&◌, ◌||◌, Bool, true, false, List, [], ◌∷◌, ◌++◌, map, length, get_or, Result, Ok, refl, arith, subst, nat_le, if◌then◌else◌, inl, inr}
+use Rattle.std.specs.Prelude.{All, Contains, codes}
+use Rattle.std.specs.Str.{bytes_eq}
 use Rattle.std.proofs.lemmas.List.{length-map, get_or-map}
 use Rattle.std.proofs.lemmas.List.Elements.{All-nil, All-append, All-map, All-filter}
 use Rattle.pf_rule.specs.Rules.{PlainRule}
@@ -8,9 +9,14 @@ use Rattle.pf_lists.specs.Multiplied.{multiplied}
 use Rattle.pf_tokens.specs.declared.{place.Place.Place, files.File.File, token.Token.Token}
 use Rattle.pf_parse.specs.declared.{parser.Mode.Mode, statements.Parsed.Parsed, tree.Product.Product, tree.Tree.Tree, tree.Written.Written}
 use Rattle.pf_parse.specs.declared.fault.Mistake.TheVariants as mistakes
-use Rattle.pf_parse.specs.{Stops.fault_at, Lines.parsed, Laws.BeginsAt}
+use Rattle.pf_tokens.specs.declared.token.Kind.TheVariants.{Word}
+use Rattle.pf_tokens.specs.{Places.text_of, Words.same_kind}
+use Rattle.pf_parse.specs.{Stops.fault_at, Lines.parsed, Laws.{begins_rule, BeginsAt}}
+use Rattle.pf_interfaces.specs.declared.interface.Interface.{Interface}
+use Rattle.pf_interfaces.specs.Addresses.{with_addresses}
+use Rattle.pf_interfaces.proofs.Words.{words_are}
 use Rattle.pf_conf.specs.declared.{found.TheConstants.RULE_LIMIT}
-use Rattle.pf_conf.specs.{Steps.each, Laws.{IsRulePlace}}
+use Rattle.pf_conf.specs.{Steps.each, Lines.{spoof_checked, parsed_with}, Laws.{IsRulePlace}}
 use Rattle.pf_conf.specs.Rulesets.{PlacedRule, rule_at, rules_at, with_more, with_product, written_in, skips_in, rules_in}
 use Rattle.pf_conf.proofs.Kept.{both, if_so, TreeSo, FilesSo}
 
@@ -69,10 +75,27 @@ among ps k d within =
 abbrev pub LinesAt : Type 0
 LinesAt = (ts : List Token) (mode : Mode) (is_main : Bool) (p : Parsed) → parsed ts mode is_main ≡ Ok p → All (λ (w : Written). BeginsAt ts w.product.place) p.tree.rules
 
-pub files_at : LinesAt → (files : List File) → FilesSo (λ (r : PlacedRule). IsRulePlace files r.place) files
-files_at lines files m read flat mode main p one two =
-    let skips : All (λ (w : Product). IsRulePlace files w.place) p.tree.skips =
+lines_read : (interfaces : List Interface) (ts : List Token) (mode : Mode) (main : Bool) (p : Parsed) → parsed_with interfaces ts mode main ≡ Ok p → parsed (with_addresses interfaces ts) mode main ≡ Ok p
+unfolding parsed_with
+lines_read interfaces ts mode main p from =
+    let b = both (spoof_checked interfaces ts) (λ _. parsed (with_addresses interfaces ts) mode main) p from in b.2
+
+is_word_at_all : (w x y z : Bool) → ((w && x) || (w && y)) || (w && z) ≡ true → w ≡ true
+is_word_at_all true x y z is = refl
+is_word_at_all false x y z is = is
+
+begins_so : (t : Token) → begins_rule t ≡ true → same_kind t.kind Word ≡ true
+begins_so t is =
+    is_word_at_all (same_kind t.kind Word) (bytes_eq (text_of t.text) (codes "pass")) (bytes_eq (text_of t.text) (codes "block")) (bytes_eq (text_of t.text) (codes "anchor")) is
+
+-- a rule's word is one of the file's
+begins_there : (interfaces : List Interface) (ts : List Token) (p : Place) → BeginsAt (with_addresses interfaces ts) p → BeginsAt ts p
+begins_there interfaces ts p here = (here.0, words_are interfaces ts here.0 here.1 (begins_so here.0 here.3), here.2, here.3)
+
+pub files_at : LinesAt → (files : List File) (interfaces : List Interface) → FilesSo (λ (r : PlacedRule). IsRulePlace files interfaces r.place) files interfaces
+files_at lines files interfaces m read flat mode main p one two =
+    let skips : All (λ (w : Product). IsRulePlace files interfaces w.place) p.tree.skips =
     λ k d within. record { file = m; before = read; flat = flat; read = one; begins = inr (record { mode = mode; is_main = main; lines = p; read = two; among = among p.tree.skips k d within }) } in
-    let written : All (λ (w : Written). IsRulePlace files w.product.place) p.tree.rules =
-    λ k d within. record { file = m; before = read; flat = flat; read = one; begins = inl (lines flat.tokens mode main p two k d within) } in
-    tree_at (IsRulePlace files) p.tree skips written
+    let written : All (λ (w : Written). IsRulePlace files interfaces w.product.place) p.tree.rules =
+    λ k d within. record { file = m; before = read; flat = flat; read = one; begins = inl (begins_there interfaces flat.tokens _ (lines (with_addresses interfaces flat.tokens) mode main p (lines_read interfaces flat.tokens mode main p two) k d within)) } in
+    tree_at (IsRulePlace files interfaces) p.tree skips written

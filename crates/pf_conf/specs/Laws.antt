@@ -3,26 +3,27 @@ use Rattle.std.specs.{Prelude.{◌≡◌, ◌≤◌, ◌⊎◌, ℕ, Bool, List,
 use Rattle.pf_addr.specs.Path.Paths.{same_path}
 use Rattle.pf_tokens.specs.declared.{place.Place.Place, files.File.File, flat.Flat.Flat}
 use Rattle.pf_parse.specs.declared.{parser.Mode.Mode, statements.Parsed.Parsed, tree.Product.Product}
-use Rattle.pf_parse.specs.{Lines.parsed, Laws.BeginsAt}
+use Rattle.pf_parse.specs.Laws.{BeginsAt}
+use Rattle.pf_interfaces.specs.declared.interface.Interface.{Interface}
 use Rattle.pf_table.specs.declared.limits.TheConstants.{TABLE_LIMIT}
 use Rattle.pf_conf.specs.declared.{found.Conf.Conf, found.FilledTable.FilledTable, found.Mention.Mention, found.Ruleset.Ruleset, found.TheConstants.{RULE_LIMIT, RULESET_LIMIT}}
-use Rattle.pf_conf.specs.Resolving.{flat_of}
+use Rattle.pf_conf.specs.{Lines.parsed_with, Resolving.flat_of}
 
 -- Here an interface is named that a file's lines skip.
-pub record SkipsAt (flat : Flat) (p : Place) : Type 0 where
+pub record SkipsAt (interfaces : List Interface) (flat : Flat) (p : Place) : Type 0 where
   pub mode : Mode
   pub is_main : Bool
   pub lines : Parsed
-  pub read : parsed flat.tokens mode is_main ≡ Ok lines
+  pub read : parsed_with interfaces flat.tokens mode is_main ≡ Ok lines
   pub among : Contains (map (λ (w : Product). w.place) lines.tree.skips) p
 
 -- Here a rule begins of a file that is read, with pass, block or anchor, or an interface is named that the file skips.
-pub record IsRulePlace (files : List File) (p : Place) : Type 0 where
+pub record IsRulePlace (files : List File) (interfaces : List Interface) (p : Place) : Type 0 where
   pub file : Mention
   pub before : ℕ
   pub flat : Flat
   pub read : flat_of files file before ≡ Ok flat
-  pub begins : BeginsAt flat.tokens p ⊎ SkipsAt flat p
+  pub begins : BeginsAt flat.tokens p ⊎ SkipsAt interfaces flat p
 
 -- One commit can have these rulesets and tables: each path's rules once, and so many rulesets, rules and entries.
 pub record FitsCommit (c : Conf) : Type 0 where

@@ -5,6 +5,7 @@ pub mod Found
 pub mod Rulesets
 pub mod Filling
 pub mod Telling
+pub mod Lines
 pub mod Resolving
 pub mod Shown
 pub mod Laws

@@ -8,9 +8,10 @@ use Rattle.pf_tokens.specs.declared.{files.File.File, files.TheConstants.READING
 use Rattle.pf_tokens.specs.{Places.{start_of, text_of}, Files.text_of_file, Flat.read_file}
 use Rattle.pf_parse.specs.declared.{fault.At.At, fault.Remark.Remark, fault.Stop.Stop, parser.Mode.Mode, tree.Load.Load, tree.Tree.Tree}
 use Rattle.pf_parse.specs.declared.fault.Mistake.TheVariants as mistakes
-use Rattle.pf_parse.specs.{Reading.Word, Lines.parsed}
+use Rattle.pf_parse.specs.Reading.{Word}
+use Rattle.pf_interfaces.specs.declared.interface.Interface.{Interface}
 use Rattle.pf_conf.specs.declared.{fault.Spot.Spot, fault.Note.Note, fault.Unread.Unread, found.Conf.Conf, found.Found.Found, found.Ruleset.Ruleset, found.Mention.Mention, found.Waiting.Waiting, found.TheConstants.{LINE_LIMIT, TICKET_BYTES}}
-use Rattle.pf_conf.specs.{Found.{nothing_found, is_full, has_rules}, Rulesets.with_rulesets, Filling.with_tables}
+use Rattle.pf_conf.specs.{Lines.parsed_with, Found.{nothing_found, is_full, has_rules}, Rulesets.with_rulesets, Filling.with_tables}
 use Rattle.pf_conf.specs.Telling.{spot_of, first_spot, told_at, telling, telling_with, telling_at}
 
 -- ---- a file's tree
@@ -45,9 +46,9 @@ abbrev pub room_for : Spot → Found → Result Found Unread
 room_for spot s = if is_full s then Err (told_at spot mistakes.ManyRulesets) else Ok s
 
 -- what the tokens of a file stand for, whose rulesets are mentioned at this spot
-unfoldable pub with_flat : List File → Mode → Word → Spot → Flat → Found → Result Found Unread
-with_flat files mode path spot flat s =
-    telling files flat.macros (parsed flat.tokens mode (is_main path))
+unfoldable pub with_flat : List File → List Interface → Mode → Word → Spot → Flat → Found → Result Found Unread
+with_flat files interfaces mode path spot flat s =
+    telling files flat.macros (parsed_with interfaces flat.tokens mode (is_main path))
     >>= λ p. room_for spot (with_notes files flat.macros p.notes s)
     >>= λ t. telling files flat.macros (with_tree files flat.macros path p.tree t)
 
@@ -68,28 +69,28 @@ abbrev pub free_for : Word → Spot → Found → Result Found Unread
 free_for path spot s = if has_rules path s then Err (told_at spot (mistakes.RulesTwice (path_text path))) else Ok s
 
 -- a file, for the rulesets from this path on
-unfoldable pub with_file : List File → Mode → Word → Mention → Found → Result Found Unread
-with_file files mode path m s =
-    free_for path m.at s >>= λ t. flat_of files m t.files_read >>= λ flat. with_flat files mode path m.at flat (after_flat flat t)
+unfoldable pub with_file : List File → List Interface → Mode → Word → Mention → Found → Result Found Unread
+with_file files interfaces mode path m s =
+    free_for path m.at s >>= λ t. flat_of files m t.files_read >>= λ flat. with_flat files interfaces mode path m.at flat (after_flat flat t)
 
 -- ---- loads
 
-abbrev pub with_load : List File → Mode → Mention → Option Word → Found → Result Found Unread
-with_load files mode m None s = Err (told_at m.at mistakes.LongPath)
-with_load files mode m (Some path) s = with_file files mode path m s
+abbrev pub with_load : List File → List Interface → Mode → Mention → Option Word → Found → Result Found Unread
+with_load files interfaces mode m None s = Err (told_at m.at mistakes.LongPath)
+with_load files interfaces mode m (Some path) s = with_file files interfaces mode path m s
 
-abbrev pub with_waiting : List File → Mode → Option Waiting → Found → Result Found Unread
-with_waiting files mode None s = Ok s
-with_waiting files mode (Some w) s = with_load files mode w.mention w.path s
+abbrev pub with_waiting : List File → List Interface → Mode → Option Waiting → Found → Result Found Unread
+with_waiting files interfaces mode None s = Ok s
+with_waiting files interfaces mode (Some w) s = with_load files interfaces mode w.mention w.path s
 
 -- the load of this number, if there are so many
-abbrev pub load_numbered : List File → Mode → ℕ → Found → Result Found Unread
-load_numbered files mode n s = with_waiting files mode (slice_get s.waiting n) s
+abbrev pub load_numbered : List File → List Interface → Mode → ℕ → Found → Result Found Unread
+load_numbered files interfaces mode n s = with_waiting files interfaces mode (slice_get s.waiting n) s
 
 -- The loads from this number on, at most so many. Each takes one of the readings.
-unfoldable pub loads_from : List File → Mode → ℕ → ℕ → Found → Result Found Unread
-loads_from files mode n zero s = Ok s
-loads_from files mode n (suc more) s = load_numbered files mode n s >>= λ t. loads_from files mode (n + 1) more t
+unfoldable pub loads_from : List File → List Interface → Mode → ℕ → ℕ → Found → Result Found Unread
+loads_from files interfaces mode n zero s = Ok s
+loads_from files interfaces mode n (suc more) s = load_numbered files interfaces mode n s >>= λ t. loads_from files interfaces mode (n + 1) more t
 
 -- ---- all
 
@@ -111,6 +112,6 @@ abbrev pub main_file : Word → Mention
 main_file name = record { at = first_spot name; named = first_spot name; name = name }
 
 -- what a file means that is read for the rulesets from this path on
-unfoldable pub resolved : List File → Mode → Word → Word → Result Conf Unread
-resolved files mode base name =
-    with_file files mode base (main_file name) nothing_found >>= loads_from files mode 0 READING_LIMIT >>= committed (first_spot name)
+unfoldable pub resolved : List File → List Interface → Mode → Word → Word → Result Conf Unread
+resolved files interfaces mode base name =
+    with_file files interfaces mode base (main_file name) nothing_found >>= loads_from files interfaces mode 0 READING_LIMIT >>= committed (first_spot name)

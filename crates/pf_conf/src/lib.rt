@@ -3,8 +3,9 @@
 //!
 //! The modules, each of which uses only those before it: `fault` (what a user is told, and where), `tables` (a table's entries and their
 //! texts), `found` (rulesets, tables and what is still to be loaded), `rulesets` (rules in braces), `filling` (tables from lists and
-//! files), `telling` (places as a user finds them), `resolving` (all files), `shown` (what is printed) and `laws`. The lines of a file are
-//! read by pf_parse, the lists of a rule are multiplied by pf_lists, and a table's entries are put in order by pf_table.
+//! files), `telling` (places as a user finds them), `lines` (a file's lines), `resolving` (all files), `shown` (what is printed) and `laws`.
+//! Where interfaces are named as hosts, pf_interfaces puts their addresses. The lines of a file are read by pf_parse, the lists of a rule are
+//! multiplied by pf_lists, and a table's entries are put in order by pf_table.
 //!
 //! The crate opens no file: [`resolve`] answers with the name of one that isn't given, and whoever reads files asks again. It knows no
 //! server, no ticket and no state.
@@ -21,6 +22,7 @@ mod fault;
 mod filling;
 mod found;
 mod laws;
+mod lines;
 mod resolving;
 mod rulesets;
 mod shown;
@@ -33,6 +35,7 @@ pub use laws::{
     a_commit_can_have_it, lenient_takes_what_strict_takes, printed_rules_are_read_again,
     rules_stand_at_their_words,
 };
+pub use pf_interfaces::{Interface, read_interface};
 pub use pf_parse::{At, LeftOut, Mistake, Mode, Reason, Remark};
 pub use resolving::resolve;
 pub use shown::write_conf;

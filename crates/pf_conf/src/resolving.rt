@@ -2,15 +2,16 @@
 ghost use Rattle.std.specs.Prelude.{◌≡◌, ◌≤◌, ◌<◌, ◌^◌, ◌+◌, ◌-◌, length, sum_by, codes, min, IfOk, OnOk};
 ghost use Rattle.pf_tokens.specs.declared.files.TheConstants.{FILE_LIMIT, READING_LIMIT};
 ghost use Rattle.pf_tokens.specs.{Places.start_of, Files.text_of_file};
-ghost use Rattle.pf_parse.specs.Lines.{parsed};
-ghost use Rattle.pf_conf.specs.{Steps.Leaves, Telling.{telling, telling_at, GivesTold, FindsTold, LeavesTold}};
+ghost use Rattle.pf_conf.specs.{Steps.Leaves, Lines.parsed_with, Telling.{telling, telling_at, GivesTold, FindsTold, LeavesTold}};
 ghost use Rattle.pf_conf.specs.Resolving.{note_of, waiting_of, with_notes, with_loads, with_tree, is_main, room_for, free_for, with_load, with_flat, flat_of, with_file, load_numbered, loads_from, part_length, commit_length, committed, main_file, resolved};
 
 use crate::fault::{Note, Spot, Unread};
 use crate::found::{Conf, Found, LINE_LIMIT, Mention, Ruleset, TICKET_BYTES, Waiting, path_text};
+use crate::lines::parse_with;
 use crate::telling::{told, told_at};
 use pf_addr::path::Path;
-use pf_parse::{At, Load, Mistake, Mode, Parsed, Remark, Stop, Tree, parse};
+use pf_interfaces::Interface;
+use pf_parse::{At, Load, Mistake, Mode, Parsed, Remark, Stop, Tree};
 use pf_tokens::{
     Files, Flat, INCLUDE_LIMIT, Items, Macros, Place, READING_LIMIT, Stop as TokenStop,
     text_of_file,
@@ -98,18 +99,15 @@ fn flat_of(
 fn parsed(
     alloc: Global,
     files: &Files,
+    interfaces: &[Interface],
     mode: Mode,
     path: &Path,
     flat: &Flat,
 ) -> Result<Parsed, Unread>
-    ensures { GivesTold result (telling files.now flat.now.macros (parsed flat.now.tokens mode (is_main path.now))) }
+    ensures { GivesTold result (telling files.now flat.now.macros (parsed_with interfaces.now flat.now.tokens mode (is_main path.now))) }
 {
-    match parse(
-        alloc,
-        flat.tokens.as_slice(),
-        mode,
-        path.as_bytes().is_empty(),
-    ) {
+    let (tokens, is_main) = (flat.tokens.as_slice(), path.as_bytes().is_empty());
+    match parse_with(alloc, interfaces, tokens, mode, is_main) {
         Ok(parsed) => Ok(parsed),
         Err(stop) => Err(told(alloc, files, &flat.macros, stop)),
     }
@@ -201,14 +199,15 @@ impl Found {
         &mut self,
         alloc: Global,
         files: &Files,
+        interfaces: &[Interface],
         mode: Mode,
         path: &Path,
         at: &Spot,
         flat: &Flat,
     ) -> Result<(), Unread>
-        ensures { LeavesTold result self.new (with_flat files.now mode path.now at.now flat.now self.old) }
+        ensures { LeavesTold result self.new (with_flat files.now interfaces.now mode path.now at.now flat.now self.old) }
     {
-        let Parsed { tree, notes } = parsed(alloc, files, mode, path, flat)?;
+        let Parsed { tree, notes } = parsed(alloc, files, interfaces, mode, path, flat)?;
         self.add_notes(alloc, files, &flat.macros, notes)?;
         self.check_room(alloc, at)?;
         self.add_told(alloc, files, &flat.macros, path, &tree)
@@ -231,16 +230,17 @@ impl Found {
         &mut self,
         alloc: Global,
         files: &Files,
+        interfaces: &[Interface],
         mode: Mode,
         path: &Path,
         mention: &Mention,
     ) -> Result<(), Unread>
-        ensures { LeavesTold result self.new (with_file files.now mode path.now mention.now self.old) }
+        ensures { LeavesTold result self.new (with_file files.now interfaces.now mode path.now mention.now self.old) }
     {
         self.check_free(alloc, path, &mention.at)?;
         let flat = flat_of(alloc, files, mention, self.files_read)?;
         self.files_read = flat.files_read;
-        self.add_flat(alloc, files, mode, path, &mention.at, &flat)
+        self.add_flat(alloc, files, interfaces, mode, path, &mention.at, &flat)
     }
 
     /// Adds the file that is mentioned, if its path isn't too long.
@@ -248,14 +248,15 @@ impl Found {
         &mut self,
         alloc: Global,
         files: &Files,
+        interfaces: &[Interface],
         mode: Mode,
         path: Option<Path>,
         mention: &Mention,
     ) -> Result<(), Unread>
-        ensures { LeavesTold result self.new (with_load files.now mode mention.now path self.old) }
+        ensures { LeavesTold result self.new (with_load files.now interfaces.now mode mention.now path self.old) }
     {
         match path {
-            Some(path) => self.add_file(alloc, files, mode, &path, mention),
+            Some(path) => self.add_file(alloc, files, interfaces, mode, &path, mention),
             None => Err(told_at(alloc, &mention.at, Mistake::LongPath)),
         }
     }
@@ -265,23 +266,32 @@ impl Found {
         &mut self,
         alloc: Global,
         files: &Files,
+        interfaces: &[Interface],
         mode: Mode,
         number: usize,
     ) -> Result<(), Unread>
-        ensures { LeavesTold result self.new (load_numbered files.now mode number self.old) }
+        ensures { LeavesTold result self.new (load_numbered files.now interfaces.now mode number self.old) }
     {
         match self.load_numbered(alloc, number)? {
-            Some(Waiting { path, mention }) => self.add_load(alloc, files, mode, path, &mention),
+            Some(Waiting { path, mention }) => self.add_load(
+                alloc, files, interfaces, mode, path, &mention,
+            ),
             None => Ok(()),
         }
     }
 
     /// Adds all loads, in the order of their mention. Each takes one of the readings, so that there are no more.
-    fn add_all_loads(&mut self, alloc: Global, files: &Files, mode: Mode) -> Result<(), Unread>
-        ensures { LeavesTold result self.new (loads_from files.now mode 0 READING_LIMIT self.old) }
+    fn add_all_loads(
+        &mut self,
+        alloc: Global,
+        files: &Files,
+        interfaces: &[Interface],
+        mode: Mode,
+    ) -> Result<(), Unread>
+        ensures { LeavesTold result self.new (loads_from files.now interfaces.now mode 0 READING_LIMIT self.old) }
     {
         for number in 0..READING_LIMIT {
-            self.add_load_numbered(alloc, files, mode, number)?;
+            self.add_load_numbered(alloc, files, interfaces, mode, number)?;
         }
         Ok(())
     }
@@ -357,7 +367,8 @@ fn main_file(alloc: Global, name: &[u8]) -> Result<Mention, AllocError>
     })
 }
 
-/// What a file means that is read for the rulesets from this path on, with what it includes and loads.
+/// What a file means that is read for the rulesets from this path on, with what it includes and loads. Where it names one of these
+/// interfaces as a host, that stands for its addresses; each that it names otherwise is refused.
 ///
 /// `Unread::Faulty`: the first fault, where a user finds it; `Unread::Needs`: the name of a file that isn't given, so that whoever reads
 /// files can ask again with it; `Unread::Memory`: out of memory.
@@ -365,15 +376,16 @@ fn main_file(alloc: Global, name: &[u8]) -> Result<Mention, AllocError>
 pub fn resolve(
     alloc: Global,
     files: &Files,
+    interfaces: &[Interface],
     mode: Mode,
     base: &Path,
     name: &[u8],
 ) -> Result<Conf, Unread>
-    ensures { GivesTold result (resolved files.now mode base.now name.now) }
+    ensures { GivesTold result (resolved files.now interfaces.now mode base.now name.now) }
 {
     let file = main_file(alloc, name)?;
     let mut found = Found::new(alloc);
-    found.add_file(alloc, files, mode, base, &file)?;
-    found.add_all_loads(alloc, files, mode)?;
+    found.add_file(alloc, files, interfaces, mode, base, &file)?;
+    found.add_all_loads(alloc, files, interfaces, mode)?;
     found.committed(alloc, &file.at)
 }

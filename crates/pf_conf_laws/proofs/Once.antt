@@ -8,17 +8,20 @@ use Rattle.pf_table.specs.Entries.{PlainEntry}
 use Rattle.pf_tokens.specs.declared.{place.Place.Place, files.File.File, files.TheConstants.READING_LIMIT, flat.Flat.Flat, flat.Macro.Macro}
 use Rattle.pf_parse.specs.declared.{fault.Stop.Stop, parser.Mode.Mode, statements.Parsed.Parsed, tree.Braces.Braces, tree.Table.Table, tree.Tree.Tree}
 use Rattle.pf_parse.specs.declared.fault.Mistake.TheVariants as mistakes
-use Rattle.pf_parse.specs.{Stops.fault_at, Reading.Word, Lines.parsed}
+use Rattle.pf_parse.specs.{Stops.fault_at, Reading.Word}
 use Rattle.pf_conf.specs.declared.{fault.Spot.Spot, fault.Unread.Unread, found.Conf.Conf, found.FilledTable.FilledTable, found.Ruleset.Ruleset}
 use Rattle.pf_conf.specs.declared.found.TheConstants.{RULESET_LIMIT, LINE_LIMIT}
 use Rattle.pf_conf.specs.{Tables.filled, Steps.each, Found.{nothing_found, is_full, has_rules, has_tables}}
 use Rattle.pf_conf.specs.Rulesets.{PlacedRule, rules_in, with_ruleset, with_rules, free_path, path_of_braces, Opened, with_braces, with_rulesets}
 use Rattle.pf_conf.specs.Filling.{Defined, gathered, with_filled, is_defined, with_table_path, with_table, with_sources, with_definition, with_tables}
+use Rattle.pf_interfaces.specs.declared.interface.Interface.{Interface}
+use Rattle.pf_conf.specs.Lines.{parsed_with}
 use Rattle.pf_conf.specs.Telling.{telling, told_at, first_spot}
 use Rattle.pf_conf.specs.Resolving.{is_main, room_for, free_for, with_notes, with_loads, with_tree, flat_of, after_flat, main_file, commit_length, with_flat, with_file, with_load, with_waiting, load_numbered, loads_from, committed, resolved}
 use Rattle.pf_conf.proofs.Kept.{both, each_keeps, if_not, if_room, if_free, telling_so}
 use Rattle.pf_conf_laws.specs.Types.{Found, Gathered, Mention, Waiting}
-use Rattle.pf_conf_laws.specs.Commits.{is_table_at, AreOnce, with_path, table_paths, HasRoom}
+use Rattle.pf_load.specs.{Naming.{with_path, table_paths}, Laws.{is_table_at, AreOnce}}
+use Rattle.pf_conf_laws.specs.Commits.{HasRoom}
 
 -- ---- names and paths
 
@@ -256,10 +259,10 @@ not_full : (spot : Spot) (s t : Found) (full : Bool) → (if full then Err (told
 not_full spot s t true from = absurd (cc)
 not_full spot s t false from = refl
 
-flat_once : (files : List File) (mode : Mode) (path : Word) (spot : Spot) (flat : Flat) (s t : Found) → Once s → has_rules path s ≡ false → with_flat files mode path spot flat s ≡ Ok t → Once t
+flat_once : (files : List File) (interfaces : List Interface) (mode : Mode) (path : Word) (spot : Spot) (flat : Flat) (s t : Found) → Once s → has_rules path s ≡ false → with_flat files interfaces mode path spot flat s ≡ Ok t → Once t
 unfolding with_flat
-flat_once files mode path spot flat s t known free from =
-    let a = both (telling files flat.macros (parsed flat.tokens mode (is_main path))) (λ (p : Parsed). room_for spot (with_notes files flat.macros p.notes s) >>= λ u. telling files flat.macros (with_tree files flat.macros path p.tree u)) t from in
+flat_once files interfaces mode path spot flat s t known free from =
+    let a = both (telling files flat.macros (parsed_with interfaces flat.tokens mode (is_main path))) (λ (p : Parsed). room_for spot (with_notes files flat.macros p.notes s) >>= λ u. telling files flat.macros (with_tree files flat.macros path p.tree u)) t from in
     let p : Parsed = a.0 in
     let noted : Found = with_notes files flat.macros p.notes s in
     let b = both (room_for spot noted) (λ (u : Found). telling files flat.macros (with_tree files flat.macros path p.tree u)) t a.2 in
@@ -273,33 +276,33 @@ free_one : (s t : Found) (has : Bool) (e : Unread) → (if has then Err e else O
 free_one s t true e from = absurd (cc)
 free_one s t false e from = refl
 
-file_once : (files : List File) (mode : Mode) (path : Word) (m : Mention) (s t : Found) → Once s → with_file files mode path m s ≡ Ok t → Once t
+file_once : (files : List File) (interfaces : List Interface) (mode : Mode) (path : Word) (m : Mention) (s t : Found) → Once s → with_file files interfaces mode path m s ≡ Ok t → Once t
 unfolding with_file
-file_once files mode path m s t known from =
-    let a = both (free_for path m.at s) (λ (u : Found). flat_of files m u.files_read >>= λ flat. with_flat files mode path m.at flat (after_flat flat u)) t from in
+file_once files interfaces mode path m s t known from =
+    let a = both (free_for path m.at s) (λ (u : Found). flat_of files m u.files_read >>= λ flat. with_flat files interfaces mode path m.at flat (after_flat flat u)) t from in
     let u : Found = a.0 in
-    let b = both (flat_of files m u.files_read) (λ (flat : Flat). with_flat files mode path m.at flat (after_flat flat u)) t a.2 in
+    let b = both (flat_of files m u.files_read) (λ (flat : Flat). with_flat files interfaces mode path m.at flat (after_flat flat u)) t a.2 in
     let e : Unread = told_at m.at (mistakes.RulesTwice (path_text path)) in
     let same : s ≡ u = if_free s u (has_rules path s) e a.1 in
     let free : has_rules path s ≡ false = free_one s u (has_rules path s) e a.1 in
     let here : Once u = subst Once same known in
-    flat_once files mode path m.at b.0 (after_flat b.0 u) t (record { once = here.once; ruled = here.ruled; paths = here.paths; room = here.room })
+    flat_once files interfaces mode path m.at b.0 (after_flat b.0 u) t (record { once = here.once; ruled = here.ruled; paths = here.paths; room = here.room })
     (subst (λ (v : Found). has_rules path v ≡ false) same free) b.2
 
-load_once : (files : List File) (mode : Mode) (m : Mention) (path : Option Word) (s t : Found) → Once s → with_load files mode m path s ≡ Ok t → Once t
-load_once files mode m None s t known from = absurd (cc)
-load_once files mode m (Some path) s t known from = file_once files mode path m s t known from
+load_once : (files : List File) (interfaces : List Interface) (mode : Mode) (m : Mention) (path : Option Word) (s t : Found) → Once s → with_load files interfaces mode m path s ≡ Ok t → Once t
+load_once files interfaces mode m None s t known from = absurd (cc)
+load_once files interfaces mode m (Some path) s t known from = file_once files interfaces mode path m s t known from
 
-waiting_once : (files : List File) (mode : Mode) (w : Option Waiting) (s t : Found) → Once s → with_waiting files mode w s ≡ Ok t → Once t
-waiting_once files mode None s t known from = let same : s ≡ t = cc in subst Once same known
-waiting_once files mode (Some w) s t known from = load_once files mode w.mention w.path s t known from
+waiting_once : (files : List File) (interfaces : List Interface) (mode : Mode) (w : Option Waiting) (s t : Found) → Once s → with_waiting files interfaces mode w s ≡ Ok t → Once t
+waiting_once files interfaces mode None s t known from = let same : s ≡ t = cc in subst Once same known
+waiting_once files interfaces mode (Some w) s t known from = load_once files interfaces mode w.mention w.path s t known from
 
-loads_once : (files : List File) (mode : Mode) (n more : ℕ) (s t : Found) → Once s → loads_from files mode n more s ≡ Ok t → Once t
+loads_once : (files : List File) (interfaces : List Interface) (mode : Mode) (n more : ℕ) (s t : Found) → Once s → loads_from files interfaces mode n more s ≡ Ok t → Once t
 unfolding loads_from
-loads_once files mode n zero s t known from = let same : s ≡ t = cc in subst Once same known
-loads_once files mode n (suc more) s t known from =
-    let b = both (load_numbered files mode n s) (λ (u : Found). loads_from files mode (n + 1) more u) t from in
-    loads_once files mode (n + 1) more b.0 t (waiting_once files mode (slice_get s.waiting n) s b.0 known b.1) b.2
+loads_once files interfaces mode n zero s t known from = let same : s ≡ t = cc in subst Once same known
+loads_once files interfaces mode n (suc more) s t known from =
+    let b = both (load_numbered files interfaces mode n s) (λ (u : Found). loads_from files interfaces mode (n + 1) more u) t from in
+    loads_once files interfaces mode (n + 1) more b.0 t (waiting_once files interfaces mode (slice_get s.waiting n) s b.0 known b.1) b.2
 
 nothing_once : Once nothing_found
 nothing_once = record { once = tt; ruled = All-nil (λ (t : FilledTable). has_rules t.path nothing_found ≡ true); paths = refl; room = lit≤ tt }
@@ -318,23 +321,23 @@ committed_by s c true e is from = record { same = cc; line = leb-true (commit_le
 committed_by s c false e is from = absurd (cc)
 
 -- what was found before the commit
-found_once : (files : List File) (mode : Mode) (base name : Word) (c : Conf) → resolved files mode base name ≡ Ok c → (s : Found) × Once s × Committed s c
+found_once : (files : List File) (interfaces : List Interface) (mode : Mode) (base name : Word) (c : Conf) → resolved files interfaces mode base name ≡ Ok c → (s : Found) × Once s × Committed s c
 unfolding resolved
-found_once files mode base name c from =
-    let a = both (with_file files mode base (main_file name) nothing_found >>= loads_from files mode 0 READING_LIMIT) (committed (first_spot name)) c from in
+found_once files interfaces mode base name c from =
+    let a = both (with_file files interfaces mode base (main_file name) nothing_found >>= loads_from files interfaces mode 0 READING_LIMIT) (committed (first_spot name)) c from in
     let u : Found = a.0 in
-    let b = both (with_file files mode base (main_file name) nothing_found) (loads_from files mode 0 READING_LIMIT) u a.1 in
-    let all : Once u = loads_once files mode 0 READING_LIMIT b.0 u (file_once files mode base (main_file name) nothing_found b.0 nothing_once b.1) b.2 in
+    let b = both (with_file files interfaces mode base (main_file name) nothing_found) (loads_from files interfaces mode 0 READING_LIMIT) u a.1 in
+    let all : Once u = loads_once files interfaces mode 0 READING_LIMIT b.0 u (file_once files interfaces mode base (main_file name) nothing_found b.0 nothing_once b.1) b.2 in
     (u, all, committed_by u c (nat_le (commit_length u) LINE_LIMIT) (told_at (first_spot name) mistakes.LongCommit) refl a.2)
 
-pub tables_once : (files : List File) (mode : Mode) (base name : Word) (c : Conf) → resolved files mode base name ≡ Ok c → AreOnce c.tables
-tables_once files mode base name c from =
-    let f = found_once files mode base name c from in
+pub tables_once : (files : List File) (interfaces : List Interface) (mode : Mode) (base name : Word) (c : Conf) → resolved files interfaces mode base name ≡ Ok c → AreOnce c.tables
+tables_once files interfaces mode base name c from =
+    let f = found_once files interfaces mode base name c from in
     subst (λ (d : Conf). AreOnce d.tables) f.2.same f.1.once
 
-pub room_for_all : (files : List File) (mode : Mode) (base name : Word) (c : Conf) → resolved files mode base name ≡ Ok c → HasRoom c
-room_for_all files mode base name c from =
-    let f = found_once files mode base name c from in
+pub room_for_all : (files : List File) (interfaces : List Interface) (mode : Mode) (base name : Word) (c : Conf) → resolved files interfaces mode base name ≡ Ok c → HasRoom c
+room_for_all files interfaces mode base name c from =
+    let f = found_once files interfaces mode base name c from in
     let s : Found = f.0 in
     let all : List Word → Type 0 = λ ps. length s.rulesets + length ps ≤ RULESET_LIMIT in
     let line : List Word → Type 0 = λ ps. commit_length (record s { table_paths = ps }) ≤ LINE_LIMIT in

@@ -8,11 +8,14 @@ ghost use Rattle.pf_tokens.specs.declared.lexing.Source.TheVariants as sources;
 ghost use Rattle.pf_tokens.specs.{Lexing.lex, Places.text_of, Laws.bytes_of};
 ghost use Rattle.pf_parse.specs.declared.{parser.Mode.Mode, statements.Parsed.Parsed, tree.Tree.Tree};
 ghost use Rattle.pf_parse.specs.{Lists.{interface, protocol, port, listed_item, listed_hosts, hosts_in, item_more}, Options.options_more, Lines.{parts_more, lines_more, parsed}};
+ghost use Rattle.pf_interfaces.specs.declared.interface.Interface.{Interface};
 ghost use Rattle.pf_conf.specs.declared.found.Conf.{Conf};
 ghost use Rattle.pf_conf.specs.{Resolving.resolved, Rulesets.{PlacedRule, skips_in, written_in, rules_in}};
-ghost use Rattle.pf_conf_laws.specs.{Types.{Start, Tests}, Lists.{left_of, AreReadAs, HaveOneItem, IsOne}, Commits.{AreOnce, HasRoom}, Loads.{MoreLoadsChangeNothing, NoLoadWaits}, Turns.TurnsSuffice, Words.HasRulesAlone, Places.{beginnings, places_of, AreSome}, Pieces.IsCut, Rulesets.AreRulesOf, Spaces.{is_plain_word, read_as, as_word}};
+ghost use Rattle.pf_load.specs.Laws.{AreOnce};
+ghost use Rattle.pf_conf_laws.specs.{Types.{Start, Tests}, Lists.{left_of, AreReadAs, HaveOneItem, IsOne}, Commits.{HasRoom, FilesLoadExactly}, Loads.{MoreLoadsChangeNothing, NoLoadWaits}, Turns.TurnsSuffice, Words.HasRulesAlone, Places.{beginnings, places_of, AreSome}, Pieces.IsCut, Rulesets.AreRulesOf, Spaces.{is_plain_word, read_as, as_word}};
 
 use pf_lists::{rules_are_counted, ways_have_numbers};
+use pf_load::a_load_replaces_what_it_names;
 use pf_rule::rules_and_packets_are_read_as_spelled;
 
 /// Lists stand for the rules that pf_rule reads of their ways, in order, but for the ways that are left out since their families differ.
@@ -37,13 +40,21 @@ pub fn a_rule_without_lists_is_one_rule()
 
 /// Of what a file means, with all that it loads, no table is filled twice.
 pub fn tables_are_filled_once()
-    ensures { (files : List File) (mode : Mode) (base name : List ℕ) (c : Conf) → resolved files mode base name ≡ Ok c → AreOnce c.tables }
+    ensures { (files : List File) (interfaces : List Interface) (mode : Mode) (base name : List ℕ) (c : Conf) → resolved files interfaces mode base name ≡ Ok c → AreOnce c.tables }
 {}
+
+/// After the commit of a load of a file that went through, its rulesets have exactly the file's rules, and its tables the file's entries,
+/// each once; all other rulesets and tables are as they were.
+pub fn a_file_is_loaded_exactly()
+    ensures { FilesLoadExactly }
+{
+    a_load_replaces_what_it_names();
+}
 
 /// One commit has room for all that a file means: the rules of each path and the tables of each path are 64 rulesets at most, and one line
 /// of 4,096 bytes names them with any tickets.
 pub fn one_commit_has_room()
-    ensures { (files : List File) (mode : Mode) (base name : List ℕ) (c : Conf) → resolved files mode base name ≡ Ok c → HasRoom c }
+    ensures { (files : List File) (interfaces : List Interface) (mode : Mode) (base name : List ℕ) (c : Conf) → resolved files interfaces mode base name ≡ Ok c → HasRoom c }
 {}
 
 /// All files that are mentioned by `load anchor` are read, if no fault is told: there are fewer of them than files that may be read.

@@ -42,7 +42,7 @@ pub(crate) fn is_read_again(alloc: Global, conf: &Conf) -> io::Result<bool> {
         return Ok(true);
     }
     let files = file_of(alloc, b"printed", &text)?;
-    match resolve(alloc, &files, Mode::Strict, &Path::main(), b"printed") {
+    match resolve(alloc, &files, &[], Mode::Strict, &Path::main(), b"printed") {
         Ok(again) => {
             let printed = rules_text(alloc, &again)?;
             Ok(printed.as_slice() == text.as_slice())

@@ -2,7 +2,7 @@
 ghost use Rattle.std.specs.Prelude.{◌<◌};
 
 use pf_addr::path::Path;
-use pf_conf::Mode;
+use pf_conf::{Interface, Mode, read_interface};
 use pf_tokens::{Bytes, Contents, File, Items};
 use std::alloc::{AllocError, Global};
 
@@ -60,6 +60,18 @@ impl<'a> Row<'a> {
         } else {
             Mode::Strict
         }
+    }
+
+    /// The interfaces whose addresses are known.
+    pub(crate) fn interfaces(&self, alloc: Global) -> Result<Items<Interface>, AllocError> {
+        let mut interfaces = Items::new(alloc);
+        for words in self.words.split("--interface ").skip(1) {
+            let (text, _) = words.split_once(' ').unwrap_or((words, ""));
+            if let Some(interface) = read_interface(alloc, text.as_bytes())? {
+                interfaces.push(interface)?;
+            }
+        }
+        Ok(interfaces)
     }
 
     /// The path whose rulesets the file has.

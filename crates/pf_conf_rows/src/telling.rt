@@ -31,10 +31,12 @@ fn meaning(
     files: &mut Files,
     case: &Row<'_>,
 ) -> Result<Result<Conf, Unread>, AllocError> {
+    let interfaces = case.interfaces(alloc)?;
     for _ in 0..READING_LIMIT {
         match resolve(
             alloc,
             files,
+            interfaces.as_slice(),
             case.mode(),
             &case.base(),
             case.name.as_bytes(),

@@ -12,7 +12,7 @@ use Rattle.pf_rule.specs.Bytes.{addr_bytes, direction_byte, family_byte}
 use Rattle.pf_state.specs.{Peer.Records.{PlainInsert, insert_bytes}, Peer.Written.{Each, message_length, message_bytes, CanBeWritten}, States.PlainState, Failover.Outgoing.{exported_insert, exported_message}, Laws.Failover.IsState}
 use Rattle.pf_state.proofs.{Cut.by_parts, ExportParts.told_long, ReadBack.are_inserts}
 use Rattle.pf_core.specs.declared.{command.Command.TheVariants.States, command.StateCommand.TheVariants.Peer, reply.Refusal.Refusal}
-use Rattle.pf_line.specs.{Grammar.{decided, line as grammar, Spoken, Tells}, Lines.{is_line_byte, is_bad_line, line_at, Means, said}, Reply.StateTexts.message_line, Laws.Exports.{TellsOf, ExportsAreRead}}
+use Rattle.pf_line.specs.{declared.request.Request.TheVariants.Run, Grammar.{decided, line as grammar, Spoken, Tells}, Lines.{is_line_byte, is_bad_line, line_at, Means, said}, Reply.StateTexts.message_line, Laws.Exports.{TellsOf, ExportsAreRead}}
 use Rattle.pf_line.proofs.SpelledStates.{message_spelled, message_meant}
 
 -- ---- its messages are bytes
@@ -126,7 +126,7 @@ line_of_message : (m : Message) → CanBeWritten m → IsBytes (message_bytes m)
 line_of_message m can are short =
     let bytes = message_bytes m in
     let at = line_said (message_line bytes) bytes (encode_lower bytes) (good_line bytes are short) (two_words bytes are (omega arith)) (message_spelled m are) in
-    record { short = short; means = subst (λ (said : Result (Option Spoken) Refusal). Means said (Ok (Some (States (Peer m))))) (sym at) (message_meant m can) }
+    record { short = short; means = subst (λ (said : Result (Option Spoken) Refusal). Means said (Ok (Some (Run (States (Peer m)))))) (sym at) (message_meant m can) }
 
 -- ---- an export
 

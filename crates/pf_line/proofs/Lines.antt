@@ -10,10 +10,11 @@ use Rattle.pf_rule.specs.declared.fault.Mistake.TheVariants as mistakes
 use Rattle.pf_state.specs.declared.{peer.fault.OneFault.OneFault, peer.fault.OneFault.TheVariants.{Fault, Count}, peer.message.Message.Message}
 use Rattle.pf_state.specs.Peer.One.{IsOne}
 use Rattle.pf_state.proofs.OneMessage.{one_answer}
-use Rattle.pf_core.specs.declared.{command.Command.Command, reply.Refusal.Refusal}
+use Rattle.pf_core.specs.declared.reply.Refusal.{Refusal}
 use Rattle.pf_core.specs.declared.reply.Refusal.TheVariants as refusals
+use Rattle.pf_line.specs.declared.request.Request.{Request}
 use Rattle.pf_line.specs.Grammar as grammar
-use Rattle.pf_line.specs.{Grammar.{Spoken, Says, Tells, decided}, Lines.{is_line_byte, is_bad_line, is_comment, no_command, is_silent, refusal_at, said, said_by, line_at, peer_command, Means, SpellsLine, IsCommand, Parses, Speaks, Refused, Answers}}
+use Rattle.pf_line.specs.{Grammar.{Spoken, Says, Tells, AsksStatus, decided}, Lines.{is_line_byte, is_bad_line, is_comment, no_command, is_silent, refusal_at, said, said_by, line_at, peer_command, Means, SpellsLine, IsRequest, Parses, Speaks, Refused, Answers}}
 use Rattle.std.proofs.Math.Bool.{or-true}
 
 -- ---- words that spell a line are no comment
@@ -45,7 +46,7 @@ speaks x (w ∷ ws) h = no_comment w ((lawful grammar.line decided).heads x (w �
 -- ---- a line
 
 abbrev Answer : Type 0
-Answer = Result (Option Command) Refusal
+Answer = Result (Option Request) Refusal
 
 pub bad_answered : (line : List ℕ) → is_bad_line line ≡ true → Answers line (Err refusals.BadLine)
 unfolding line_at
@@ -79,6 +80,7 @@ one_meaning (Ok None) r s h i = h ∙ sym i
 one_meaning (Ok (Some (Says (Ok c)))) r s h i = h ∙ sym i
 one_meaning (Ok (Some (Says (Err mistake)))) r s h i = h ∙ sym i
 one_meaning (Ok (Some (Tells bytes))) r s (m, is, h) (n, js, i) = h ∙ ap peer_command (one_answer bytes m n is js) ∙ sym i
+one_meaning (Ok (Some AsksStatus)) r s h i = h ∙ sym i
 one_meaning (Err e) r s h i = h ∙ sym i
 
 abbrev IsSpelledBy : List Word → Answer → Type 0
@@ -92,6 +94,7 @@ said_found ws (Ok (Tells bytes)) r e (one, is, h) = rw h (by one is) where
   by (Ok m) is = (Tells bytes, found Spoken grammar.line decided ws (Tells bytes) e, (Ok m, is, refl))
   by (Err (Fault f)) is = tt
   by (Err Count) is = tt
+said_found ws (Ok AsksStatus) r e h = rw h (AsksStatus, found Spoken grammar.line decided ws AsksStatus e, refl)
 said_found ws (Err d) r e h = rw h tt
 
 pub is_found : (line : List ℕ) (r : Answer) → Answers line r → IsSpelledBy (words_of line) r
@@ -103,16 +106,16 @@ is_found line r (inl h) = by (is_bad_line line) (is_silent line) h where
   by false false h = said_found (words_of line) (read_all grammar.line (words_of line)) r refl h
 is_found line r (inr h) = rw h.1 tt
 
-means_command : (x : Spoken) (r : Answer) (c : Command) → Means (Ok (Some x)) (Ok (Some c)) → Parses r (Ok (Some x)) → IsCommand r c
-means_command x r c m (inl h) = inl (one_meaning (Ok (Some x)) r (Ok (Some c)) h m)
-means_command x r c m (inr h) = inr h
+means_request : (x : Spoken) (r : Answer) (q : Request) → Means (Ok (Some x)) (Ok (Some q)) → Parses r (Ok (Some x)) → IsRequest r q
+means_request x r q m (inl h) = inl (one_meaning (Ok (Some x)) r (Ok (Some q)) h m)
+means_request x r q m (inr h) = inr h
 
-pub is_only : (line : List ℕ) (r : Answer) → Answers line r → is_bad_line line ≡ false → (c : Command) → SpellsLine c (words_of line) → IsCommand r c
+pub is_only : (line : List ℕ) (r : Answer) → Answers line r → is_bad_line line ≡ false → (q : Request) → SpellsLine q (words_of line) → IsRequest r q
 unfolding line_at
-is_only line r h good c (x, spells, means) =
+is_only line r h good q (x, spells, means) =
     let loud : is_silent line ≡ false = speaks x (words_of line) spells in
     let there : line_at line ≡ Ok (Some x) = rw (good, loud) (ap (said (length (words_of line))) (only Spoken grammar.line decided (words_of line) x spells)) in
-    means_command x r c means (rw there at (is_exact line r h))
+    means_request x r q means (rw there at (is_exact line r h))
 
 abbrev Fails : List ℕ → Answer → Type 0
 Fails line r = IfErr r (λ e. Refused line e)
@@ -131,6 +134,7 @@ said_refused line s (Ok (Tells bytes)) r e (one, is, h) = rw h (by one is) where
   by (Ok m) is = tt
   by (Err (Fault f)) is = (s, (bytes, found Spoken grammar.line decided (words_of line) (Tells bytes) e, is))
   by (Err Count) is = (s, (bytes, found Spoken grammar.line decided (words_of line) (Tells bytes) e, is))
+said_refused line s (Ok AsksStatus) r e h = rw h tt
 said_refused line s (Err (k, rest)) r e h = rw h (at_place line k (length (words_of line) - length rest) s (refused Spoken grammar.line decided (words_of line) k rest e))
 
 pub is_refused : (line : List ℕ) (r : Answer) → Answers line r → Fails line r

@@ -197,9 +197,9 @@ shown = or (codes "rules") (making (λ p. Ok (Ask (ShowRules p))) path)
 
 -- ---- lines
 
--- "sum" | "export" | "show" what is shown
+-- "sum" | "export"
 unfoldable pub overview : Form (Result Command Mistake)
-overview = or (codes "sum") (nothing (Ok (Ask Sum))) (or (codes "export") (nothing (Ok (Ask Export))) (key (codes "show") shown))
+overview = or (codes "sum") (nothing (Ok (Ask Sum))) (key (codes "export") (nothing (Ok (Ask Export))))
 
 -- "judge" PACKET | "test" PATH NAME ADDRESS | an overview
 unfoldable pub question : Form (Result Command Mistake)
@@ -235,13 +235,19 @@ pub data Spoken : Type 0 where
   Says : Result Command Mistake → Spoken
   -- to act on a peer's message, which these bytes have to be
   Tells : List ℕ → Spoken
+  -- to show the status
+  AsksStatus : Spoken
 
--- "peer" HEX | a command that its words spell whole
+-- "status" | what of what is kept is shown
+unfoldable pub showing : Form Spoken
+showing = or (codes "status") (nothing AsksStatus) (making Says shown)
+
+-- "peer" HEX | "show" what is shown | a command that its words spell whole
 abbrev pub line : Form Spoken
-line = or (codes "peer") (making Tells hex) (making Says command)
+line = or (codes "peer") (making Tells hex) (or (codes "show") showing (making Says command))
 
 -- One word of look-ahead decides what is read.
 pub decided : is_decided line ≡ true
 unfolding begun added defined extended committed rolled_back entries_added entries_deleted entries_set killed until tracked state_killed expired judged tested
-    shown overview question history_or_question state_or_question edit_or_question command packet
+    shown overview question history_or_question state_or_question edit_or_question command showing packet
 decided = rw (rule_decided, packet_decided) refl

@@ -10,10 +10,10 @@ use Rattle.pf_rule.specs.declared.fault.Mistake.{Mistake}
 use Rattle.pf_rule.specs.declared.fault.Mistake.TheVariants as mistakes
 use Rattle.pf_state.specs.declared.{peer.fault.OneFault.OneFault, peer.fault.OneFault.TheVariants.{Fault, Count}, peer.message.Message.Message}
 use Rattle.pf_state.specs.Peer.One.{IsOne}
-use Rattle.pf_core.specs.declared.{command.Command.Command, command.Command.TheVariants.{States, Ask}, command.Question.TheVariants.Judge, command.StateCommand.TheVariants.Peer, reply.Refusal.Refusal, reply.Refusal.TheVariants.{BadLine, BadWord, NameTooLong, BadProto, MixedFamily, PortNeedsProto, BadPeer, PeerCount, Memory}}
-use Rattle.pf_line.specs.declared.line.TheConstants.{LINE_LIMIT}
+use Rattle.pf_core.specs.declared.{command.Command.TheVariants.{States, Ask}, command.Question.TheVariants.Judge, command.StateCommand.TheVariants.Peer, reply.Refusal.Refusal, reply.Refusal.TheVariants.{BadLine, BadWord, NameTooLong, BadProto, MixedFamily, PortNeedsProto, BadPeer, PeerCount, Memory}}
+use Rattle.pf_line.specs.declared.{line.TheConstants.LINE_LIMIT, request.Request.Request, request.Request.TheVariants.{Run, ShowStatus}}
 use Rattle.pf_line.specs.Grammar as grammar
-use Rattle.pf_line.specs.Grammar.{Spoken, Says, Tells}
+use Rattle.pf_line.specs.Grammar.{Spoken, Says, Tells, AsksStatus}
 
 -- a printable byte of ASCII (a space among them), a tab or a carriage return
 abbrev pub is_line_byte : ℕ → Bool
@@ -68,34 +68,35 @@ unfoldable pub line_at : List ℕ → Result (Option Spoken) Refusal
 line_at line = if is_bad_line line then Err BadLine else (if is_silent line then Ok None else said_by (words_of line))
 
 -- the command of a peer's message, or why its bytes are refused
-abbrev pub peer_command : Result Message OneFault → Result (Option Command) Refusal
-peer_command (Ok m) = Ok (Some (States (Peer m)))
+abbrev pub peer_command : Result Message OneFault → Result (Option Request) Refusal
+peer_command (Ok m) = Ok (Some (Run (States (Peer m))))
 peer_command (Err (Fault f)) = Err (BadPeer f)
 peer_command (Err Count) = Err PeerCount
 
--- What is said comes to this command, or is refused like this. Only here are the bytes of a peer's message looked at.
-abbrev pub Means : Result (Option Spoken) Refusal → Result (Option Command) Refusal → Type 0
+-- What is said comes to this request, or is refused like this. Only here are the bytes of a peer's message looked at.
+abbrev pub Means : Result (Option Spoken) Refusal → Result (Option Request) Refusal → Type 0
 Means (Ok None) r = r ≡ Ok None
-Means (Ok (Some (Says (Ok c)))) r = r ≡ Ok (Some c)
+Means (Ok (Some (Says (Ok c)))) r = r ≡ Ok (Some (Run c))
 Means (Ok (Some (Says (Err mistake)))) r = r ≡ Err (refusal_for mistake)
 Means (Ok (Some (Tells bytes))) r = (one : Result Message OneFault) × IsOne bytes one × (r ≡ peer_command one)
+Means (Ok (Some AsksStatus)) r = r ≡ Ok (Some ShowStatus)
 Means (Err e) r = r ≡ Err e
 
 -- the answer to a line that asks what happens to a packet: the command, or why it is refused
-abbrev pub asked : Result PlainPacket Refusal → Result (Option Command) Refusal
-asked (Ok p) = Ok (Some (Ask (Judge p)))
+abbrev pub asked : Result PlainPacket Refusal → Result (Option Request) Refusal
+asked (Ok p) = Ok (Some (Run (Ask (Judge p))))
 asked (Err e) = Err e
 
--- The words of a line say the command.
-abbrev pub SpellsLine : Command → List Word → Type 0
-SpellsLine c ws = (x : Spoken) × Spells grammar.line x ws × Means (Ok (Some x)) (Ok (Some c))
+-- The words of a line say the request.
+abbrev pub SpellsLine : Request → List Word → Type 0
+SpellsLine q ws = (x : Spoken) × Spells grammar.line x ws × Means (Ok (Some x)) (Ok (Some q))
 
--- It is this command, or out of memory.
-abbrev pub IsCommand : Result (Option Command) Refusal → Command → Type 0
-IsCommand r c = (r ≡ Ok (Some c)) ⊎ (r ≡ Err Memory)
+-- It is this request, or out of memory.
+abbrev pub IsRequest : Result (Option Request) Refusal → Request → Type 0
+IsRequest r q = (r ≡ Ok (Some q)) ⊎ (r ≡ Err Memory)
 
 -- What is said means this, or out of memory.
-abbrev pub Parses : Result (Option Command) Refusal → Result (Option Spoken) Refusal → Type 0
+abbrev pub Parses : Result (Option Request) Refusal → Result (Option Spoken) Refusal → Type 0
 Parses r at = Means at r ⊎ (r ≡ Err Memory)
 
 -- neither bad nor silent
@@ -104,7 +105,7 @@ pub record Speaks (line : List ℕ) : Type 0 where
   pub loud : is_silent line ≡ false
 
 -- It is answered as defined, or out of memory, which comes only for a line that speaks.
-abbrev pub Answers : List ℕ → Result (Option Command) Refusal → Type 0
+abbrev pub Answers : List ℕ → Result (Option Request) Refusal → Type 0
 Answers line r = Means (line_at line) r ⊎ (Speaks line × (r ≡ Err Memory))
 
 abbrev IsRefused : List ℕ → ℕ → Kind → Type 0

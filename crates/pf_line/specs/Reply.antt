@@ -2,3 +2,4 @@ pub mod TextLines
 pub mod Texts
 pub mod StateTexts
 pub mod Replies
+pub mod StatusTexts

@@ -217,8 +217,9 @@ fn test<'a>(words: Words<'a>) -> Result<Result<Command, Mistake>, Stop>
     Ok(Ok(Command::Ask(question)))
 }
 
+/// What of what is kept is shown.
 #[tactic(auto, unfolding(crate::specs::Grammar::shown))]
-fn show<'a>(words: Words<'a>) -> Result<Result<Command, Mistake>, Stop>
+pub(crate) fn show<'a>(words: Words<'a>) -> Result<Result<Command, Mistake>, Stop>
     ensures { ReadsWhole (λ x. x) shown result words.now }
 {
     let mut rest = words;
@@ -247,12 +248,9 @@ fn ask_overview<'a>(words: Words<'a>) -> Result<Result<Command, Mistake>, Stop>
         end(rest)?;
         return Ok(Ok(Command::Ask(Question::Sum)));
     }
-    if takes(&mut rest, b"export") {
-        end(rest)?;
-        return Ok(Ok(Command::Ask(Question::Export)));
-    }
-    expect(&mut rest, b"show")?;
-    show(rest)
+    expect(&mut rest, b"export")?;
+    end(rest)?;
+    Ok(Ok(Command::Ask(Question::Export)))
 }
 
 /// A question.

@@ -4,11 +4,11 @@ ghost use Rattle.pf_form.specs.declared.form.fault.Kind.{Kind};
 ghost use Rattle.hex.specs.Hex.{IsBytes, encode_lower, encode_upper};
 ghost use Rattle.pf_state.specs.declared.peer.message.Message.{Message};
 ghost use Rattle.pf_state.specs.Peer.Written.{message_bytes, CanBeWritten};
-ghost use Rattle.pf_core.specs.declared.{command.Command.TheVariants.States, command.StateCommand.TheVariants.Peer, command.Command.Command, reply.Refusal.Refusal, reply.Refusal.TheVariants.BadLine};
+ghost use Rattle.pf_core.specs.declared.{command.Command.TheVariants.States, command.StateCommand.TheVariants.Peer, reply.Refusal.Refusal, reply.Refusal.TheVariants.BadLine};
 ghost use Rattle.pf_addr.specs.Laws.Spelling.{IsNetwork};
 ghost use Rattle.pf_form.specs.Form.{Words.Word, Forms.RefusedAt};
 ghost use Rattle.pf_ticket.specs.declared.ticket.Ticket.{Ticket};
-ghost use Rattle.pf_line.specs.declared.{line.TheConstants.LINE_LIMIT, ticket.TheConstants.DIGIT_LIMIT, state.TheConstants.ID_DIGIT_LIMIT};
+ghost use Rattle.pf_line.specs.declared.{request.Request.Request, request.Request.TheVariants.Run, line.TheConstants.LINE_LIMIT, ticket.TheConstants.DIGIT_LIMIT, state.TheConstants.ID_DIGIT_LIMIT};
 ghost use Rattle.pf_line.specs.{Grammar.{Spoken, line as the_grammar}, Lines.{line_at, Means, SpellsLine}, Reply.Texts.{ticket_text, entry_text}, Tickets.{part_of, ticket_of, IsPart, SpellsTicket}, States.{id_of, IsId, bytes_of}, Entries.{entry_of, SpellsEntry}, Laws.Exports.ExportsAreRead};
 ghost use Rattle.pf_table.specs.Entries.{PlainEntry};
 
@@ -38,9 +38,9 @@ pub fn written_entry_is_read_again()
     ensures { (row : PlainEntry) → IsNetwork row.0 → entry_of (entry_text row) ≡ Ok row }
 {}
 
-/// A line means one thing: it is silent, a command, or a refusal.
+/// A line means one thing: it is silent, a request, or a refusal.
 pub fn a_line_has_one_meaning()
-    ensures { (line : List ℕ) (r s : Result (Option Command) Refusal) → Means (line_at line) r → Means (line_at line) s → r ≡ s }
+    ensures { (line : List ℕ) (r s : Result (Option Request) Refusal) → Means (line_at line) r → Means (line_at line) s → r ≡ s }
 {}
 
 /// The words of a line are refused at one place, and for one reason.
@@ -74,7 +74,7 @@ pub fn written_bytes_are_read_again()
 pub fn exported_message_is_read_again()
     ensures lines { ExportsAreRead }
     ensures words { (m : Message) → CanBeWritten m → IsBytes (message_bytes m) →
-        SpellsLine (States (Peer m)) (codes "peer" ∷ encode_lower (message_bytes m) ∷ []) }
+        SpellsLine (Run (States (Peer m))) (codes "peer" ∷ encode_lower (message_bytes m) ∷ []) }
 {}
 
 /// A line has at most 4,096 bytes, a ticket's epoch and its count have 1 to 10 digits each, and a state's number 1 to 20.

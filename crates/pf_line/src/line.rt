@@ -1,14 +1,15 @@
 //! Lines.
 ghost use Rattle.std.specs.{Prelude.{◌≡◌, ◌-◌, ◌≤◌, ℕ, not, true, false, Some, None, Ok, Err, IfOk, IfErr, IfSome, length}, List.{list_all, find}};
-ghost use Rattle.pf_form.specs.{Form.Forms.{making, read_all}, Form.Words.{is_blank, words_of, texts}};
-ghost use Rattle.pf_core.specs.declared.{command.Command.Command, reply.Refusal.TheVariants.BadLine};
-ghost use Rattle.pf_line.specs.{Grammar.{Says, Tells, hex, command, line as the_grammar}, Lines.{is_line_byte, is_bad_line, is_silent, line_at, said_by, refusal_at, refusal_for, said, refusal_of, SpellsLine, IsCommand, Parses, Answers, Refused}};
+ghost use Rattle.pf_form.specs.{Form.Forms.{making, nothing, read_all}, Form.Words.{is_blank, words_of, texts}};
+ghost use Rattle.pf_core.specs.declared.reply.Refusal.TheVariants.{BadLine};
+ghost use Rattle.pf_line.specs.{declared.request.Request.Request, Grammar.{Says, Tells, AsksStatus, hex, shown, showing, command, line as the_grammar}, Lines.{is_line_byte, is_bad_line, is_silent, line_at, said_by, refusal_at, refusal_for, said, refusal_of, SpellsLine, IsRequest, Parses, Answers, Refused}};
 
-use crate::commands::command;
+use crate::commands::{command, show};
 use crate::cut::{CutFault, cut, cut_list, line_byte};
+use crate::request::Request;
 use crate::state::read_bytes;
 use pf_core::{Command, Refusal, StateCommand};
-use pf_form::form::{Kind, Unread, Words, is_blank, takes};
+use pf_form::form::{Kind, Unread, Words, end, is_blank, takes};
 use pf_rule::Mistake;
 use pf_state::peer::{OneFault, read_one};
 use std::alloc::Global;
@@ -90,11 +91,11 @@ pub(crate) fn refusal_for(mistake: Mistake) -> Refusal
 /// can go on; words are counted from 0, and a missing word is at the number of words. `MixedFamily` and then `PortNeedsProto` come after
 /// the last word, and so do `BadPeer` and `PeerCount`, for the bytes of a peer's message. Instead of any of these answers `Memory` may
 /// come, but not for a bad line or one that says nothing.
-pub fn parse_line(alloc: Global, line: &[u8]) -> Result<Option<Command>, Refusal>
+pub fn parse_line(alloc: Global, line: &[u8]) -> Result<Option<Request>, Refusal>
     ensures bad { is_bad_line line.now ≡ true → result ≡ Err BadLine }
     ensures silent { is_bad_line line.now ≡ false → is_silent line.now ≡ true → result ≡ Ok None }
-    ensures found { IfOk result (λ said. IfSome said (λ c. SpellsLine c (words_of line.now))) }
-    ensures only { is_bad_line line.now ≡ false → (c : Command) → SpellsLine c (words_of line.now) → IsCommand result c }
+    ensures found { IfOk result (λ said. IfSome said (λ q. SpellsLine q (words_of line.now))) }
+    ensures only { is_bad_line line.now ≡ false → (q : Request) → SpellsLine q (words_of line.now) → IsRequest result q }
     ensures refused { IfErr result (λ e. Refused line.now e) }
     ensures exact { Parses result (line_at line.now) }
 {
@@ -103,7 +104,7 @@ pub fn parse_line(alloc: Global, line: &[u8]) -> Result<Option<Command>, Refusal
 
 // Kept apart, so that the answer is proved once for each way out.
 #[tactic(auto, using(crate::proofs::Lines::bad_answered, crate::proofs::Lines::silence_answered))]
-fn parse_checked(alloc: Global, line: &[u8]) -> Result<Option<Command>, Refusal>
+fn parse_checked(alloc: Global, line: &[u8]) -> Result<Option<Request>, Refusal>
     ensures { Answers line.now result }
 {
     if silent(line) {
@@ -119,7 +120,7 @@ fn parse_checked(alloc: Global, line: &[u8]) -> Result<Option<Command>, Refusal>
 }
 
 /// The answer to a line that is neither silent nor too long.
-fn parse_loud(alloc: Global, line: &[u8]) -> Result<Option<Command>, Refusal>
+fn parse_loud(alloc: Global, line: &[u8]) -> Result<Option<Request>, Refusal>
     requires loud { is_silent line.now ≡ false }
     requires short { length line.now ≤ LINE_LIMIT }
     ensures { Answers line.now result }
@@ -132,7 +133,7 @@ fn parse_loud(alloc: Global, line: &[u8]) -> Result<Option<Command>, Refusal>
 }
 
 /// The same for a short line, whose words take no memory.
-fn parse_short(alloc: Global, line: &[u8]) -> Result<Option<Command>, Refusal>
+fn parse_short(alloc: Global, line: &[u8]) -> Result<Option<Request>, Refusal>
     requires loud { is_silent line.now ≡ false }
     requires short { length line.now ≤ LINE_LIMIT }
     ensures { Answers line.now result }
@@ -146,7 +147,7 @@ fn parse_short(alloc: Global, line: &[u8]) -> Result<Option<Command>, Refusal>
 }
 
 /// The same for any line, whose words take memory.
-fn parse_long(alloc: Global, line: &[u8]) -> Result<Option<Command>, Refusal>
+fn parse_long(alloc: Global, line: &[u8]) -> Result<Option<Request>, Refusal>
     requires loud { is_silent line.now ≡ false }
     requires short { length line.now ≤ LINE_LIMIT }
     ensures { Answers line.now result }
@@ -160,7 +161,7 @@ fn parse_long(alloc: Global, line: &[u8]) -> Result<Option<Command>, Refusal>
 
 /// The answer when out of memory before all bytes of the line were looked at.
 #[tactic(auto, using(crate::proofs::Lines::bad_answered))]
-fn no_memory(line: &[u8]) -> Result<Option<Command>, Refusal>
+fn no_memory(line: &[u8]) -> Result<Option<Request>, Refusal>
     requires { is_silent line.now ≡ false }
     ensures { Answers line.now result }
 {
@@ -176,19 +177,22 @@ fn parse_words<'a>(
     alloc: Global,
     words: Words<'a>,
     count: usize,
-) -> Result<Option<Command>, Refusal>
+) -> Result<Option<Request>, Refusal>
     ensures { Parses result (said count (read_all the_grammar (texts words.now))) }
 {
     let mut rest = words;
     if takes(&mut rest, b"peer") {
         return parse_peer(alloc, rest, count);
     }
+    if takes(&mut rest, b"show") {
+        return parse_show(rest, count);
+    }
     parse_command(alloc, rest, count)
 }
 
 /// What the words after the first one say of a peer's message; `count` is the number of all words.
 #[tactic(auto, using(crate::proofs::Lines::made_ok, crate::proofs::Lines::made_stopped))]
-fn parse_peer<'a>(alloc: Global, words: Words<'a>, count: usize) -> Result<Option<Command>, Refusal>
+fn parse_peer<'a>(alloc: Global, words: Words<'a>, count: usize) -> Result<Option<Request>, Refusal>
     ensures { Parses result (said count (read_all (making Tells hex) (texts words.now))) }
 {
     match read_bytes(alloc, words) {
@@ -203,22 +207,59 @@ fn parse_command<'a>(
     alloc: Global,
     words: Words<'a>,
     count: usize,
-) -> Result<Option<Command>, Refusal>
+) -> Result<Option<Request>, Refusal>
     ensures { Parses result (said count (read_all (making Says command) (texts words.now))) }
 {
     match command(alloc, words) {
-        Ok(Ok(command)) => Ok(Some(command)),
+        Ok(Ok(command)) => Ok(Some(Request::Run(command))),
         Ok(Err(mistake)) => Err(refusal_for(mistake)),
         Err(unread) => Err(refusal(unread, count)),
     }
 }
 
+/// What the words after `show` say; `count` is the number of all words.
+#[tactic(auto, unfolding(crate::specs::Grammar::showing))]
+fn parse_show<'a>(words: Words<'a>, count: usize) -> Result<Option<Request>, Refusal>
+    ensures { Parses result (said count (read_all showing (texts words.now))) }
+{
+    let mut rest = words;
+    if takes(&mut rest, b"status") {
+        return parse_status(rest, count);
+    }
+    parse_shown(rest, count)
+}
+
+/// That the status is to be shown, if no word is left.
+fn parse_status(words: &[&[u8]], count: usize) -> Result<Option<Request>, Refusal>
+    ensures { Parses result (said count (read_all (nothing AsksStatus) (texts words.now))) }
+{
+    match end(words) {
+        Ok(()) => Ok(Some(Request::ShowStatus)),
+        Err(stop) => Err(refusal(Unread::Stopped(stop), count)),
+    }
+}
+
+/// What of what is kept is to be shown.
+#[tactic(auto, using(crate::proofs::Lines::made_ok, crate::proofs::Lines::made_stopped))]
+fn parse_shown<'a>(words: Words<'a>, count: usize) -> Result<Option<Request>, Refusal>
+    ensures { Parses result (said count (read_all (making Says shown) (texts words.now))) }
+{
+    match show(words) {
+        Ok(Ok(command)) => Ok(Some(Request::Run(command))),
+        Ok(Err(mistake)) => Err(refusal_for(mistake)),
+        Err(stop) => Err(refusal(Unread::Stopped(stop), count)),
+    }
+}
+
 /// The command to act on the message that these bytes have to be.
-fn peer_command(alloc: Global, bytes: &[u8]) -> Result<Option<Command>, Refusal>
+fn peer_command(alloc: Global, bytes: &[u8]) -> Result<Option<Request>, Refusal>
     ensures { Parses result (Ok (Some (Tells bytes.now))) }
 {
     match read_one(alloc, bytes) {
-        Ok(Ok(message)) => Ok(Some(Command::States(StateCommand::Peer(message)))),
+        Ok(Ok(message)) => {
+            let command = Command::States(StateCommand::Peer(message));
+            Ok(Some(Request::Run(command)))
+        }
         Ok(Err(OneFault::Fault(fault))) => Err(Refusal::BadPeer(fault)),
         Ok(Err(OneFault::Count)) => Err(Refusal::PeerCount),
         Err(_) => Err(Refusal::Memory),

@@ -2,6 +2,7 @@ pub mod Naming
 pub mod Lines
 pub mod Loading
 pub mod Changes
+pub mod Served
 pub mod Laws
 -- what public contracts cite of the crates below
 pub use Rattle.pf_addr.specs.Writing

@@ -60,7 +60,7 @@ fn read_list<B: BufRead>(
 }
 
 /// Asks for the list of what is at a path, and reads its lines but the last.
-fn ask_list<B: BufRead, W: Write>(
+pub(crate) fn ask_list<B: BufRead, W: Write>(
     alloc: Global,
     server: &mut W,
     replies: &mut B,
@@ -87,7 +87,7 @@ fn question(alloc: Global, what: &[u8], path: &Path) -> Result<Vec<u8>, AllocErr
 // ---- rules
 
 /// What stands behind the number of a rule that is shown.
-fn behind_number(line: &[u8]) -> &[u8] {
+pub(crate) fn behind_number(line: &[u8]) -> &[u8] {
     match line.iter().position(|byte| *byte == b' ') {
         Some(space) => &line[space + 1..],
         None => line,
@@ -242,7 +242,7 @@ fn rules_heading(alloc: Global, path: &Path) -> Result<Vec<u8>, AllocError>
 // ---- tables
 
 /// The entry that a word of a shown table is.
-fn entry_in(alloc: Global, word: &[u8]) -> Result<Entry, Fault> {
+pub(crate) fn entry_in(alloc: Global, word: &[u8]) -> Result<Entry, Fault> {
     if word.len() > FILE_LIMIT {
         return Err(Fault::Ended);
     }
@@ -259,7 +259,7 @@ fn entry_in(alloc: Global, word: &[u8]) -> Result<Entry, Fault> {
 }
 
 /// The table of these entries.
-fn table_with(alloc: Global, entries: &[Entry]) -> Result<Table, Fault> {
+pub(crate) fn table_with(alloc: Global, entries: &[Entry]) -> Result<Table, Fault> {
     let mut table = Table::empty();
     match table.replace(alloc, entries) {
         Ok(()) => Ok(table),

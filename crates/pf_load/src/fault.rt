@@ -12,6 +12,9 @@ pub enum Fault {
     /// The server refused this line with this reply.
     #[error("{line} -> {reply}")]
     Refused { line: Bytes, reply: Bytes },
+    /// An anchor rule leads to all rulesets within this path, whose names a server doesn't show.
+    #[error("anchor \"{0}/*\": a server doesn't show the names of rulesets")]
+    Wild(Bytes),
     /// The server ended before it had answered, or what it sent is no reply.
     #[error("pfd: output")]
     Ended,
@@ -29,6 +32,14 @@ impl Fault {
         match (Items::copied(alloc, line), Items::copied(alloc, reply)) {
             (Ok(line), Ok(reply)) => Fault::Refused { line, reply },
             _ => Fault::Memory,
+        }
+    }
+
+    /// The fault of a reference to all rulesets within the path of these names.
+    pub(crate) fn wild(alloc: Global, names: &[u8]) -> Fault {
+        match Items::copied(alloc, names) {
+            Ok(names) => Fault::Wild(names),
+            Err(_) => Fault::Memory,
         }
     }
 

@@ -5,8 +5,9 @@ use Rattle.pf_core.specs.declared.{command.Command.Command, command.Command.TheV
 use Rattle.pf_core.specs.{Calls.call, Commands.answer_of, Durable.Changes.{PlainDurable, PlainChange}, Worlds.{CurrentOpening, Setting, Upshot, State, down, called, acked_by, due, durable_of, group_in, heard, is_fault, pending_by, shown_by, shown_by_answer, told_of_history, IsLegal, LegalCall, LegalReply, StandsIn}}
 use Rattle.pf_core.proofs.{LongerWorlds.in-two, Showing.shows-nothing}
 use Rattle.pf_book.specs.Receipts.{PlainReceipt, IsAnswered}
+use Rattle.pf_line.specs.declared.request.Request.{Request}
 use Rattle.pf_session.specs.declared.server.asking.Asker.{Asker}
-use Rattle.pf_session.specs.{LineEngine.Chains.Chain, Telling.{IsToldBy, Says}, Server.Askings.{Asks, AsksBy, AsksLines, IsHeard, IsInquired, denied_text, is_denied}, Server.AskingRuns.{AsksInSession, IsSameAsker, TakesInAsking, place}, Server.Inquiries.is_inquiry, Server.Sittings.{Sitting, next_line}}
+use Rattle.pf_session.specs.{LineEngine.Chains.Chain, Telling.{IsToldBy, Says}, Server.Askings.{AsksBy, AsksOrShows, AsksLines, IsHeard, IsInquired, denied_text, is_denied}, Server.AskingRuns.{AsksInSession, IsSameAsker, TakesInAsking, place}, Server.Inquiries.is_inquiry, Server.Sittings.{Sitting, next_line}}
 
 -- ---- nothing is changed
 
@@ -118,15 +119,15 @@ module _ {A J G : Type 0} where
   stays-place a b is = ap (λ (s : Asker A J G). place s) is
 
 module _ {A J G : Type 0} (base : PlainDurable) (setting : Setting) where
-  says-place : (meant : Result (Option Command) Refusal) (a b : Asker A J G) (text : List ℕ) → Says (AsksInSession base setting) meant a b text
-      → IsSameAsker a b × Says (Asks base setting) meant (place a) (place b) text
+  says-place : (meant : Result (Option Request) Refusal) (a b : Asker A J G) (text : List ℕ) → Says (AsksInSession base setting) meant a b text
+      → IsSameAsker a b × Says (AsksOrShows base setting) meant (place a) (place b) text
   says-place (Ok None) a b text says = (stays-same a a b says.0 (same-still a), (stays-place a b says.0, says.1))
-  says-place (Ok (Some c)) a b text says = (says.same, says.runs)
+  says-place (Ok (Some q)) a b text says = (says.same, says.runs)
   says-place (Err e) a b text says = (stays-same a a b says.0 (same-still a), (stays-place a b says.0, says.1))
 
   -- the reply to a line, as far as the session moves on by it
   told-place : (line : List ℕ) (a b : Asker A J G) (text : List ℕ) → IsToldBy (AsksInSession base setting) line a b text
-      → IsSameAsker a b × IsToldBy (Asks base setting) line (place a) (place b) text
+      → IsSameAsker a b × IsToldBy (AsksOrShows base setting) line (place a) (place b) text
   told-place line a b text (inl (meant, means, says)) = let (same, ran) = says-place meant a b text says in (same, inl (meant, means, ran))
   told-place line a b text (inr none) =
       (stays-same a a b none.same (same-still a), inr (record { speaks = none.speaks; same = stays-place a b none.same; told = none.told }))
@@ -154,7 +155,7 @@ module _ {A J G : Type 0} (passed : G → ℕ → ℕ → Type 0) (base : PlainD
         takes = record {
           gate = subst (λ (k : ℕ). passed old.gate.now old.number k) is gate;
           told = subst (λ (d : Bool). IsHeard d base setting line (record (place old) { line = next_line old.line }) (place new) text) (sym allowed)
-              (subst (λ (k : ℕ). IsToldBy (Asks base setting) line (record (place old) { line = k }) (place new) text) is by);
+              (subst (λ (k : ℕ). IsToldBy (AsksOrShows base setting) line (record (place old) { line = k }) (place new) text) is by);
         };
       }
 

@@ -1,9 +1,10 @@
 -- A session keeps within what its opening was given.
 use Rattle.std.proofs.Common.{◌≡◌, ℕ, List, Option, Result, Ok, Err, inl, inr, ap, ◌∙◌}
 use Rattle.pf_book.specs.Books.{PlainBook, world_book}
+use Rattle.pf_line.specs.declared.{request.Request.Request, request.Request.TheVariants.{Run, ShowStatus}}
 use Rattle.pf_session.specs.declared.line_engine.fault.EngineFault.{EngineFault}
 use Rattle.pf_session.specs.declared.line_engine.fault.EngineFault.TheVariants as fault
-use Rattle.pf_session.specs.{LineEngine.Sessions.{Answered, CutOff, SessionEnds}, Serving.{CallsBook, Serves}, Telling.IsToldBy}
+use Rattle.pf_session.specs.{LineEngine.Sessions.{Answered, CutOff, SessionEnds}, Serving.{CallsOrShows, Serves}, Telling.IsToldBy}
 use Rattle.pf_session.proofs.{Chains.chain-moves, LineReplies.told-moves}
 
 module _ {D : Type 0} (faults : D → ℕ) where
@@ -13,11 +14,15 @@ module _ {D : Type 0} (faults : D → ℕ) where
   same-keeps : (a b : PlainBook D) → b ≡ a → keeps a b
   same-keeps a b is = ap (λ (book : PlainBook D). (world_book book).setting) is
 
-  line-keeps : (line : List ℕ) (a b : PlainBook D) (text : List ℕ) → IsToldBy (CallsBook faults) line a b text → keeps a b
-  line-keeps = told-moves (CallsBook faults) keeps same-keeps (λ c a b text ran. ran.setting)
+  request-keeps : (q : Request) (a b : PlainBook D) (text : List ℕ) → CallsOrShows faults q a b text → keeps a b
+  request-keeps (Run c) a b text ran = ran.setting
+  request-keeps ShowStatus a b text shows = same-keeps a b shows.same
+
+  line-keeps : (line : List ℕ) (a b : PlainBook D) (text : List ℕ) → IsToldBy (CallsOrShows faults) line a b text → keeps a b
+  line-keeps = told-moves (CallsOrShows faults) keeps same-keeps request-keeps
 
   lines-keep : (a b : PlainBook D) (lines : List (List ℕ)) (text : List ℕ) → Serves faults a b lines text → keeps a b
-  lines-keep = chain-moves (IsToldBy (CallsBook faults)) keeps same-keeps (λ a b c p q. q ∙ p) line-keeps
+  lines-keep = chain-moves (IsToldBy (CallsOrShows faults)) keeps same-keeps (λ a b c p q. q ∙ p) line-keeps
 
   answered-keeps : {lines : List (List ℕ)} {a b : PlainBook D} {held held' : Option (List ℕ)} → Answered (Serves faults) lines a b held held' → keeps a b
   answered-keeps {lines} {a} {b} answered = lines-keep a b lines answered.text answered.served

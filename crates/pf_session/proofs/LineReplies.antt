@@ -1,17 +1,18 @@
 -- The reply to a line, by what was read of it.
 use Rattle.std.proofs.Common.{◌≡◌, ℕ, List, [], Option, Some, None, Result, Ok, Err, inl, inr, refl}
-use Rattle.pf_core.specs.declared.{command.Command.Command, reply.Refusal.Refusal, reply.Refusal.TheVariants.Memory, reply.Reply.TheVariants.Refused}
+use Rattle.pf_core.specs.declared.{reply.Refusal.Refusal, reply.Refusal.TheVariants.Memory, reply.Reply.TheVariants.Refused}
+use Rattle.pf_line.specs.declared.request.Request.{Request}
 use Rattle.pf_line.specs.{Lines.{Parses, line_at, Refused as IsRefusal}, Reply.Replies.reply_text}
 use Rattle.pf_session.specs.Telling.{IsToldBy, Says}
 
-module _ {S : Type 0} (Runs : Command → S → S → List ℕ → Type 0) where
+module _ {S : Type 0} (Runs : Request → S → S → List ℕ → Type 0) where
   pub silence-told : (line : List ℕ) (state : S) → Parses (Ok None) (line_at line) → IsToldBy Runs line state state []
   silence-told line state (inl means) = inl (Ok None, means, (refl, refl))
   silence-told line state (inr m) = absurd (cc (m))
 
-  pub command-told : (line : List ℕ) (c : Command) (old new : S) (text : List ℕ) → Runs c old new text → Parses (Ok (Some c)) (line_at line) → IsToldBy Runs line old new text
-  command-told line c old new text runs (inl means) = inl (Ok (Some c), means, runs)
-  command-told line c old new text runs (inr m) = absurd (cc (m))
+  pub request-told : (line : List ℕ) (q : Request) (old new : S) (text : List ℕ) → Runs q old new text → Parses (Ok (Some q)) (line_at line) → IsToldBy Runs line old new text
+  request-told line q old new text runs (inl means) = inl (Ok (Some q), means, runs)
+  request-told line q old new text runs (inr m) = absurd (cc (m))
 
   -- a refusal has its own reply; in place of it there may have been no memory
   pub refusal-told : (line : List ℕ) (e : Refusal) (state : S) → Parses (Err e) (line_at line) → IsRefusal line e → IsToldBy Runs line state state (reply_text (Refused e))
@@ -19,11 +20,11 @@ module _ {S : Type 0} (Runs : Command → S → S → List ℕ → Type 0) where
   refusal-told line Memory state (inr m) speaks = inr (record { speaks = speaks; same = refl; told = refl })
   refusal-told line e state (inr m) refused = absurd (cc (m))
 
-  -- what holds where nothing is run and where a command is holds whatever the line is
-  module _ (Moves : S → S → Type 0) (still : (a b : S) → b ≡ a → Moves a b) (runs : (c : Command) (a b : S) (text : List ℕ) → Runs c a b text → Moves a b) where
-    says-moves : (meant : Result (Option Command) Refusal) (a b : S) (text : List ℕ) → Says Runs meant a b text → Moves a b
+  -- what holds where nothing is run and where a request is done holds whatever the line is
+  module _ (Moves : S → S → Type 0) (still : (a b : S) → b ≡ a → Moves a b) (runs : (q : Request) (a b : S) (text : List ℕ) → Runs q a b text → Moves a b) where
+    says-moves : (meant : Result (Option Request) Refusal) (a b : S) (text : List ℕ) → Says Runs meant a b text → Moves a b
     says-moves (Ok None) a b text says = still a b says.0
-    says-moves (Ok (Some c)) a b text says = runs c a b text says
+    says-moves (Ok (Some q)) a b text says = runs q a b text says
     says-moves (Err e) a b text says = still a b says.0
 
     pub told-moves : (line : List ℕ) (a b : S) (text : List ℕ) → IsToldBy Runs line a b text → Moves a b

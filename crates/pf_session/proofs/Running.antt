@@ -5,7 +5,7 @@ use Rattle.pf_addr.specs.Writing.{WritesFront}
 use Rattle.pf_core.specs.declared.{command.Command.Command, command.Command.TheVariants.{Transact, Edit, States, Ask, History}, reply.Refusal.Refusal, reply.Refusal.TheVariants.Fault, reply.Reply.TheVariants.Refused}
 use Rattle.pf_core.specs.{Commands.may_be_grouped, Durable.Changes.PlainDurable, Worlds.{Setting, log_of, heard_group}}
 use Rattle.pf_rule.specs.Packets.{PlainPacket}
-use Rattle.pf_line.specs.{Grammar.Spoken, Lines.{Means, Parses, line_at}, Reply.Replies.reply_text}
+use Rattle.pf_line.specs.{declared.{request.Request.Request, request.Request.TheVariants.Run}, Grammar.Spoken, Lines.{Means, Parses, line_at}, Reply.Replies.reply_text}
 use Rattle.pf_book.specs.{Groups.{Answered as Receipted, IsGroupAnswered, replies_of}, Receipts.PlainReceipt}
 use Rattle.pf_session.specs.declared.server.session.Session.{Session}
 use Rattle.pf_session.specs.{LineEngine.{Chains.Chain, Lines.seen, Sessions.{Answered, CutOff}}, Server.{Sittings.{IsAnsweredInGroup, Keeps, RunsBy, Sitting, at_next_line, next_line, packet_in}, SessionRuns.{AreMeant, HavePassed, IsMeant, IsSame, TakesInSession, sitting}, Streams.last_receipt}}
@@ -42,14 +42,14 @@ meant-more (l ∷ lines) (k ∷ commands) line c all one = (all.0, meant-more li
 -- what isn't looked at of a line makes no difference
 pub meant-seen : (line whole : List ℕ) (c : Command) → line ≡ seen whole → IsMeant line c → IsMeant whole c
 meant-seen line whole c is meant = record {
-  means = subst (λ (said : Result (Option Spoken) Refusal). Means said (Ok (Some c))) (ap line_at is ∙ seen-says whole) meant.means;
+  means = subst (λ (said : Result (Option Spoken) Refusal). Means said (Ok (Some (Run c)))) (ap line_at is ∙ seen-says whole) meant.means;
   unjudged = meant.unjudged;
 }
 
 -- what was read of a line is meant
-pub read-meant : (line : List ℕ) (said : Result (Option Command) Refusal) (c : Command) → Parses said (line_at line) → said ≡ Ok (Some c) → packet_in c ≡ None → IsMeant line c
-read-meant line said c parses is unjudged = by (subst (λ (r : Result (Option Command) Refusal). Parses r (line_at line)) is parses) where
-  by : Parses (Ok (Some c)) (line_at line) → IsMeant line c
+pub read-meant : (line : List ℕ) (said : Result (Option Request) Refusal) (c : Command) → Parses said (line_at line) → said ≡ Ok (Some (Run c)) → packet_in c ≡ None → IsMeant line c
+read-meant line said c parses is unjudged = by (subst (λ (r : Result (Option Request) Refusal). Parses r (line_at line)) is parses) where
+  by : Parses (Ok (Some (Run c))) (line_at line) → IsMeant line c
   by (inl means) = record { means = means; unjudged = unjudged }
   by (inr none) = absurd (cc (none))
 
@@ -146,7 +146,7 @@ module _ {C J G : Type 0} (passed : G → ℕ → ℕ → Type 0) (base : PlainD
       same = t.same;
       takes = record {
         gate = rw (u.same.gate, u.same.number) u.gates.0;
-        told = inl (Ok (Some c), first.meant.means, subst (λ (o : Option PlainPacket). RunsBy o base setting c (at_next_line (sitting a)) (sitting b) text) (sym first.meant.unjudged) t.runs);
+        told = inl (Ok (Some (Run c)), first.meant.means, subst (λ (o : Option PlainPacket). RunsBy o base setting c (at_next_line (sitting a)) (sitting b) text) (sym first.meant.unjudged) t.runs);
       };
     }
 

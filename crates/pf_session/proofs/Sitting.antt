@@ -2,9 +2,10 @@
 use Rattle.std.proofs.Common.{◌≡◌, ◌∙◌, ℕ, List, [], ◌∷◌, Option, Some, None, Result, Ok, Err, inl, inr, refl, sym, ap, subst}
 use Rattle.pf_rule.specs.Packets.{PlainPacket}
 use Rattle.pf_core.specs.declared.{command.Command.Command, reply.Refusal.Refusal}
+use Rattle.pf_line.specs.declared.{request.Request.Request, request.Request.TheVariants.{Run, ShowStatus}}
 use Rattle.pf_core.specs.{Durable.Changes.PlainDurable, Worlds.Setting}
 use Rattle.pf_session.specs.declared.server.session.Session.{Session}
-use Rattle.pf_session.specs.{LineEngine.Chains.Chain, Telling.{IsToldBy, Says}, Server.Sittings.{Runs, RunsBy, TakesLines, Sitting, next_line, packet_in}, Server.SessionRuns.{IsSame, RunsInSession, TakesInSession, sitting}}
+use Rattle.pf_session.specs.{LineEngine.Chains.Chain, Telling.{IsToldBy, Says}, Server.Sittings.{RunsBy, RunsOrShows, TakesLines, Sitting, next_line, packet_in}, Server.SessionRuns.{IsSame, RunsInSession, TakesInSession, sitting}}
 use Rattle.pf_session.proofs.LineReplies.{told-moves}
 
 module _ {C J G : Type 0} where
@@ -21,15 +22,15 @@ module _ {C J G : Type 0} where
   stays-sitting a b is = ap (λ (s : Session C J G). sitting s) is
 
 module _ {C J G : Type 0} (base : PlainDurable) (setting : Setting) where
-  says-sitting : (meant : Result (Option Command) Refusal) (a b : Session C J G) (text : List ℕ) → Says (RunsInSession base setting) meant a b text
-      → IsSame a b × Says (Runs base setting) meant (sitting a) (sitting b) text
+  says-sitting : (meant : Result (Option Request) Refusal) (a b : Session C J G) (text : List ℕ) → Says (RunsInSession base setting) meant a b text
+      → IsSame a b × Says (RunsOrShows base setting) meant (sitting a) (sitting b) text
   says-sitting (Ok None) a b text says = (stays-same a a b says.0 (same-still a), (stays-sitting a b says.0, says.1))
-  says-sitting (Ok (Some c)) a b text says = (says.same, says.runs)
+  says-sitting (Ok (Some q)) a b text says = (says.same, says.runs)
   says-sitting (Err e) a b text says = (stays-same a a b says.0 (same-still a), (stays-sitting a b says.0, says.1))
 
   -- the reply to a line, as far as the session moves on by it
   told-sitting : (line : List ℕ) (a b : Session C J G) (text : List ℕ) → IsToldBy (RunsInSession base setting) line a b text
-      → IsSame a b × IsToldBy (Runs base setting) line (sitting a) (sitting b) text
+      → IsSame a b × IsToldBy (RunsOrShows base setting) line (sitting a) (sitting b) text
   told-sitting line a b text (inl (meant, means, says)) = let (same, ran) = says-sitting meant a b text says in (same, inl (meant, means, ran))
   told-sitting line a b text (inr none) =
       (stays-same a a b none.same (same-still a), inr (record { speaks = none.speaks; same = stays-sitting a b none.same; told = none.told }))
@@ -44,7 +45,7 @@ module _ {C J G : Type 0} (passed : G → ℕ → ℕ → Type 0) (base : PlainD
         same = record { seer = same.seer; last = same.last; number = same.number; gate = same.gate };
         takes = record {
           gate = subst (λ (k : ℕ). passed old.gate.now old.number k) is gate;
-          told = subst (λ (k : ℕ). IsToldBy (Runs base setting) line (record (sitting old) { line = k }) (sitting new) text) is by;
+          told = subst (λ (k : ℕ). IsToldBy (RunsOrShows base setting) line (record (sitting old) { line = k }) (sitting new) text) is by;
         };
       }
 
@@ -56,8 +57,15 @@ module _ {C J G : Type 0} (passed : G → ℕ → ℕ → Type 0) (base : PlainD
       let (others, still) = sat start mid b lines rest (same-then same step.same) more in
       ((sitting mid, first, rest, rw (sym same.gate, sym same.number) step.takes, others, told), still)
 
--- what holds of a session where nothing is run and where a command is holds of it whatever its line
+-- what holds of a session where nothing is run and where a command is holds of it whatever is asked
+request-moves : (base : PlainDurable) (setting : Setting) (Moves : Sitting → Sitting → Type 0) (still : (a b : Sitting) → b ≡ a → Moves a b)
+    (runs : (o : Option PlainPacket) (c : Command) (a b : Sitting) (text : List ℕ) → RunsBy o base setting c a b text → Moves a b)
+    (q : Request) (a b : Sitting) (text : List ℕ) → RunsOrShows base setting q a b text → Moves a b
+request-moves base setting Moves still runs (Run c) a b text ran = runs (packet_in c) c a b text ran
+request-moves base setting Moves still runs ShowStatus a b text shown = still a b shown.same
+
+-- and so whatever its line is
 pub line-moves : (base : PlainDurable) (setting : Setting) (Moves : Sitting → Sitting → Type 0) (still : (a b : Sitting) → b ≡ a → Moves a b)
     (runs : (o : Option PlainPacket) (c : Command) (a b : Sitting) (text : List ℕ) → RunsBy o base setting c a b text → Moves a b)
-    (line : List ℕ) (a b : Sitting) (text : List ℕ) → IsToldBy (Runs base setting) line a b text → Moves a b
-line-moves base setting Moves still runs line a b text told = told-moves (Runs base setting) Moves still (λ c s t said ran. runs (packet_in c) c s t said ran) line a b text told
+    (line : List ℕ) (a b : Sitting) (text : List ℕ) → IsToldBy (RunsOrShows base setting) line a b text → Moves a b
+line-moves base setting Moves still runs line a b text told = told-moves (RunsOrShows base setting) Moves still (request-moves base setting Moves still runs) line a b text told

@@ -6,11 +6,11 @@ use Rattle.pf_core.specs.{Calls.call, Commands.{steps_here, states_step, unless_
 use Rattle.pf_addr.specs.Refusing.{and_then, unless}
 use Rattle.pf_state.proofs.Asked.{inserts_nothing_due}
 use Rattle.pf_core.proofs.{Groups.room-found, LongerWorlds.flat-push}
-use Rattle.pf_line.specs.{Laws.Exports.{Message, StateStep, message_text, main_count, exported_lines, TellsOf, CanBeExported, states_there}, Failover.Outgoing.exported_messages, Lines.line_at, Peer.Written.Each, Reply.Replies.reply_text, StateTables.PlainState, Steps.{after as stepped_on, stepped, is_over, passes_limit, counts}}
+use Rattle.pf_line.specs.{declared.{request.Request.Request, request.Request.TheVariants.Run}, Laws.Exports.{Message, StateStep, message_text, main_count, exported_lines, TellsOf, CanBeExported, states_there}, Failover.Outgoing.exported_messages, Lines.line_at, Peer.Written.Each, Reply.Replies.reply_text, StateTables.PlainState, Steps.{after as stepped_on, stepped, is_over, passes_limit, counts}}
 use Rattle.pf_line.proofs.{ExportedLines.exports_are_read, Lines.one_meaning, TakenOver.takes_over as states_taken}
 use Rattle.std.specs.Prelude.{nat_lt}
 use Rattle.pf_book.specs.Books.{PlainBook, world_book}
-use Rattle.pf_session.specs.{Serving.{CallsBook, Serves}, Telling.{IsToldBy, Says}, Laws.Takeover.{held_in, IsReadyFor, IsWant, WasRefused, TakesOver, FreshTakesOver}}
+use Rattle.pf_session.specs.{Serving.{CallsBook, CallsOrShows, Serves}, Telling.{IsToldBy, Says}, Laws.Takeover.{held_in, IsReadyFor, IsWant, WasRefused, TakesOver, FreshTakesOver}}
 use Rattle.std.proofs.lemmas.Bool.{or_parts}
 
 -- ---- steps in two parts
@@ -172,7 +172,7 @@ Told d ms b text = ((held_in b).states ≡ stepped_on d.states (flat_map (steps_
 module _ {D : Type 0} (faults : D → ℕ) (start : PlainDurable) where
   -- one line, and then those that follow it
   one-line : (m : Message) (ms : List Message) (h : CurrentOpening) (d : PlainDurable) (a mid b : PlainBook D) (reply replies text : List ℕ) → durable_of h ≡ d → h.pending ≡ [] → TellsOf m (message_text m) → passes_limit d.states (flat_map (steps_here d) (m ∷ ms)) ≡ false →
-      length (log_of h) + length (m ∷ ms) ≤ h.setting.limit → Stands start h (world_book a) → IsToldBy (CallsBook faults) (message_text m) a mid reply → text ≡ reply ++ replies
+      length (log_of h) + length (m ∷ ms) ≤ h.setting.limit → Stands start h (world_book a) → IsToldBy (CallsOrShows faults) (message_text m) a mid reply → text ≡ reply ++ replies
       → ((r : Reply) (t : Upshot) → IsThen h d m (then h m r t) → passes_limit (applied d (change d m)).states (flat_map (steps_here d) ms) ≡ false
       → length (log_of (then h m r t)) + length ms ≤ h.setting.limit → Stands start (then h m r t) (world_book mid) → Told (applied d (change d m)) ms (world_book b) replies) → Told d (m ∷ ms) (world_book b) text
   one-line m ms h d a mid b reply replies text is free told fits room stands by text_is on = of by where
@@ -201,10 +201,10 @@ module _ {D : Type 0} (faults : D → ℕ) (start : PlainDurable) where
       judged (inl to) = answered to (kept-or-refused h c t.failed to.number to.outcome r (group_in h c) (subst (λ (x : Reply). (r ≡ x) ⊎ StandsIn h c t.failed x r) to.reply here.0.reply))
       judged (inr full) = hindered (refused-all h c t.failed r (subst (λ (x : Reply). (r ≡ x) ⊎ StandsIn h c t.failed x r) full here.0.reply))
 
-    of : IsToldBy (CallsBook faults) (message_text m) a mid reply → Told d (m ∷ ms) (world_book b) text
+    of : IsToldBy (CallsOrShows faults) (message_text m) a mid reply → Told d (m ∷ ms) (world_book b) text
     of (inl (meant, means, says)) =
-        let same = one_meaning (line_at (message_text m)) meant (Ok (Some c)) means told.means in
-        let ran : CallsBook faults c a mid reply = subst (λ (x : Result (Option Command) Refusal). Says (CallsBook faults) x a mid reply) same says in
+        let same = one_meaning (line_at (message_text m)) meant (Ok (Some (Run c))) means told.means in
+        let ran : CallsBook faults c a mid reply = subst (λ (x : Result (Option Request) Refusal). Says (CallsOrShows faults) x a mid reply) same says in
         by_reply ran.reply ran.upshot ran.told (stands-on start h c ran.reply ran.upshot (world_book a) (world_book mid) stands ran.worlds)
     of (inr none) = inr (refused-first reply replies text Memory tt text_is none.told)
 

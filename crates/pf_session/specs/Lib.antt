@@ -1,4 +1,5 @@
 pub mod LineEngine
+pub mod Statuses
 pub mod Telling
 pub mod Serving
 pub mod Renewing

@@ -2,9 +2,10 @@
 use Rattle.std.specs.Prelude.{◌≡◌, ℕ, ◌+◌, if◌then◌else◌, List, [], ◌∷◌, ◌++◌}
 use Rattle.pf_core.specs.declared.{command.Command.Command, reply.Reply.Reply}
 use Rattle.pf_core.specs.{Calls.call, Durable.Changes.PlainDurable, WorldBooks.StandsFor, Worlds.{Upshot, Event, called}}
-use Rattle.pf_book.specs.Books.{PlainBook, world_book}
+use Rattle.pf_book.specs.{Books.{PlainBook, world_book}, Statuses.status_of}
+use Rattle.pf_line.specs.declared.{request.Request.Request, request.Request.TheVariants.{Run, ShowStatus}}
 use Rattle.pf_line.specs.Reply.Replies.{reply_text}
-use Rattle.pf_session.specs.{LineEngine.Chains.Chain, Telling.IsToldBy}
+use Rattle.pf_session.specs.{LineEngine.Chains.Chain, Statuses.shown_text, Telling.IsToldBy}
 
 -- A command's call, and the text of its reply. Of whatever world the Book stood for, it now stands for that with this call at its end; what its
 -- opening keeps within stays; and the device failed in it just where the call says so.
@@ -17,6 +18,16 @@ pub record CallsBook {D : Type 0} (faults : D → ℕ) (c : Command) (old new : 
   pub setting : (world_book new).setting ≡ (world_book old).setting
   pub failed : faults new.disk ≡ faults old.disk + (if upshot.failed then 1 else 0)
 
+-- The Book's status is shown, with one session, and nothing is done.
+pub record ShowsBook {D : Type 0} (old new : PlainBook D) (text : List ℕ) : Type 0 where
+  pub size : ℕ
+  pub told : text ≡ shown_text (status_of (world_book old) size) 1
+  pub same : new ≡ old
+
+abbrev pub CallsOrShows : {D : Type 0} → (D → ℕ) → Request → PlainBook D → PlainBook D → List ℕ → Type 0
+CallsOrShows faults (Run c) old new text = CallsBook faults c old new text
+CallsOrShows faults ShowStatus old new text = ShowsBook old new text
+
 -- These lines, one after the other, took the Book from the old one to the new one, and this is their text.
 abbrev pub Serves : {D : Type 0} → (D → ℕ) → PlainBook D → PlainBook D → List (List ℕ) → List ℕ → Type 0
-Serves faults = Chain (IsToldBy (CallsBook faults))
+Serves faults = Chain (IsToldBy (CallsOrShows faults))

@@ -3,10 +3,10 @@ ghost use Rattle.std.specs.Prelude.{◌≡◌, ℕ, List, []};
 ghost use Rattle.pf_disk.specs.Disk.{IsImage};
 ghost use Rattle.pf_core.specs.{WorldBooks.IsAt, Worlds.{CurrentOpening, idle}};
 ghost use Rattle.pf_book.specs.Books.{HoldsLeft, IsOpenable, world_book};
-ghost use Rattle.pf_session.specs.{LineEngine.Sessions.IsSession, Serving.{CallsBook, Serves}, Telling.IsToldBy, Laws.Seeing.seen-told};
+ghost use Rattle.pf_session.specs.{LineEngine.Sessions.IsSession, Serving.{CallsOrShows, Serves}, Telling.IsToldBy, Laws.Seeing.seen-told};
 
 use crate::line_engine::{AnswerLine, EngineFault, serve};
-use crate::telling::{RunCommands, answer, tell};
+use crate::telling::{RunCommands, answer, show, tell};
 use pf_book::book::Book;
 use pf_book::{Chapter, Publisher};
 use pf_core::Command;
@@ -17,7 +17,7 @@ use std::alloc::Global;
 use std::io::{self, Read, Write};
 
 impl<D: Disk + Drop, J: Chapter, S: Publisher<J> + Drop> RunCommands for Book<D, J, S> {
-    ghost Runs = { CallsBook D.fault_count };
+    ghost Runs = { CallsOrShows D.fault_count };
 
     fn run_command<W: Write>(&mut self, command: Command, writer: &mut W) -> io::Result<()> {
         let reply = self.run(command);
@@ -27,6 +27,10 @@ impl<D: Disk + Drop, J: Chapter, S: Publisher<J> + Drop> RunCommands for Book<D,
     fn judge_packet<W: Write>(&mut self, packet: &Packet, writer: &mut W) -> io::Result<()> {
         write_judged(writer, &self.judge(packet))
     }
+
+    fn show_status<W: Write>(&mut self, writer: &mut W) -> io::Result<()> {
+        show(writer, self.status(), 1)
+    }
 }
 
 // Each line is answered as it comes.
@@ -35,7 +39,7 @@ impl<D: Disk + Drop, J: Chapter, S: Publisher<J> + Drop> AnswerLine for Book<D, 
 
     ghost Waits = { λ lines waiting. lines ≡ [] };
 
-    ghost Takes = { IsToldBy (CallsBook D.fault_count) };
+    ghost Takes = { IsToldBy (CallsOrShows D.fault_count) };
 
     fn answer_line<W: Write>(
         &mut self,
@@ -67,14 +71,14 @@ impl<D: Disk + Drop, J: Chapter, S: Publisher<J> + Drop> AnswerLine for Book<D, 
         Ok(())
     }
 
-    ghost takes_seen = { seen-told (CallsBook D.fault_count) };
+    ghost takes_seen = { seen-told (CallsOrShows D.fault_count) };
 }
 
 /// Answers the lines of a reader, each with at most one reply, until the reader is at its end.
 ///
 /// The writer is flushed before each read and at the end. A read that was interrupted is made again; there are fewer
 /// than 2^62 reads. The line buffer is allocated before anything is read. If there is no memory for a line or for its command, its reply
-/// says so. The limits of the Book's opening stay as they are.
+/// says so. A status says that one session is open. The limits of the Book's opening stay as they are.
 ///
 /// Afterwards, however the session ended, each image of the device holds what a crash then leaves of the opening: with the next generation
 /// at most, and with room for another opening if what the last one gave leaves it.

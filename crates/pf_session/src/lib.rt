@@ -34,6 +34,7 @@ pub use engine::serve_alone;
 pub use line_engine::{EngineFault, LeftOff, NoPause, Pause};
 pub use renewing::renew;
 pub use server::{
-    Gate, LineSession, OpenGate, PeerStream, deny, go_on, go_on_asking, go_on_peer, serve,
-    serve_asking, serve_from, serve_peer, serve_peer_from,
+    AskBook, CallBook, Caller, Gate, Inquiry, LineSession, OpenGate, PeerStream, deny, go_on,
+    go_on_asking, go_on_asking_by, go_on_by, go_on_peer, go_on_peer_by, serve, serve_asking,
+    serve_from, serve_peer, serve_peer_from,
 };

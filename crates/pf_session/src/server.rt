@@ -20,9 +20,11 @@ mod run;
 mod session;
 mod stream;
 
-pub use asking::{go_on_asking, serve_asking};
+pub use asking::{go_on_asking, go_on_asking_by, serve_asking};
+pub use caller::{AskBook, CallBook, Caller};
 pub use denial::deny;
 pub use gate::{Gate, OpenGate};
+pub use inquiry::Inquiry;
 pub use line_session::LineSession;
-pub use session::{go_on, serve, serve_from};
-pub use stream::{PeerStream, go_on_peer, serve_peer, serve_peer_from};
+pub use session::{go_on, go_on_by, serve, serve_from};
+pub use stream::{PeerStream, go_on_peer, go_on_peer_by, serve_peer, serve_peer_from};

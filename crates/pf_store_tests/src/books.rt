@@ -6,7 +6,7 @@ ghost use Rattle.pf_store_tests.specs.declared.books.TheConstants.{HISTORY_LIMIT
 use crate::rows::GROUPED;
 use pf_book::{Book, Chapter, Disk, MemDisk, OpenFault, Opening, Reply};
 use pf_core::{Command, Durable, Refusal};
-use pf_line::{parse_line, write_reply};
+use pf_line::{Request, parse_line, write_reply};
 use pf_snap::look;
 use std::alloc::{AllocError, Global};
 use std::marker::Brand;
@@ -67,8 +67,8 @@ pub enum Asked {
 /// What a line of any bytes asks.
 pub fn asked_by(alloc: Global, line: &[u8]) -> Result<Asked, AllocError> {
     match parse_line(alloc, line) {
-        Ok(Some(command)) => Ok(Asked::One(command)),
-        Ok(None) => Ok(Asked::Nothing(String::new(alloc))),
+        Ok(Some(Request::Run(command))) => Ok(Asked::One(command)),
+        Ok(Some(Request::ShowStatus)) | Ok(None) => Ok(Asked::Nothing(String::new(alloc))),
         Err(refusal) => Ok(Asked::Nothing(text_of(alloc, &Reply::Refused(refusal))?)),
     }
 }
@@ -80,7 +80,7 @@ pub fn asked_by_row(alloc: Global, row: &str) -> Result<Asked, AllocError> {
     };
     let mut commands = Vec::new(alloc);
     for line in lines.trim_start().split(GROUPED) {
-        if let Ok(Some(command)) = parse_line(alloc, line.as_bytes()) {
+        if let Ok(Some(Request::Run(command))) = parse_line(alloc, line.as_bytes()) {
             commands.push(command)?;
         }
     }

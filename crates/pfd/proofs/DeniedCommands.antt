@@ -1,12 +1,13 @@
 -- A line that says a command is denied to a session that may only ask, exactly if the command isn't an inquiry.
-use Rattle.std.proofs.{Common.{◌≡◌, ◌∙◌, ℕ, Bool, true, false, List, length, Option, Some, Result, Ok, Err, inl, inr, refl, sym, ap, subst, arith}, lemmas.Bool.{ltb-false, ltb-true}, lemmas.List.take_all}
-use Rattle.std.specs.Prelude.{not, nat_lt}
+use Rattle.std.proofs.{Common.{◌≡◌, ◌∙◌, ℕ, Bool, true, false, List, ◌∷◌, length, Option, Some, Result, Ok, Err, inl, inr, refl, sym, ap, subst, arith}, lemmas.Bool.{ltb-false, ltb-true}, lemmas.List.take_all}
+use Rattle.std.specs.Prelude.{codes, not, nat_lt}
 use Rattle.pf_form.specs.Form.{Words.{Word, words_of}, Forms.{Form, nothing, key, or, making, Spells}}
 use Rattle.pf_rule.specs.declared.fault.Mistake.{Mistake}
 use Rattle.pf_state.specs.declared.peer.fault.OneFault.TheVariants.{Fault, Count}
 use Rattle.pf_core.specs.declared.{command.Command.Command, command.Command.TheVariants.States, command.StateCommand.TheVariants.Peer, reply.Refusal.Refusal}
+use Rattle.pf_line.specs.declared.{request.Request.Request, request.Request.TheVariants.{Run, ShowStatus}}
 use Rattle.pf_line.specs.Grammar as grammar
-use Rattle.pf_line.specs.{Grammar.{Spoken, Says, Tells}, Lines.{line_at, peer_command, Means, SpellsLine, long_line}}
+use Rattle.pf_line.specs.{Grammar.{Spoken, Says, Tells, AsksStatus}, Lines.{line_at, peer_command, Means, SpellsLine, long_line}}
 use Rattle.pf_line.proofs.Lines.{is_found}
 use Rattle.pf_session.specs.{LineEngine.Lines.seen, Server.{Askings.{denies, first_word, is_denied}, Inquiries.is_inquiry}}
 use Rattle.pfd.proofs.FirstWords.{first_of, first_word-words}
@@ -141,8 +142,7 @@ questions-denied : IsDenied grammar.question
 unfolding grammar.question grammar.overview
 questions-denied =
     or-denied true _ _ _ refl judged-makes (or-denied true _ _ _ refl tested-makes
-    (or-denied true _ _ _ refl (nothing-makes true _ refl) (or-denied true _ _ _ refl (nothing-makes true _ refl)
-    (key-denied true _ _ refl shown-makes))))
+    (or-denied true _ _ _ refl (nothing-makes true _ refl) (key-denied true _ _ refl (nothing-makes true _ refl))))
 
 states-denied : IsDenied grammar.state_or_question
 unfolding grammar.state_or_question grammar.history_or_question
@@ -164,28 +164,59 @@ commands-denied =
 
 -- ---- lines
 
-peer-states : (one : _) (c : Command) → (let said : Result (Option Command) Refusal = Ok (Some c) in said) ≡ peer_command one → is_inquiry c ≡ false
-peer-states (Ok m) c is = let same : c ≡ States (Peer m) = cc in rw same refl
-peer-states (Err (Fault f)) c is = absurd cc
-peer-states (Err Count) c is = absurd cc
+-- what a request for a line is: its command is an inquiry or not, and a status is none that is denied
+abbrev Denied : Request → Word → Type 0
+Denied (Run c) w = denies w ≡ not (is_inquiry c)
+Denied ShowStatus w = denies w ≡ false
 
-said-denied : (ws : List Word) (c : Command) → SpellsLine c ws → denies (first_of ws) ≡ not (is_inquiry c)
-said-denied ws c (x, inl (rest, (bytes, spelled, tells), is), means) =
-    let (one, message, said) = subst (λ (y : Spoken). Means (Ok (Some y)) (Ok (Some c))) tells means in
-    ap (λ (vs : List Word). denies (first_of vs)) is ∙ ap not (sym (peer-states one c said))
-said-denied ws c (x, inr (r, spelled, says), means) = by r spelled (subst (λ (y : Spoken). Means (Ok (Some y)) (Ok (Some c))) says means) where
-  by : (r : Said) → Spells grammar.command r ws → Means (Ok (Some (Says r))) (Ok (Some c)) → denies (first_of ws) ≡ not (is_inquiry c)
-  by (Ok d) spelled means = let same : d ≡ c = cc in commands-denied.each (Ok d) ws c spelled (ap (λ (y : Command). Ok y) same)
-  by (Err mistake) spelled means = absurd cc
+peer-states : (one : _) (q : Request) (w : Word) → (let said : Result (Option Request) Refusal = Ok (Some q) in said) ≡ peer_command one → denies w ≡ true → Denied q w
+peer-states (Ok m) q w is denied = let same : Run (States (Peer m)) ≡ q = cc in subst (λ (r : Request). Denied r w) same denied
+peer-states (Err (Fault f)) q w is denied = absurd cc
+peer-states (Err Count) q w is denied = absurd cc
 
--- a line that says a command is looked at whole
-whole : (line : List ℕ) (c : Command) → Means (line_at line) (Ok (Some c)) → seen line ≡ line
-whole line c means = by (nat_lt 4096 (length line)) refl where
+says-denied : (ws : List Word) (q : Request) (x : Spoken) (r : Said) → x ≡ Says r → Means (Ok (Some x)) (Ok (Some q))
+    → ((c : Command) → r ≡ Ok c → denies (first_of ws) ≡ not (is_inquiry c)) → Denied q (first_of ws)
+says-denied ws q x r says means each = by r (subst (λ (y : Spoken). Means (Ok (Some y)) (Ok (Some q))) says means) each where
+  by : (r : Said) → Means (Ok (Some (Says r))) (Ok (Some q)) → ((c : Command) → r ≡ Ok c → denies (first_of ws) ≡ not (is_inquiry c)) → Denied q (first_of ws)
+  by (Ok c) means each = let same : Run c ≡ q = cc in subst (λ (p : Request). Denied p (first_of ws)) same (each c refl)
+  by (Err mistake) means each = absurd cc
+
+status-said : (q : Request) (w : Word) (x : Spoken) → x ≡ AsksStatus → Means (Ok (Some x)) (Ok (Some q)) → denies w ≡ false → Denied q w
+status-said q w x asks means allowed =
+    let is = subst (λ (y : Spoken). Means (Ok (Some y)) (Ok (Some q))) asks means in
+    let same : ShowStatus ≡ q = cc in
+    subst (λ (p : Request). Denied p w) same allowed
+
+-- words behind `show`
+showing-denied : (ws rest : List Word) (q : Request) (x : Spoken) → ws ≡ codes "show" ∷ rest → Spells grammar.showing x rest → Means (Ok (Some x)) (Ok (Some q)) → Denied q (first_of ws)
+unfolding grammar.showing
+showing-denied ws rest q x is (inl (more, (asks, none), behind)) means =
+    status-said q (first_of ws) x asks means (ap (λ (vs : List Word). denies (first_of vs)) is)
+showing-denied ws rest q x is (inr (r, spelled, says)) means =
+    says-denied ws q x r says means (λ c ok. ap (λ (vs : List Word). denies (first_of vs)) is ∙ ap not (sym (shown-makes.kind r rest c spelled ok)))
+
+said-denied : (ws : List Word) (q : Request) → SpellsLine q ws → Denied q (first_of ws)
+said-denied ws q (x, inl (rest, (bytes, spelled, tells), is), means) =
+    let (one, message, said) = subst (λ (y : Spoken). Means (Ok (Some y)) (Ok (Some q))) tells means in
+    peer-states one q (first_of ws) said (ap (λ (vs : List Word). denies (first_of vs)) is)
+said-denied ws q (x, inr (inl (rest, spelled, is)), means) = showing-denied ws rest q x is spelled means
+said-denied ws q (x, inr (inr (r, spelled, says)), means) = says-denied ws q x r says means (λ c ok. commands-denied.each r ws c spelled ok)
+
+-- a line that asks something is looked at whole
+whole : (line : List ℕ) (q : Request) → Means (line_at line) (Ok (Some q)) → seen line ≡ line
+whole line q means = by (nat_lt 4096 (length line)) refl where
   by : (long : Bool) → nat_lt 4096 (length line) ≡ long → seen line ≡ line
   by true is = let bad = long_line line (omega (arith, ltb-true 4096 (length line) is)) in let refused = rw bad at means in absurd (cc (refused))
   by false is = take_all 4097 line (omega (arith, ltb-false 4096 (length line) is))
 
-pub line-denied : (line : List ℕ) (c : Command) → Means (line_at line) (Ok (Some c)) → is_denied line ≡ not (is_inquiry c)
-line-denied line c means =
-    ap (λ (l : List ℕ). denies (first_word l)) (whole line c means) ∙ ap denies (first_word-words line)
-    ∙ said-denied (words_of line) c (is_found line (Ok (Some c)) (inl means))
+request-denied : (line : List ℕ) (q : Request) → Means (line_at line) (Ok (Some q)) → Denied q (first_of (words_of line))
+request-denied line q means = said-denied (words_of line) q (is_found line (Ok (Some q)) (inl means))
+
+first-seen : (line : List ℕ) (q : Request) → Means (line_at line) (Ok (Some q)) → is_denied line ≡ denies (first_of (words_of line))
+first-seen line q means = ap (λ (l : List ℕ). denies (first_word l)) (whole line q means) ∙ ap denies (first_word-words line)
+
+pub line-denied : (line : List ℕ) (c : Command) → Means (line_at line) (Ok (Some (Run c))) → is_denied line ≡ not (is_inquiry c)
+line-denied line c means = first-seen line (Run c) means ∙ request-denied line (Run c) means
+
+pub status-denied : (line : List ℕ) → Means (line_at line) (Ok (Some ShowStatus)) → is_denied line ≡ false
+status-denied line means = first-seen line ShowStatus means ∙ request-denied line ShowStatus means

@@ -3,3 +3,4 @@ pub mod Begun
 pub mod Listening
 pub mod FirstWords
 pub mod DeniedCommands
+mod LogLines

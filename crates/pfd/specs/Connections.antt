@@ -9,8 +9,8 @@ use Rattle.pfd.specs.declared.admitting.Way.TheVariants as way
 use Rattle.pfd.specs.declared.{admitting.Way.Way, connection.Stage.Stage, connection.Stage.TheVariants.{Silent, Session, Asking, Peer, Leaving, Over}}
 
 -- a session of this number that had no line
-pub record IsNew (number : ℕ) (session : LineSession) : Type 0 where
-  pub number : session.number ≡ number
+pub record IsNew (own : ℕ) (session : LineSession) : Type 0 where
+  pub number : session.number ≡ own
   pub line : session.line ≡ 0
   pub intake : session.intake ≡ nothing_read
 

@@ -4,6 +4,7 @@ pub mod Connections
 pub mod Program
 pub mod Client
 pub mod Fullness
+pub mod Log
 -- what public clauses cite of the crates below
 pub use Rattle.pf_session.specs.LineEngine
 pub use Rattle.pf_session.specs.Serving

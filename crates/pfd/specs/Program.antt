@@ -6,7 +6,7 @@ use Rattle.pf_core.specs.{Durable.Changes.{PlainDurable, kept_nothing}, WorldBoo
 use Rattle.pf_store.specs.{Banks.{IsSize, bank_size}, Openings.IsUnopened, Rooms.on_device, Stores.Holds}
 use Rattle.pf_store.specs.declared.store.fault.OpenFault.{OpenFault}
 use Rattle.pf_book.specs.Books.{IsUnshown, PlainBook, PlainOpening, world_book, setting_of}
-use Rattle.pfd_words.specs.declared.words.{Service.Service, Task.Task, Task.TheVariants.{Run, RunOn, Format, Show, Serve, Connect, Conf, Load}, TheConstants.MEMORY_SIZE}
+use Rattle.pfd_words.specs.declared.words.{Service.Service, Task.Task, Task.TheVariants.{Run, RunOn, Format, Show, Serve, Connect, Conf, Explain, Load, Status}, TheConstants.MEMORY_SIZE}
 use Rattle.pf_session.specs.declared.line_engine.fault.EngineFault.{EngineFault}
 use Rattle.pf_session.specs.declared.line_engine.fault.EngineFault.TheVariants as session
 use Rattle.pf_session.specs.{LineEngine.Sessions.IsSession, Serving.Serves}
@@ -132,7 +132,9 @@ IsDone memory seen file (Serve service) result unread still_unread held held' =
     Keeps unread still_unread × IsListening service result held held'
 IsDone memory seen file (Connect address) result unread still_unread held held' = Unit {0}
 IsDone memory seen file (Conf task) result unread still_unread held held' = Keeps unread still_unread
+IsDone memory seen file (Explain task) result unread still_unread held held' = Keeps unread still_unread
 IsDone memory seen file (Load task) result unread still_unread held held' = Keeps unread still_unread
+IsDone memory seen file (Status address) result unread still_unread held held' = Keeps unread still_unread
 
 -- The status if the words couldn't be had: 1 when out of memory, else 2.
 abbrev pub status_without_words : ErrorKind → ℕ

@@ -7,16 +7,15 @@ ghost use Rattle.pfd.specs.Connections.{BeginsAs, IsServedFrom};
 use crate::admitting::{Way, way_of};
 use crate::patience::Patience;
 use crate::stream::{Arrival, Incoming, Outgoing, Received, Unsent};
-use pf_book::shared::Shared;
-use pf_book::{Chapter, Disk, Numbering, Publisher, Seer};
+use pf_book::{Chapter, Seer};
 use pf_session::{
-    EngineFault, Gate, LeftOff, LineSession, Pause, PeerStream, deny, go_on, go_on_asking,
-    go_on_peer,
+    AskBook, CallBook, EngineFault, Gate, LeftOff, LineSession, Pause, PeerStream, deny,
+    go_on_asking_by, go_on_by, go_on_peer_by,
 };
 use std::alloc::{AllocError, Global};
 use std::io::{self, ErrorKind, Read, Write};
+use std::mem;
 use std::net::Shutdown;
-use std::sync::Wait;
 
 // At most so many reads are made of what a peer sends after a fault.
 const MOST_DROPPED: usize = 64;
@@ -64,24 +63,21 @@ impl Connection {
         })
     }
 
+    /// The number of its session.
+    pub(crate) fn number(&self) -> u32 {
+        self.number
+    }
+
     /// The connection as it arrived.
     pub(crate) fn arrival(&self) -> &Arrival {
         &self.arrival
     }
 
-    /// Serves it from where it is, until a pause or its end. A connection that paused goes on in the next opening.
-    pub(crate) fn serve<
-        W: Wait,
-        D: Disk + Drop,
-        J: Chapter + Numbering,
-        S: Publisher<J> + Drop,
-        G: Gate,
-        P: Pause,
-    >(
+    /// Serves it from where it is, by what calls a Book, until a pause or its end. A connection that paused goes on in the next opening.
+    pub(crate) fn serve<C: CallBook<J> + AskBook<J>, J: Chapter, G: Gate, P: Pause>(
         &mut self,
-        rt: &W,
         alloc: Global,
-        shared: &Shared<D, J, S>,
+        book: &C,
         seer: &mut Seer<J>,
         gate: &G,
         pause: &P,
@@ -95,7 +91,7 @@ impl Connection {
                 return Ok(LeftOff::Paused);
             }
         }
-        if self.go_on(rt, alloc, shared, seer, gate, pause)? == LeftOff::Paused {
+        if self.go_on(alloc, book, seer, gate, pause)? == LeftOff::Paused {
             return Ok(LeftOff::Paused);
         }
         self.end(pause)
@@ -132,11 +128,13 @@ impl Connection {
     fn look<P: Pause>(&mut self, pause: &P) -> io::Result<Option<u8>> {
         let mut reader = Incoming {
             stream: &self.arrival.stream,
-            received: &mut self.received,
+            received: self.received,
             patience: self.arrival.patience,
             pause,
         };
-        reader.look()
+        let looked = reader.look();
+        self.received = reader.received;
+        looked
     }
 
     // Settles what it is, by its first byte. One that isn't admitted is told so.
@@ -145,11 +143,13 @@ impl Connection {
         if way == Way::Denied {
             let mut writer = Outgoing {
                 stream: &self.arrival.stream,
-                unsent: &mut self.unsent,
+                unsent: mem::replace(&mut self.unsent, Unsent::without_room(alloc)),
                 patience: self.arrival.patience,
                 pause,
             };
-            turn_away(&mut writer)?;
+            let told = turn_away(&mut writer);
+            self.unsent = writer.into_unsent();
+            told?;
         }
         match stage_of(alloc, way, self.number) {
             Ok(stage) => {
@@ -161,45 +161,39 @@ impl Connection {
     }
 
     // Serves what it is, until a pause or its reader's end.
-    fn go_on<
-        W: Wait,
-        D: Disk + Drop,
-        J: Chapter + Numbering,
-        S: Publisher<J> + Drop,
-        G: Gate,
-        P: Pause,
-    >(
+    fn go_on<C: CallBook<J> + AskBook<J>, J: Chapter, G: Gate, P: Pause>(
         &mut self,
-        rt: &W,
         alloc: Global,
-        shared: &Shared<D, J, S>,
+        book: &C,
         seer: &mut Seer<J>,
         gate: &G,
         pause: &P,
     ) -> Result<LeftOff, EngineFault> {
         let mut reader = Incoming {
             stream: &self.arrival.stream,
-            received: &mut self.received,
+            received: self.received,
             patience: self.arrival.patience,
             pause,
         };
         let mut writer = Outgoing {
             stream: &self.arrival.stream,
-            unsent: &mut self.unsent,
+            unsent: mem::replace(&mut self.unsent, Unsent::without_room(alloc)),
             patience: self.arrival.patience,
             pause,
         };
-        serve_stage(
-            rt,
+        let left = serve_stage(
             alloc,
             &mut self.stage,
             &mut reader,
             &mut writer,
-            shared,
+            book,
             seer,
             gate,
             pause,
-        )
+        );
+        self.received = reader.received;
+        self.unsent = writer.into_unsent();
+        left
     }
 
     // Ends it: what it was given is sent, and of a peer's stream, or of what was denied, what still comes is dropped.
@@ -217,13 +211,10 @@ impl Connection {
 
     // Sends what it was given and didn't take yet.
     fn send_rest<P: Pause>(&mut self, pause: &P) -> Result<LeftOff, EngineFault> {
-        let mut writer = Outgoing {
-            stream: &self.arrival.stream,
-            unsent: &mut self.unsent,
-            patience: self.arrival.patience,
-            pause,
-        };
-        if writer.flush().is_err() {
+        let sent = self
+            .unsent
+            .send(&self.arrival.stream, self.arrival.patience, pause);
+        if sent.is_err() {
             return Err(EngineFault::Write);
         }
         if self.unsent.is_empty() {
@@ -245,7 +236,7 @@ impl Connection {
         }
         let mut reader = Incoming {
             stream: &self.arrival.stream,
-            received: &mut self.received,
+            received: self.received,
             patience,
             pause,
         };
@@ -259,6 +250,7 @@ impl Connection {
                         return Ok(LeftOff::Ended);
                     }
                     if pause.is_due() {
+                        self.received = reader.received;
                         self.stage = Stage::Leaving(reads - done);
                         return Ok(LeftOff::Paused);
                     }
@@ -282,22 +274,12 @@ fn stage_of(alloc: Global, way: Way, number: u32) -> Result<Stage, AllocError>
 }
 
 // Serves what a connection sends, from where it is until a pause or its reader's end.
-fn serve_stage<
-    W: Wait,
-    D: Disk + Drop,
-    J: Chapter + Numbering,
-    S: Publisher<J> + Drop,
-    G: Gate,
-    P: Pause,
-    R: Read,
-    O: Write,
->(
-    rt: &W,
+fn serve_stage<C: CallBook<J> + AskBook<J>, J: Chapter, G: Gate, P: Pause, R: Read, O: Write>(
     alloc: Global,
     stage: &mut Stage,
     reader: &mut R,
     writer: &mut O,
-    shared: &Shared<D, J, S>,
+    book: &C,
     seer: &mut Seer<J>,
     gate: &G,
     pause: &P,
@@ -305,14 +287,16 @@ fn serve_stage<
     ensures { IsServedFrom stage.old stage.new (G.passed gate.now) J.base J.setting result (R.remaining reader.old) (R.remaining reader.new)
         seer.old seer.new (O.contents writer.old) (O.contents writer.new) }
 {
+    // receipts are of one opening
+    let mut last = None;
     match stage {
-        Stage::Session(session) => go_on(
-            rt, alloc, session, reader, writer, shared, seer, gate, pause,
+        Stage::Session(session) => go_on_by(
+            alloc, session, reader, writer, book, seer, gate, pause, &mut last,
         ),
-        Stage::Asking(session) => go_on_asking(
-            rt, alloc, session, reader, writer, shared, seer, gate, pause,
+        Stage::Asking(session) => go_on_asking_by(
+            alloc, session, reader, writer, book, seer, gate, pause, &mut last,
         ),
-        Stage::Peer(stream) => go_on_peer(rt, alloc, stream, reader, writer, shared, pause),
+        Stage::Peer(stream) => go_on_peer_by(alloc, stream, reader, writer, book, pause, &mut last),
         Stage::Silent | Stage::Leaving(_) | Stage::Over => Ok(LeftOff::Ended),
     }
 }

@@ -1,7 +1,7 @@
 //! Laws of the program, and those of sessions. Each function does nothing; its contract is the law.
-ghost use Rattle.std.specs.Prelude.{◌≡◌, ℕ, List, Ok, Some, not};
+ghost use Rattle.std.specs.Prelude.{◌≡◌, ℕ, List, Ok, Some, false, not};
 ghost use Rattle.pf_core.specs.declared.command.Command.{Command};
-ghost use Rattle.pf_line.specs.Lines.{line_at, Means};
+ghost use Rattle.pf_line.specs.{declared.request.Request.TheVariants.{Run, ShowStatus}, Lines.{line_at, Means}};
 ghost use Rattle.pf_session.specs.Server.{Askings.is_denied, Inquiries.is_inquiry};
 ghost use Rattle.pf_session.specs.declared.line_engine.answer_line.TheConstants.{LOOKED_AT};
 ghost use Rattle.pfd_words.specs.declared.words.TheConstants.{HISTORY_LIMIT, MEMORY_SIZE, MOST_HISTORY, MOST_WORKERS, WORKERS};
@@ -11,9 +11,10 @@ pub use pf_session::laws::{
 };
 
 /// Of the lines that say a command, a session that may only ask is denied just those whose command isn't a question, nor asks how many
-/// changes there are.
+/// changes there are. One that asks for the status isn't denied.
 pub fn what_asks_is_let_in()
-    ensures { (line : List ℕ) (c : Command) → Means (line_at line) (Ok (Some c)) → is_denied line ≡ not (is_inquiry c) }
+    ensures commands { (line : List ℕ) (c : Command) → Means (line_at line) (Ok (Some (Run c))) → is_denied line ≡ not (is_inquiry c) }
+    ensures status { (line : List ℕ) → Means (line_at line) (Ok (Some ShowStatus)) → is_denied line ≡ false }
 {}
 
 /// If the words don't say, the history of a session may have 65,536 changes, of 1,048,576 at most, and its disk has 1,048,576 bytes; a

@@ -13,19 +13,20 @@
 //!   one opening to the next.
 //! - `client`: the other end of a connection. Only these last six know sockets.
 //! - `fullness`: how full the disk on a file is, and when that is said on standard error.
+//! - `log`: what a server says on standard error of what it did, a line for each change.
 //! - `laws`: the limits of the program, and the laws of sessions.
 //!
 //! `pf_session` answers lines and peers' streams, by a `Book` of `pf_book`, one history over a device; disks on files are `pfd_files`'.
 //! What callers need of these crates is re-exported.
 //!
-//! The crate knows no text of a command or a reply, and doesn't judge, compare, change or keep rules, tables and states itself. Its own
-//! are what the program does with its words, and the statuses that it ends with.
+//! The crate knows no text of a command or a reply, but what a log says of a change, and doesn't judge, compare, change or keep rules,
+//! tables and states itself. Its own are what the program does with its words, and the statuses that it ends with.
 //!
 //! Proved: what `start` does with its words, and its status; which connections a listener serves; when it is to be said how full a disk
-//! is, and that line. Only tested: that it is said, what listeners and clients do with sockets, what becomes of files, the texts of help
-//! and of faults, and which words are refused.
+//! is, and that line; which line a log has of a reply. Only tested: that they are said, what listeners and clients do with sockets, what
+//! becomes of files, the texts of help and of faults, and which words are refused.
 //!
-//! Read `specs/Program.antt` after `pf_session`'s definitions of a session, and `specs/Fullness.antt`.
+//! Read `specs/Program.antt` after `pf_session`'s definitions of a session, `specs/Fullness.antt` and `specs/Log.antt`.
 #![tactic(auto)]
 
 mod accepting;
@@ -36,6 +37,7 @@ mod door;
 mod fullness;
 pub mod laws;
 mod listener;
+mod log;
 mod patience;
 mod program;
 mod renewal;

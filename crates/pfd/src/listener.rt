@@ -3,13 +3,16 @@ ghost use Rattle.std.specs.Prelude.{◌≡◌, ◌⊎◌, IfErr};
 
 use crate::accepting::{Accept, Acceptor};
 use crate::connection::Connection;
+use crate::log::logged::Logged;
+use crate::log::{KeepLog, NoLog};
 use crate::stream::Arrival;
 use pf_book::shared::Shared;
 use pf_book::{Chapter, Disk, Numbering, Publisher, Seer};
-use pf_session::{EngineFault, Gate, LeftOff, NoPause, Pause};
+use pf_session::{Caller, EngineFault, Gate, LeftOff, NoPause, Pause};
 use std::alloc::{AllocError, Global};
 use std::collections::VecDeque;
 use std::net::TcpListener;
+use std::sync::atomic::{AtomicU32, Ordering};
 use std::sync::{Mutex, Wait};
 use std::thread::Threads;
 use std::{io, thread};
@@ -25,10 +28,11 @@ impl Accept for TcpListener {
     }
 }
 
-/// What goes from one opening to the next: how many connections were accepted, and those that paused.
+/// What goes from one opening to the next: how many connections were accepted, how many of them are open, and those that paused.
 #[derive(Drop)]
 pub(crate) struct Reception {
     acceptor: Mutex<Acceptor>,
+    open: AtomicU32,
     // with room for one of each worker
     paused: Mutex<VecDeque<Connection>>,
 }
@@ -42,6 +46,7 @@ impl Reception {
     ) -> Result<Reception, AllocError> {
         Ok(Reception {
             acceptor: Mutex::new(Acceptor::new(sessions)),
+            open: AtomicU32::new(0),
             paused: Mutex::new(VecDeque::with_capacity(alloc, workers)?),
         })
     }
@@ -70,7 +75,10 @@ impl Reception {
         for _ in rt.forever() {
             let (accepted, session) = self.acceptor.lock(rt).next(listener, pause)?;
             match Connection::new(alloc, accepted, session) {
-                Ok(connection) => return Some(connection),
+                Ok(connection) => {
+                    self.open.fetch_add(1, Ordering::SeqCst);
+                    return Some(connection);
+                }
                 // it is closed
                 Err(arrival) => listener.release(&arrival),
             }
@@ -82,6 +90,20 @@ impl Reception {
     fn keep<W: Wait>(&self, rt: &W, connection: Connection) {
         // there is room for it
         let _ = self.paused.lock(rt).push_back(connection);
+    }
+
+    // Takes note that a connection has ended.
+    fn leave(&self) {
+        self.open.fetch_sub(1, Ordering::SeqCst);
+    }
+}
+
+// Sessions pass it as an open gate, and learn how many connections workers serve.
+impl Gate for Reception {
+    fn pass(&self, _session: u32, _line: u32) {}
+
+    fn sessions(&self) -> u32 {
+        self.open.load(Ordering::SeqCst)
     }
 }
 
@@ -106,11 +128,13 @@ struct Server<
     S: Publisher<J> + Drop,
     G: Gate,
     P: Pause,
+    L: KeepLog,
 > {
     rt: &'a W,
     shared: &'a Shared<D, J, S>,
     gate: &'a G,
     pause: &'a P,
+    log: &'a L,
 }
 
 impl<
@@ -121,14 +145,21 @@ impl<
     S: Publisher<J> + Drop,
     G: Gate,
     P: Pause,
-> ServeConnection<J> for Server<'a, W, D, J, S, G, P> {
+    L: KeepLog,
+> ServeConnection<J> for Server<'a, W, D, J, S, G, P, L> {
     fn serve_connection(
         &self,
         alloc: Global,
         connection: &mut Connection,
         seer: &mut Seer<J>,
     ) -> Result<LeftOff, EngineFault> {
-        connection.serve(self.rt, alloc, self.shared, seer, self.gate, self.pause)
+        let caller = Caller::new(self.rt, self.shared);
+        let book = Logged::new(&caller, self.log, connection.number());
+        let served = connection.serve(alloc, &book, seer, self.gate, self.pause);
+        if let Err(fault) = &served {
+            self.log.note_fault(connection.number(), *fault);
+        }
+        served
     }
 }
 
@@ -152,7 +183,10 @@ fn work<W: Wait, A: Accept<Connection = Arrival>, J: Chapter, S: ServeConnection
         // a fault of a connection ends it alone
         match server.serve_connection(alloc, &mut connection, &mut seer) {
             Ok(LeftOff::Paused) => reception.keep(rt, connection),
-            _ => listener.release(connection.arrival()),
+            _ => {
+                listener.release(connection.arrival());
+                reception.leave();
+            }
         }
     }
     unreachable!()
@@ -172,6 +206,7 @@ pub(crate) fn serve_until<
     S: Publisher<J> + Drop + Send,
     G: Gate + Sync,
     P: Pause + Sync,
+    L: KeepLog + Sync,
 >(
     rt: &M,
     alloc: Global,
@@ -181,6 +216,7 @@ pub(crate) fn serve_until<
     seers: Vec<Seer<J>>,
     gate: &G,
     pause: &P,
+    log: &L,
 ) -> Result<Vec<Seer<J>>, EngineFault>
     ensures { IfErr result (λ fault. fault ≡ EngineFault.Memory) }
 {
@@ -189,6 +225,7 @@ pub(crate) fn serve_until<
         shared,
         gate,
         pause,
+        log,
     };
     work_all(rt, alloc, listener, reception, &server, pause, seers)
 }
@@ -260,7 +297,7 @@ pub fn serve_listener<
         return Err(EngineFault::Memory);
     };
     let _ = serve_until(
-        rt, alloc, listener, &reception, shared, seers, gate, &NoPause,
+        rt, alloc, listener, &reception, shared, seers, gate, &NoPause, &NoLog,
     )?;
     if reception.has_failed(rt) {
         return Err(EngineFault::Read);

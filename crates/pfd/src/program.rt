@@ -5,6 +5,7 @@
 //! - `ended`: what the program says of a session.
 //! - `conf`: what is asked of a pf.conf.
 //! - `load`: loads of one into a server.
+//! - `explained`: what is asked of a server's rules.
 ghost use Rattle.std.specs.{Prelude.{◌≡◌, ◌≢◌, ◌≤◌, ◌<◌, ◌^◌, ◌⊎◌, IfErr, IfOk, Result, map, string_bytes}, Io.KnownBytes.Keeps, IoError.error_kind};
 ghost use Rattle.clap.specs.Words.{kind_of, subcommand_of};
 ghost use Rattle.pfd_files.specs.declared.fault.Fault.{Fault};
@@ -15,6 +16,7 @@ ghost use Rattle.pfd.specs.Program.{IsDone, IsDeviceRun, IsMemoryRun, IsProgramR
 
 mod conf;
 mod ended;
+mod explained;
 mod fresh;
 mod load;
 mod serving;
@@ -24,6 +26,7 @@ use crate::client::connect;
 use crate::fullness::gauge::{Gauge, tell_fullness};
 use crate::program::conf::answer;
 use crate::program::ended::told;
+use crate::program::explained::explain_served;
 use crate::program::fresh::open_memory;
 use crate::program::load::load_file;
 use crate::program::serving::serve_file;
@@ -143,8 +146,21 @@ fn perform<
         Task::Serve(service) => serve_file(machine, alloc, files, &service, writer, faults),
         Task::Connect { address } => told(connect(machine, alloc, address, reader, writer)),
         Task::Conf(task) => answer(alloc, files, &task, writer, faults),
+        Task::Explain(task) => explain_served(machine, alloc, &task, writer, faults),
         Task::Load(task) => load_file(machine, alloc, files, &task, writer, faults),
+        Task::Status { address } => ask_status(machine, alloc, address, writer),
     }
+}
+
+// Asks the server at the address for its status, and writes what it answers.
+fn ask_status<N: Net<Listener = TcpListener, Stream = TcpStream> + Threads, W: Write + Send>(
+    net: &N,
+    alloc: Global,
+    address: &str,
+    writer: &mut W,
+) -> Result<(), Fault> {
+    let mut line: &[u8] = b"show status\n";
+    told(connect(net, alloc, address, &mut line, writer))
 }
 
 // Says in one line what failed, unless that was told. Where it can't be written there is nowhere else to say it.
@@ -212,8 +228,8 @@ fn explain<W: Write, F: Write>(error: &Error, writer: &mut W, faults: &mut F) ->
 /// the disk on the file holds, and leaves the file as it is.
 ///
 /// `pfd serve --listen ADDR --disk FILE --size N [--workers N] [--history N] [--sessions N] [--renew N] [--renew-bytes N] [--idle SECONDS]
-/// [--mode MODE] [--ask ADDR] [--ask-mode MODE] [--peers ADDR] [--peers-mode MODE]` opens the disk on the file, whose length has to be the
-/// size, listens on the addresses, of which each word may say several, and writes `listening ADDR` for each, with the address that it got,
+/// [--mode MODE] [--ask ADDR] [--ask-mode MODE] [--peers ADDR] [--peers-mode MODE] [--log]` opens the disk on the file, whose length has to be
+/// the size, listens on the addresses, of which each word may say several, and writes `listening ADDR` for each, with the address that it got,
 /// once clients can connect. An address with a slash is the path of a Unix socket, whose file gets the mode of its kind of address, 0600 if
 /// the words don't say; the file of a socket at which nobody answers is replaced, and any other that is there is a fault. At the end the
 /// files that it made are removed. It serves so many connections at once, 4 if the words don't say, each as in `serve_listener`, and ends
@@ -221,7 +237,8 @@ fn explain<W: Write, F: Write>(error: &Error, writer: &mut W, faults: &mut F) ->
 /// streams alone, and if there are any, no other address takes one. Without `--history` it renews its history after so many changes, 65,536
 /// if the words don't say, or so many bytes of them, 268,435,456 if they don't: it opens its disk again, and goes on with each connection
 /// where it was. A connection on which nothing came for so many seconds is closed behind its last reply, and so is one that took nothing of
-/// its replies for so long; with 0, or without the word, none is.
+/// its replies for so long; with 0, or without the word, none is. With `--log` the faults get a line for each change, before its reply, for
+/// each opening, and for each connection that a fault ended.
 /// `pfd connect ADDR` sends what the reader gives to such a server, and writes what it answers.
 ///
 /// `pfd check FILE [--lenient] [--anchor PATH]` writes what the pf.conf in the file means: the rules of each ruleset and the tables that are
@@ -233,6 +250,8 @@ fn explain<W: Write, F: Write>(error: &Error, writer: &mut W, faults: &mut F) ->
 /// `pfd load FILE [--to ADDR] [--anchor PATH] [--lenient] [--dry-run] [--retry N]` loads such a file into a server: all that it means in one
 /// commit, or nothing of it, and writes the server's reply, or with `--dry-run` what would change. A line that the server refuses goes to the
 /// faults with the reply, and the status is then 1. If somebody else began on one of its rulesets meanwhile it begins anew, N times at most.
+///
+/// `pfd status [ADDR]` asks a server for its status, and writes its reply.
 ///
 /// A session on a file and a server say on the faults how full the disk is, in a line, once more than seven eighths of its half are used:
 /// as they begin, and a server again as that rises. They say it once for each hundredth, until no more than three quarters were used.

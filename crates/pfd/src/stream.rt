@@ -1,5 +1,5 @@
 //! A connection, by TCP or by a Unix socket. No clause can say what a socket gives and takes, so this is only tested.
-ghost use Rattle.std.specs.{Prelude.{◌≤◌, length, vec_len, IfOk}, Counts.IsPrefixLen};
+ghost use Rattle.std.specs.{Prelude.{◌≡◌, ◌+◌, ◌≤◌, length, vec_len, IfOk}, Counts.IsPrefixLen};
 
 use crate::admitting::Admits;
 use crate::patience::Patience;
@@ -137,7 +137,7 @@ impl Write for &Stream {
 }
 
 /// What is known of what a connection gives, whoever reads it next.
-#[derive(Drop)]
+#[derive(Clone, Copy, Debug)]
 pub(crate) struct Received {
     // a byte that was looked at and not read
     first: Option<u8>,
@@ -160,7 +160,7 @@ pub(crate) struct Unsent {
 #[derive(Drop)]
 pub(crate) struct Incoming<'a, P: Pause> {
     pub(crate) stream: &'a Stream,
-    pub(crate) received: &'a mut Received,
+    pub(crate) received: Received,
     pub(crate) patience: Patience,
     pub(crate) pause: &'a P,
 }
@@ -169,7 +169,7 @@ pub(crate) struct Incoming<'a, P: Pause> {
 #[derive(Drop)]
 pub(crate) struct Outgoing<'a, P: Pause> {
     pub(crate) stream: &'a Stream,
-    pub(crate) unsent: &'a mut Unsent,
+    pub(crate) unsent: Unsent,
     pub(crate) patience: Patience,
     pub(crate) pause: &'a P,
 }
@@ -202,15 +202,99 @@ impl Unsent {
         })
     }
 
+    /// Nothing, and no memory for more.
+    pub(crate) fn without_room(alloc: Global) -> Unsent {
+        Unsent {
+            bytes: Vec::new(alloc),
+            taken: 0,
+            silent: 0,
+        }
+    }
+
     /// Whether there is nothing.
     pub(crate) fn is_empty(&self) -> bool {
         self.bytes.is_empty()
     }
 
-    // All was taken so far.
+    // How many bytes there are, with those that it took.
+    fn len(&self) -> usize {
+        self.bytes.len()
+    }
+
+    // What it didn't take yet.
+    fn rest(&self) -> &[u8]
+        ensures { length result.now + self.now.taken ≡ vec_len self.now.bytes }
+    {
+        &self.bytes[self.taken..]
+    }
+
+    // It took so many more.
+    fn took(&mut self, count: usize)
+        requires { self.old.taken + count ≤ vec_len self.old.bytes }
+    {
+        self.taken += count;
+        self.silent = 0;
+    }
+
+    // It was given more. `OutOfMemory`: it wasn't.
+    fn add(&mut self, more: &[u8]) -> io::Result<()> {
+        match self.bytes.extend_from_slice(more) {
+            Ok(()) => Ok(()),
+            Err(_) => Err(io::Error::from(ErrorKind::OutOfMemory)),
+        }
+    }
+
+    // Forgets what it took, once that is all.
     fn clear_taken(&mut self) {
         self.taken = 0;
         self.bytes.clear();
+    }
+
+    // Sends some, if the connection takes it.
+    fn send_some(&mut self, stream: &Stream, patience: Patience) -> io::Result<()> {
+        match stream.send(self.rest()) {
+            Ok(0) => Err(io::Error::from(ErrorKind::WriteZero)),
+            Ok(n) => {
+                self.took(n);
+                Ok(())
+            }
+            Err(error) => {
+                if error.kind() == ErrorKind::Interrupted {
+                    return Ok(());
+                }
+                if !has_waited(&error) {
+                    return Err(error);
+                }
+                self.silent = self.silent.saturating_add(1);
+                if patience.is_over(self.silent) {
+                    return Err(error);
+                }
+                Ok(())
+            }
+        }
+    }
+
+    /// Sends it. Where a pause is due it tries once: a connection that takes little at a time doesn't hold a pause up. `Err`: the connection
+    /// failed, or took nothing for too long.
+    pub(crate) fn send<P: Pause>(
+        &mut self,
+        stream: &Stream,
+        patience: Patience,
+        pause: &P,
+    ) -> io::Result<()> {
+        let mut has_tried = false;
+        for _ in 0..u64::MAX {
+            if self.rest().is_empty() {
+                self.clear_taken();
+                return Ok(());
+            }
+            if has_tried && pause.is_due() {
+                return Ok(());
+            }
+            self.send_some(stream, patience)?;
+            has_tried = true;
+        }
+        Err(io::Error::from(ErrorKind::Other))
     }
 }
 
@@ -268,61 +352,28 @@ impl<P: Pause> Read for Incoming<'_, P> {
 }
 
 impl<P: Pause> Outgoing<'_, P> {
-    // Sends some of what is kept, if the connection takes it.
-    fn send_some(&mut self) -> io::Result<()> {
-        match self.stream.send(&self.unsent.bytes[self.unsent.taken..]) {
-            Ok(0) => Err(io::Error::from(ErrorKind::WriteZero)),
-            Ok(n) => {
-                self.unsent.taken += n;
-                self.unsent.silent = 0;
-                Ok(())
-            }
-            Err(error) => {
-                if error.kind() == ErrorKind::Interrupted {
-                    return Ok(());
-                }
-                if !has_waited(&error) {
-                    return Err(error);
-                }
-                self.unsent.silent = self.unsent.silent.saturating_add(1);
-                if self.patience.is_over(self.unsent.silent) {
-                    return Err(error);
-                }
-                Ok(())
-            }
-        }
-    }
-
-    // Sends what is kept. Where a pause is due it tries once: a connection that takes little at a time doesn't hold a pause up.
-    fn send(&mut self) -> io::Result<()> {
-        let mut has_tried = false;
-        for _ in 0..u64::MAX {
-            if self.unsent.bytes.len() <= self.unsent.taken {
-                self.unsent.clear_taken();
-                return Ok(());
-            }
-            if has_tried && self.pause.is_due() {
-                return Ok(());
-            }
-            self.send_some()?;
-            has_tried = true;
-        }
-        Err(io::Error::from(ErrorKind::Other))
+    /// What the connection didn't take.
+    pub(crate) fn into_unsent(self) -> Unsent {
+        let Outgoing {
+            stream: _,
+            unsent,
+            patience: _,
+            pause: _,
+        } = self;
+        unsent
     }
 }
 
 impl<P: Pause> Write for Outgoing<'_, P> {
     fn write(&mut self, buf: &[u8]) -> io::Result<usize> {
-        if KEPT < self.unsent.bytes.len().saturating_add(buf.len()) && !self.pause.is_due() {
-            self.send()?;
+        if KEPT < self.unsent.len().saturating_add(buf.len()) && !self.pause.is_due() {
+            self.unsent.send(self.stream, self.patience, self.pause)?;
         }
-        match self.unsent.bytes.extend_from_slice(buf) {
-            Ok(()) => Ok(buf.len()),
-            Err(_) => Err(io::Error::from(ErrorKind::OutOfMemory)),
-        }
+        self.unsent.add(buf)?;
+        Ok(buf.len())
     }
 
     fn flush(&mut self) -> io::Result<()> {
-        self.send()
+        self.unsent.send(self.stream, self.patience, self.pause)
     }
 }

@@ -48,6 +48,7 @@ gives_on faults.Memory p q on g = tt
 gives_on (faults.Conf f) p q on g = on g
 gives_on (faults.Unread name) p q on g = on g
 gives_on (faults.LongCases name) p q on g = on g
+gives_on (faults.Interface text) p q on g = on g
 gives_on (faults.Case file line mistake) p q on g = on g
 gives_on (faults.Packet mistake) p q on g = on g
 gives_on (faults.Anchor text) p q on g = on g

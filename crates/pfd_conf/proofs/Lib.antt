@@ -1,3 +1,5 @@
+pub mod Tallies
+pub mod Given
 pub mod Texts
 pub mod Judging
 pub mod Covered

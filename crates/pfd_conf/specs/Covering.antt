@@ -3,12 +3,12 @@ use Rattle.std.specs.Prelude.{◌≡◌, ℕ, ◌+◌, ◌-◌, ◌<◌, ◌==�
 use Rattle.std.specs.List.{slice_get, list_any, flat_map}
 use Rattle.pf_rule.specs.{Rules.PlainRule, RuleText.rule_text}
 use Rattle.pf_rule.specs.declared.rule.Effect.{Effect, TheVariants.{Decide, Evaluate}}
-use Rattle.pf_tokens.specs.declared.files.File.{File}
+use Rattle.pf_tokens.specs.declared.{place.Place.Place, files.File.File}
 use Rattle.pf_parse.specs.declared.fault.At.{At}
 use Rattle.pf_conf.specs.declared.found.Ruleset.{Ruleset}
 use Rattle.pf_conf.specs.Shown.{newline}
 use Rattle.pfd_conf.specs.declared.{firewall.Decided.Decided, firewall.Firewall.Firewall, outcomes.Outcome.Outcome, outcomes.Tried.Tried}
-use Rattle.pfd_conf.specs.{Firewalls.{rule_at, place_text}, Reports.sayable}
+use Rattle.pfd_conf.specs.{Firewalls.{rule_at, is_in, place_text}, Reports.sayable}
 
 -- it decides if it matches; an anchor rule doesn't
 abbrev pub decides_by : Effect → Bool
@@ -69,10 +69,14 @@ deciding_count rs = sayable (sum_by (λ (r : Ruleset). count_by (λ (x : At Plai
 abbrev pub sign_text : List ℕ → List ℕ
 sign_text path = if length path == 0 then codes "@" else codes " @"
 
+-- FILE:LINE:COLUMN: , or nothing of a rule that is in no file
+abbrev pub place_front : List File → Place → List ℕ
+place_front files p = if is_in files p then place_text files p ++ codes ":" ++ decimal p.column ++ codes ": " else []
+
 -- FILE:LINE:COLUMN: PATH @N RULE, or without the path if it is main's
 abbrev pub rule_line : List File → List ℕ → ℕ → At PlainRule → List ℕ
 rule_line files path n r =
-    place_text files r.place ++ codes ":" ++ decimal r.place.column ++ codes ": " ++ path ++ sign_text path ++ decimal n ++ codes " "
+    place_front files r.place ++ path ++ sign_text path ++ decimal n ++ codes " "
     ++ rule_text r.is
     ++ newline
 

@@ -1,5 +1,5 @@
 -- A file's rules and tables as packets are judged by them (pf.conf(5), PACKET FILTERING and TABLES), and where each rule is written.
-use Rattle.std.specs.Prelude.{ℕ, List, [], ◌++◌, map, take, codes, decimal, position, Option, Some, None, Result, Ok, Err}
+use Rattle.std.specs.Prelude.{ℕ, nat_lt, Bool, List, [], ◌++◌, length, map, take, codes, decimal, position, Option, Some, None, Result, Ok, Err, if◌then◌else◌}
 use Rattle.std.specs.{List.{slice_get, filter_map}, Option.{option_map, option_and_then}}
 use Rattle.pf_addr.specs.Path.{Paths.same_path, Names.table_name_of}
 use Rattle.pf_form.specs.declared.form.fault.Kind.{Kind}
@@ -56,8 +56,12 @@ rule_at rs d = option_and_then (λ (r : Ruleset). slice_get r.rules d.number) (s
 abbrev pub place_text : List File → Place → List ℕ
 place_text files p = name_of_file (slice_get files p.file) ++ (codes ":" ++ decimal p.line)
 
+-- whether a place is in one of these files; the rules of a server are in none
+abbrev pub is_in : List File → Place → Bool
+is_in files p = nat_lt p.file (length files)
+
 abbrev pub parenthesized : List File → Place → List ℕ
-parenthesized files p = codes " (" ++ (place_text files p ++ codes ")")
+parenthesized files p = if is_in files p then codes " (" ++ (place_text files p ++ codes ")") else []
 
 abbrev pub in_parentheses : List File → Option (At PlainRule) → List ℕ
 in_parentheses files None = []

@@ -8,7 +8,7 @@ ghost use Rattle.pf_conf.specs.Shown.{shown};
 use crate::fault::Fault;
 use crate::taking::{Taken, take};
 use pf_addr::path::Path;
-use pf_conf::{Conf, Mode, Note, write_conf};
+use pf_conf::{Conf, Interface, Mode, Note, write_conf};
 use pf_tokens::Contents;
 use std::alloc::{AllocError, Global};
 use std::io::{self, Write};
@@ -25,17 +25,18 @@ fn write_notes<E: Write>(faults: &mut E, notes: &[Note]) -> io::Result<()> {
 pub fn take_noting<F: Fn(&[u8]) -> Result<Contents, AllocError>, E: Write>(
     alloc: Global,
     read: &F,
+    interfaces: &[Interface],
     mode: Mode,
     base: &Path,
     name: &str,
     faults: &mut E,
 ) -> Result<Taken, Fault>
     requires { F.IsAlwaysCallable read.now }
-    ensures taken { IfOk result (λ t. resolved t.files mode base.now name.now ≡ Ok t.conf) }
+    ensures taken { IfOk result (λ t. resolved t.files interfaces.now mode base.now name.now ≡ Ok t.conf) }
     ensures read { IfOk result (λ t. AreRead (FnReturnsAt F.Fn read.now) t.files) }
-    ensures refused { IfErr result (RefusesOrStops (FnReturnsAt F.Fn read.now) mode base.now name.now) }
+    ensures refused { IfErr result (RefusesOrStops (FnReturnsAt F.Fn read.now) interfaces.now mode base.now name.now) }
 {
-    let taken = take(alloc, read, mode, base, name.as_bytes())?;
+    let taken = take(alloc, read, interfaces, mode, base, name.as_bytes())?;
     match write_notes(faults, taken.conf.notes.as_slice()) {
         Ok(()) => Ok(taken),
         Err(_) => Err(Fault::Output),
@@ -55,6 +56,7 @@ fn print<W: Write>(out: &mut W, conf: &Conf) -> io::Result<()>
 pub fn check<F: Fn(&[u8]) -> Result<Contents, AllocError>, W: Write, E: Write>(
     alloc: Global,
     read: &F,
+    interfaces: &[Interface],
     mode: Mode,
     base: &Path,
     name: &str,
@@ -62,9 +64,9 @@ pub fn check<F: Fn(&[u8]) -> Result<Contents, AllocError>, W: Write, E: Write>(
     faults: &mut E,
 ) -> Result<(), Fault>
     requires { F.IsAlwaysCallable read.now }
-    ensures { IsChecked (FnReturnsAt F.Fn read.now) mode base.now name.now result (W.contents out.old) (W.contents out.new) }
+    ensures { IsChecked (FnReturnsAt F.Fn read.now) interfaces.now mode base.now name.now result (W.contents out.old) (W.contents out.new) }
 {
-    let taken = take_noting(alloc, read, mode, base, name, faults)?;
+    let taken = take_noting(alloc, read, interfaces, mode, base, name, faults)?;
     match print(out, &taken.conf) {
         Ok(()) => Ok(()),
         Err(_) => Err(Fault::Output),

@@ -2,16 +2,16 @@
 ghost use Rattle.std.specs.Prelude.{◌≡◌, ◌++◌, ◌==◌, ◌||◌, ℕ, Bool, length, IfOk, OnOk, IfErr};
 ghost use Rattle.pf_addr.specs.Writing.{Continues, Writes};
 ghost use Rattle.pf_rule.specs.RuleText.{rule_text};
-ghost use Rattle.pfd_conf.specs.Covering.{is_deciding, is_of, decides_any, decides_some, AreMarks, unmarked_from, uncovered_of, deciding_count, count_text, sign_text, rule_line, line_of_rule, lines_of_rules, cover_text};
+ghost use Rattle.pfd_conf.specs.Covering.{is_deciding, is_of, decides_any, decides_some, AreMarks, unmarked_from, uncovered_of, deciding_count, count_text, sign_text, place_front, rule_line, line_of_rule, lines_of_rules, cover_text};
 
 use crate::fault::Fault;
-use crate::firewall::{Decided, Firewall, write_place};
+use crate::firewall::{Decided, Firewall, is_in, write_place};
 use crate::outcomes::{Outcome, Tried};
 use crate::report::written;
 use pf_addr::{write_more, write_more_number};
 use pf_conf::{At, Ruleset};
 use pf_rule::{Effect, Rule};
-use pf_tokens::Items;
+use pf_tokens::{Files, Items, Place};
 use std::alloc::{AllocError, Global};
 use std::io::{self, Write};
 
@@ -123,6 +123,24 @@ fn sign(path: &[u8]) -> &'static [u8]
     if path.is_empty() { b"@" } else { b" @" }
 }
 
+/// Writes a place with a colon and a space behind it, if it is in one of these files.
+fn write_front<W: Write>(
+    out: &mut W,
+    so_far: io::Result<()>,
+    files: &Files,
+    place: Place,
+) -> io::Result<()>
+    ensures { Continues so_far (W.contents out.old) result (W.contents out.new) (place_front files.now place) }
+{
+    if !is_in(files, place) {
+        return write_more(out, so_far, b"");
+    }
+    let so_far = write_place(out, so_far, files, place);
+    let so_far = write_more(out, so_far, b":");
+    let so_far = write_more_number(out, so_far, u64::from(place.column));
+    write_more(out, so_far, b": ")
+}
+
 impl Firewall {
     /// Writes the line of a rule: its place, its ruleset's path unless that is main's, its number and its text.
     fn write_rule<W: Write>(
@@ -136,10 +154,7 @@ impl Firewall {
         ensures { Continues so_far (W.contents out.old) result (W.contents out.new)
             (rule_line self.now.taken.files path.now number rule.now) }
     {
-        let so_far = write_place(out, so_far, &self.taken.files, rule.place);
-        let so_far = write_more(out, so_far, b":");
-        let so_far = write_more_number(out, so_far, u64::from(rule.place.column));
-        let so_far = write_more(out, so_far, b": ");
+        let so_far = write_front(out, so_far, &self.taken.files, rule.place);
         let so_far = write_more(out, so_far, path);
         let so_far = write_more(out, so_far, sign(path));
         let so_far = write_more_number(out, so_far, number as u64);

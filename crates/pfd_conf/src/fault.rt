@@ -1,6 +1,6 @@
 //! Why there is no answer.
 ghost use Rattle.std.specs.Prelude.{◌≡◌, IfOk};
-ghost use Rattle.pfd_conf.specs.declared.fault.Fault.TheVariants.{Anchor, Unwritten, Memory};
+ghost use Rattle.pfd_conf.specs.declared.fault.Fault.TheVariants.{Anchor, Interface, Unwritten, Memory};
 
 use pf_tokens::{Bytes, Items};
 use std::alloc::{AllocError, AllocFailed, Global};
@@ -47,6 +47,9 @@ pub enum Fault {
     /// What is named as the path of an anchor is none.
     #[error("'{0}' is no anchor's path")]
     Anchor(Bytes),
+    /// What is given as an interface with its addresses is none.
+    #[error("'{0}' is no interface with its addresses, as em0=192.0.2.1/24,2001:db8::1/64")]
+    Interface(Bytes),
     /// This file can't be written.
     #[error("the file {0} can't be written")]
     Unwritten(Bytes),
@@ -64,6 +67,13 @@ impl Fault {
         ensures { IfOk result (λ fault. fault ≡ Anchor text.now) }
     {
         Ok(Fault::Anchor(Items::copied(alloc, text.as_bytes())?))
+    }
+
+    /// The fault of a text that gives no interface.
+    pub fn interface(alloc: Global, text: &str) -> Result<Fault, AllocError>
+        ensures { IfOk result (λ fault. fault ≡ Interface text.now) }
+    {
+        Ok(Fault::Interface(Items::copied(alloc, text.as_bytes())?))
     }
 
     /// The fault of a file that can't be written.

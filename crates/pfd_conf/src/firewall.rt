@@ -4,7 +4,7 @@ ghost use Rattle.std.specs.Option.{option_map, option_and_then};
 ghost use Rattle.std.specs.List.{filter_map, slice_get};
 ghost use Rattle.pf_addr.specs.Writing.{Continues};
 ghost use Rattle.pf_conf.specs.Telling.{name_of_file};
-ghost use Rattle.pfd_conf.specs.Firewalls.{plain_rules, placed_of, table_of, config_of, ruleset_at, decided_in, rule_at, place_text, parenthesized, behind_text};
+ghost use Rattle.pfd_conf.specs.Firewalls.{plain_rules, placed_of, table_of, config_of, ruleset_at, decided_in, rule_at, is_in, place_text, parenthesized, behind_text};
 
 use crate::taking::Taken;
 use pf_addr::path::{Path, TableName};
@@ -193,6 +193,13 @@ pub(crate) fn write_place<W: Write>(
     write_more_number(out, so_far, u64::from(place.line))
 }
 
+/// Whether a place is in one of these files. The rules of a server are in none.
+pub(crate) fn is_in(files: &Files, place: Place) -> bool
+    ensures { result ≡ is_in files.now place }
+{
+    place.file < files.len()
+}
+
 fn write_in_parentheses<W: Write>(
     out: &mut W,
     so_far: io::Result<()>,
@@ -201,6 +208,9 @@ fn write_in_parentheses<W: Write>(
 ) -> io::Result<()>
     ensures { Continues so_far (W.contents out.old) result (W.contents out.new) (parenthesized files.now place) }
 {
+    if !is_in(files, place) {
+        return write_more(out, so_far, b"");
+    }
     let so_far = write_more(out, so_far, b" (");
     let so_far = write_place(out, so_far, files, place);
     write_more(out, so_far, b")")

@@ -1,12 +1,13 @@
 //! A pf.conf with all files that it names.
-ghost use Rattle.std.specs.Prelude.{◌≡◌, Ok, IfOk, IfErr, OnOk};
+ghost use Rattle.std.specs.Prelude.{◌≡◌, [], map, Ok, IfOk, IfErr, OnOk};
 ghost use Rattle.std.specs.Fn.{FnReturnsAt};
+ghost use Rattle.pf_interfaces.specs.Interfaces.{interface_of};
 ghost use Rattle.pf_conf.specs.Resolving.{resolved};
-ghost use Rattle.pfd_conf.specs.Taking.{AreRead, IsRefused, Refuses};
+ghost use Rattle.pfd_conf.specs.Taking.{AreRead, IsRefused, Refuses, with_given, interfaces_given, AreGiven, GoesOn};
 
 use crate::fault::Fault;
 use pf_addr::path::Path;
-use pf_conf::{Conf, Mode, Unread, resolve};
+use pf_conf::{Conf, Interface, Mode, Unread, read_interface, resolve};
 use pf_tokens::{Bytes, Contents, File, Files, Items, READING_LIMIT};
 use std::alloc::{AllocError, Global};
 
@@ -15,6 +16,43 @@ use std::alloc::{AllocError, Global};
 pub struct Taken {
     pub files: Files,
     pub conf: Conf,
+}
+
+impl Taken {
+    /// What a server has: its rules stand in no file.
+    pub fn of_server(alloc: Global, conf: Conf) -> Taken
+        ensures files { result.files ≡ [] }
+        ensures conf { result.conf ≡ conf }
+    {
+        Taken {
+            files: Items::new(alloc),
+            conf,
+        }
+    }
+}
+
+/// Appends the interface that a text gives. `Fault::Interface`: it gives none.
+fn push_given(alloc: Global, text: &str, interfaces: &mut Items<Interface>) -> Result<(), Fault>
+    ensures { GoesOn result interfaces.new (with_given interfaces.old text.now (interface_of text.now)) }
+{
+    match read_interface(alloc, text.as_bytes())? {
+        Some(interface) => Ok(interfaces.push(interface)?),
+        None => Err(Fault::interface(alloc, text)?),
+    }
+}
+
+/// The interfaces that these texts give, each as `em0=192.0.2.1/24,2001:db8::1/64`.
+///
+/// `Fault::Interface`: the first text that gives none; `Fault::Memory`: out of memory.
+#[tactic(auto, using(crate::proofs::Given::given_end))]
+pub fn given_interfaces(alloc: Global, texts: &[&str]) -> Result<Items<Interface>, Fault>
+    ensures { AreGiven (interfaces_given [] (map (λ t. t.now) texts.now)) result }
+{
+    let mut interfaces = Items::new(alloc);
+    for text in texts {
+        push_given(alloc, text, &mut interfaces)?;
+    }
+    Ok(interfaces)
 }
 
 /// Reads a file, and adds it to those that are given.
@@ -51,22 +89,23 @@ fn told(files: Files, known: Result<Conf, Unread>) -> Result<Taken, Fault>
 pub fn take<F: Fn(&[u8]) -> Result<Contents, AllocError>>(
     alloc: Global,
     read: &F,
+    interfaces: &[Interface],
     mode: Mode,
     base: &Path,
     name: &[u8],
 ) -> Result<Taken, Fault>
     requires { F.IsAlwaysCallable read.now }
-    ensures taken { IfOk result (λ t. resolved t.files mode base.now name.now ≡ Ok t.conf) }
+    ensures taken { IfOk result (λ t. resolved t.files interfaces.now mode base.now name.now ≡ Ok t.conf) }
     ensures read { IfOk result (λ t. AreRead (FnReturnsAt F.Fn read.now) t.files) }
-    ensures refused { IfErr result (Refuses (FnReturnsAt F.Fn read.now) mode base.now name.now) }
+    ensures refused { IfErr result (Refuses (FnReturnsAt F.Fn read.now) interfaces.now mode base.now name.now) }
 {
     let mut files = Items::new(alloc);
     'readings: for _ in 0..READING_LIMIT {
-        match resolve(alloc, &files, mode, base, name) {
+        match resolve(alloc, &files, interfaces, mode, base, name) {
             Err(Unread::Needs(name)) => add_read(read, &mut files, name)?,
             known => return told(files, known),
         }
     }
-    let known = resolve(alloc, &files, mode, base, name);
+    let known = resolve(alloc, &files, interfaces, mode, base, name);
     told(files, known)
 }

@@ -50,7 +50,14 @@ fn contents(alloc: Global, files: &[Row<'_>], name: &[u8]) -> Result<Contents, A
 
 fn firewall(alloc: Global, files: &[Row<'_>], name: &str) -> Result<Firewall, Fault> {
     let read = |name: &[u8]| contents(alloc, files, name);
-    let taken = take(alloc, &read, Mode::Strict, &Path::main(), name.as_bytes())?;
+    let taken = take(
+        alloc,
+        &read,
+        &[],
+        Mode::Strict,
+        &Path::main(),
+        name.as_bytes(),
+    )?;
     Ok(Firewall::of(alloc, taken)?)
 }
 
@@ -79,7 +86,7 @@ fn answer(
         let read = |name: &[u8]| contents(alloc, files, name);
         let mut notes = Vec::new(alloc);
         let (mode, base) = (Mode::Strict, Path::main());
-        return check(alloc, &read, mode, &base, row.name, told, &mut notes);
+        return check(alloc, &read, &[], mode, &base, row.name, told, &mut notes);
     }
     let firewall = firewall(alloc, files, row.name)?;
     if row.kind == "explain" {

@@ -1,7 +1,7 @@
 //! Clients of a server, over real connections.
 
 use crate::spelling::{line_bytes, reply_bytes};
-use crate::starting::started;
+use crate::starting::{end_of, started};
 use crate::streams::Watch;
 use crate::table::Table;
 use crate::tally::{Case, Outcome, Tally};
@@ -133,6 +133,7 @@ fn ask_all<N: Wait + Threads + Net<Listener = TcpListener, Stream = TcpStream> +
 pub(crate) fn serve_each<
     N: Wait + Threads + Net<Listener = TcpListener, Stream = TcpStream> + Sync,
 >(machine: &N, rt: &HostRuntime, table: &Table) -> io::Result<Tally> {
+    let alloc = rt.alloc();
     let watch = &Watch::new(true);
     let (served, tally) = thread::join(
         machine,
@@ -140,7 +141,8 @@ pub(crate) fn serve_each<
         || ask_all(machine, rt, table, watch),
     );
     let (served, mut tally) = (served?, tally?);
-    if served.end.as_str() != "0\n" {
+    let wanted = end_of(alloc, 0, reply_bytes(alloc, table.says)?.as_slice())?;
+    if served.end != wanted {
         write!(tally.differing, "  {} -> {:?}\n", table.server, served.end)?;
     }
     Ok(tally)

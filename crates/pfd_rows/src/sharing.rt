@@ -26,6 +26,9 @@ type SharedBook<J, R> = Shared<Device, J, Refusing<J, R>>;
 /// The number of each session.
 const SESSION: u32 = 7;
 
+/// How many sessions are open, as a status says it.
+const OPEN: u32 = 3;
+
 /// A gate that notes whether the lines of one session came to it in order.
 #[derive(Drop)]
 struct Counting {
@@ -39,6 +42,10 @@ impl Gate for Counting {
         if session != SESSION || last.checked_add(1) != Some(line) {
             self.is_wrong.store(true, Ordering::SeqCst);
         }
+    }
+
+    fn sessions(&self) -> u32 {
+        OPEN
     }
 }
 

@@ -40,7 +40,7 @@ fn words_of(alloc: Global, line: &str) -> Result<Vec<String>, AllocError> {
 }
 
 // The status, followed by what was written of faults.
-fn end_of(alloc: Global, status: u8, told: &[u8]) -> Result<String, AllocError> {
+pub(crate) fn end_of(alloc: Global, status: u8, told: &[u8]) -> Result<String, AllocError> {
     let told = std::str::from_utf8(told).unwrap_or("no text");
     if told.is_empty() {
         format!(in alloc; "{status}\n")

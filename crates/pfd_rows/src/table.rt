@@ -60,6 +60,8 @@ pub(crate) struct Table<'a> {
     pub(crate) is_locked: bool,
     /// The words that the server is started with, whose clients the rows are.
     pub(crate) server: &'a str,
+    /// The lines that the server says on standard error.
+    pub(crate) says: &'a str,
     /// The rows that are played first on a Book.
     pub(crate) before: Vec<&'a str>,
     /// The rows that are played for each row, with its fields in their places.
@@ -81,6 +83,7 @@ impl<'a> Table<'a> {
             file: None,
             is_locked: false,
             server: "",
+            says: "",
             before: Vec::new(alloc),
             shapes: Vec::new(alloc),
             rows: Vec::new(alloc),
@@ -99,6 +102,7 @@ impl<'a> Table<'a> {
                 self.kind = Kind::Clients;
                 self.server = rest;
             }
+            "says" => self.says = rest,
             "in" => self.in_turn = true,
             "input" => self.as_input = true,
             "history" => self.history = rest.parse::<usize>().unwrap_or(HISTORY_LIMIT),

@@ -4,7 +4,7 @@ use Rattle.std.specs.{Prelude.{option_map, unwrap_or}, Str.Parse.ParsesUnsigned}
 use Rattle.clap.specs.Words.{ReadsOne, Row, Text, is_simple, subcommand_of, takes}
 use Rattle.clap.proofs.OnLiterals.{clap_on_literals}
 use Rattle.clap.specs.declared.error.kind.ErrorKind.{ErrorKind, TheVariants.OutOfMemory}
-use Rattle.pfd_words.specs.declared.words.{Task.Task, Task.TheVariants.{Run, RunOn, Format, Show, Serve, Connect, Conf, Load}, Limits.Limits, TheConstants.{MEMORY_SIZE, HISTORY_LIMIT, MOST_HISTORY}}
+use Rattle.pfd_words.specs.declared.words.{Task.Task, Task.TheVariants.{Run, RunOn, Format, Show, Serve, Connect, Conf, Explain, Load, Status}, Limits.Limits, TheConstants.{MEMORY_SIZE, HISTORY_LIMIT, MOST_HISTORY}}
 use Rattle.pfd_words.specs.declared.conf.{Question.Question, Question.TheVariants.{Meaning, Outcomes, Coverage, Matches}}
 use Rattle.pfd_words.specs.{Conf.{AsksQuestion}, Options.{IsFlag}}
 use Rattle.pfd_words.specs.Words.{IsAsked, IsPlainRun, IsRefused, IsRefusedMode, MaySayNumber, SaysLimitsBy, SaysNumber, SaysRenewal, plain_run, program_words}
@@ -51,7 +51,9 @@ is_run (Show path) asked = absurd (apart 114 115 (lit< tt) (sym (first_bytes (co
 is_run (Serve service) asked = absurd (apart 114 115 (lit< tt) (sym (first_bytes (codes "serve") asked.0)))
 is_run (Connect address) asked = absurd (apart 99 114 (lit< tt) (first_bytes (codes "connect") asked.0))
 is_run (Conf task) asked = absurd (no_question task.question asked.question)
+is_run (Explain task) asked = absurd (apart 101 114 (lit< tt) (first_bytes (codes "explain") asked.word))
 is_run (Load task) asked = absurd (apart 108 114 (lit< tt) (first_bytes (codes "load") asked.word))
+is_run (Status address) asked = absurd (apart 114 115 (lit< tt) (sym (first_bytes (codes "status") asked.0)))
 
 pub alone : (words : List Text) (task : Task) → IsPlainRun words → IsAsked (subcommand_of program_words words) task → task ≡ plain_run
 alone words task is asked =

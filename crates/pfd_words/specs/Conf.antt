@@ -1,9 +1,9 @@
 -- The subcommands that ask something of a pf.conf, as clap reads them, and what they ask.
-use Rattle.std.specs.Prelude.{◌≡◌, true, List, Option, Some, codes, map, option_map}
-use Rattle.clap.specs.Words.{App, Row, Rule, Text, new_app, new_rule, with_rule}
+use Rattle.std.specs.Prelude.{◌≡◌, true, List, [], ◌∷◌, Option, Some, None, codes, map, option_and_then, option_map, unwrap_or}
+use Rattle.clap.specs.Words.{App, Row, Rule, Text, all_of, new_app, new_rule, with_rule}
 use Rattle.clap.specs.declared.builder.action.ArgAction.TheVariants.{SetTrue, Append}
-use Rattle.pfd_words.specs.declared.conf.{ConfTask.ConfTask, Question.Question, Question.TheVariants.{Meaning, Outcomes, Coverage, Matches}}
-use Rattle.pfd_words.specs.Options.{SaysText, MaySayText, SaysTexts, SaysFlag}
+use Rattle.pfd_words.specs.declared.conf.{ConfTask.ConfTask, ServerTask.ServerTask, Question.Question, Question.TheVariants.{Meaning, Outcomes, Coverage, Matches}}
+use Rattle.pfd_words.specs.Options.{text_in, SaysText, MaySayText, SaysTexts, SaysFlag}
 
 -- ---- the subcommands and their options
 
@@ -28,9 +28,15 @@ several_rule name = record (new_rule name) { value_names = 1; required = true; a
 abbrev pub cases_rule : Rule
 cases_rule = several_rule (codes "cases")
 
--- a subcommand for a pf.conf, and one for its cases
+abbrev pub interface_rule : Rule
+interface_rule = record (text_rule (codes "interface")) { action = Some Append }
+
+-- a subcommand for a pf.conf, one where interfaces may have addresses, and one for its cases
+abbrev pub file_words : Text → App
+file_words name = with_rule (with_rule (new_app name) file_rule) lenient_rule
+
 abbrev pub conf_words : Text → App
-conf_words name = with_rule (with_rule (new_app name) file_rule) lenient_rule
+conf_words name = with_rule (file_words name) interface_rule
 
 abbrev pub case_words : Text → App
 case_words name = with_rule (conf_words name) cases_rule
@@ -45,7 +51,7 @@ abbrev pub cover_words : App
 cover_words = case_words (codes "cover")
 
 abbrev pub explain_words : App
-explain_words = with_rule (conf_words (codes "explain")) (several_rule (codes "packet"))
+explain_words = with_rule (with_rule (conf_words (codes "explain")) (several_rule (codes "packet"))) (text_rule (codes "from"))
 
 -- ---- what they ask. `met` is the subcommand that clap found, with its options
 
@@ -59,10 +65,19 @@ AsksQuestion met (Outcomes cases tap junit) =
     IsWord (codes "test") met × SaysTexts (codes "cases") met (map (λ s. s.now) cases.items) × SaysFlag (codes "tap") met tap
     × MaySayText (codes "junit") met junit
 AsksQuestion met (Coverage cases) = IsWord (codes "cover") met × SaysTexts (codes "cases") met (map (λ s. s.now) cases.items)
-AsksQuestion met (Matches packet) = IsWord (codes "explain") met × SaysTexts (codes "packet") met (map (λ s. s.now) packet.items)
+AsksQuestion met (Matches packet) =
+    IsWord (codes "explain") met × (text_in (codes "from") met ≡ None) × SaysTexts (codes "packet") met (map (λ s. s.now) packet.items)
 
 -- what a subcommand asks of a pf.conf
 pub record AsksConf (met : Option (Text × List Row)) (task : ConfTask) : Type 0 where
   pub path : SaysText (codes "file") met task.path.now
   pub lenient : SaysFlag (codes "lenient") met task.is_lenient
+  pub interfaces : SaysTexts (codes "interface") met (map (λ s. s.now) task.interfaces.items)
   pub question : AsksQuestion met task.question
+
+-- what `explain` asks of a server. There is no file, so the first word is the packet's
+pub record AsksServer (met : Option (Text × List Row)) (task : ServerTask) : Type 0 where
+  pub word : IsWord (codes "explain") met
+  pub from : text_in (codes "from") met ≡ Some task.from.now
+  pub packet : map (λ s. s.now) task.packet.items
+      ≡ unwrap_or (text_in (codes "file") met) [] ∷ unwrap_or (option_and_then (λ m. all_of (codes "packet") m.1) met) []

@@ -4,8 +4,8 @@ use Rattle.clap.specs.{Simple.on_top, Words.{App, Row, Rule, Text, new_app, new_
 use Rattle.clap.specs.declared.builder.action.ArgAction.TheVariants.{Append}
 use Rattle.clap.specs.declared.builder.value_parser.ValueParser.TheVariants.{Signed}
 use Rattle.clap.specs.declared.error.kind.ErrorKind.{ErrorKind, TheVariants.{OutOfMemory, ValueValidation}}
-use Rattle.pfd_words.specs.{Options.{text_in, SaysText, MaySayText, SaysTexts, SaysFlag}, Conf.{IsWord, AsksConf, flag_rule, text_rule, conf_words, check_words, test_words, cover_words, explain_words}}
-use Rattle.pfd_words.specs.declared.words.{Limits.Limits, Service.Service, Task.Task, LoadTask.LoadTask, Task.TheVariants.{Run, RunOn, Format, Show, Serve, Connect, Conf, Load}, TheConstants.{MEMORY_SIZE, HISTORY_LIMIT, MOST_HISTORY, MOST_RENEWAL, RENEWAL, RENEWAL_BYTES, WORKERS, MOST_WORKERS, OWNER_MODE, MOST_MODE}}
+use Rattle.pfd_words.specs.{Options.{text_in, SaysText, MaySayText, SaysTexts, SaysFlag}, Conf.{IsWord, AsksConf, AsksServer, flag_rule, text_rule, conf_words, check_words, test_words, cover_words, explain_words}}
+use Rattle.pfd_words.specs.declared.words.{Limits.Limits, Service.Service, Task.Task, LoadTask.LoadTask, Task.TheVariants.{Run, RunOn, Format, Show, Serve, Connect, Conf, Explain, Load, Status}, TheConstants.{MEMORY_SIZE, HISTORY_LIMIT, MOST_HISTORY, MOST_RENEWAL, RENEWAL, RENEWAL_BYTES, WORKERS, MOST_WORKERS, OWNER_MODE, MOST_MODE}}
 
 -- ---- the subcommands and their options
 
@@ -81,8 +81,11 @@ limited_words = with_rule (with_rule renewed_words idle_rule) (mode_rule (codes 
 abbrev pub asking_words : App
 asking_words = with_rule (with_rule limited_words ask_rule) (mode_rule (codes "ask-mode"))
 
+abbrev pub peer_words : App
+peer_words = with_rule (with_rule asking_words peers_rule) (mode_rule (codes "peers-mode"))
+
 abbrev pub serve_words : App
-serve_words = with_rule (with_rule asking_words peers_rule) (mode_rule (codes "peers-mode"))
+serve_words = with_rule peer_words (flag_rule (codes "log"))
 
 abbrev pub connect_words : App
 connect_words = with_rule (new_app (codes "connect")) (record (new_rule (codes "address")) { value_names = 1; required = true })
@@ -111,9 +114,12 @@ abbrev pub reading_words : App
 reading_words =
     with_subcommand (with_subcommand (with_subcommand (with_subcommand engine_words check_words.top) test_words.top) cover_words.top) explain_words.top
 
+abbrev pub status_words : App
+status_words = with_rule (new_app (codes "status")) (record (new_rule (codes "address")) { value_names = 1 })
+
 -- One of these must be there. Help and the version may be asked for.
 abbrev pub program_words : App
-program_words = with_subcommand reading_words load_words.top
+program_words = with_subcommand (with_subcommand reading_words load_words.top) status_words.top
 
 -- ---- what a command line asks for. `met` is the subcommand that clap found, with its options
 
@@ -206,21 +212,23 @@ pub record AsksService (met : Option (Text × List Row)) (service : Service) : T
   pub limits : SaysLimits met service.history service.renewal
   pub sessions : SaysSessions met service.sessions
   pub idle : SaysIdle met service.idle
+  pub log : SaysFlag (codes "log") met service.is_logged
 
 abbrev pub SaysRetries : Option (Text × List Row) → ℕ → Type 0
 SaysRetries met n = SaysNumber 0 4294967295 0 (digits_in (codes "retry") met) n
 
--- the address of the server that a file is loaded into: where the unit and the script for rc(8) have it, if nothing else is said
-abbrev pub SaysServer : Option (Text × List Row) → Text → Type 0
-SaysServer met to = to ≡ unwrap_or (text_in (codes "to") met) (codes "/var/run/pfd/pfd.sock")
+-- the address of a server by this word: where the unit and the script for rc(8) have one, if nothing else is said
+abbrev pub SaysServer : Text → Option (Text × List Row) → Text → Type 0
+SaysServer id met address = address ≡ unwrap_or (text_in id met) (codes "/var/run/pfd/pfd.sock")
 
 -- what `load` asks for
 pub record AsksLoad (met : Option (Text × List Row)) (task : LoadTask) : Type 0 where
   pub word : IsWord (codes "load") met
   pub path : SaysText (codes "file") met task.path.now
   pub lenient : SaysFlag (codes "lenient") met task.is_lenient
+  pub interfaces : SaysTexts (codes "interface") met (map (λ s. s.now) task.interfaces.items)
   pub anchor : MaySayText (codes "anchor") met task.anchor
-  pub to : SaysServer met task.to.now
+  pub to : SaysServer (codes "to") met task.to.now
   pub retries : SaysRetries met task.retries
   pub dry : SaysFlag (codes "dry-run") met task.is_dry
 
@@ -233,7 +241,9 @@ IsAsked met (Show path) = (option_map (λ m. m.0) met ≡ Some (codes "show")) �
 IsAsked met (Serve service) = (option_map (λ m. m.0) met ≡ Some (codes "serve")) × AsksService met service
 IsAsked met (Connect address) = (option_map (λ m. m.0) met ≡ Some (codes "connect")) × SaysText (codes "address") met address.now
 IsAsked met (Conf task) = AsksConf met task
+IsAsked met (Explain task) = AsksServer met task
 IsAsked met (Load task) = AsksLoad met task
+IsAsked met (Status address) = (option_map (λ m. m.0) met ≡ Some (codes "status")) × SaysServer (codes "address") met address.now
 
 -- the words are the program's name, whatever it is, and `run`
 abbrev pub IsPlainRun : List Text → Type 0
@@ -267,4 +277,6 @@ HasHistory (Show path) = Unit {0}
 HasHistory (Serve service) = CanServe service
 HasHistory (Connect address) = Unit {0}
 HasHistory (Conf task) = Unit {0}
+HasHistory (Explain task) = Unit {0}
 HasHistory (Load task) = Unit {0}
+HasHistory (Status address) = Unit {0}

@@ -1,8 +1,8 @@
 //! The subcommands that ask something of a pf.conf, as clap's commands, and what they ask.
-ghost use Rattle.std.specs.Prelude.{◌≡◌, ℕ, IfOk, List, Some, codes, false};
-ghost use Rattle.clap.specs.Words.{app_of, found_of, rows_of, rule_of};
+ghost use Rattle.std.specs.Prelude.{◌≡◌, ℕ, IfOk, List, Some, None, codes, map, false};
+ghost use Rattle.clap.specs.Words.{app_of, first_of, found_of, rows_of, rule_of};
 ghost use Rattle.clap.specs.declared.builder.command.Command.TheViews.{out-Command};
-ghost use Rattle.pfd_words.specs.{Conf.{file_rule, lenient_rule, cases_rule, flag_rule, text_rule, conf_words, case_words, check_words, test_words, cover_words, explain_words, AsksConf}, Options.{SaysText, SaysFlag}};
+ghost use Rattle.pfd_words.specs.{Conf.{file_rule, lenient_rule, interface_rule, cases_rule, flag_rule, text_rule, file_words, conf_words, case_words, check_words, test_words, cover_words, explain_words, AsksConf, AsksServer}, Options.{SaysText, SaysTexts, SaysFlag}};
 
 use crate::options::{is_said, text_if_any, text_in, texts_in};
 use clap::{Arg, ArgAction, ArgMatches, Command};
@@ -38,7 +38,17 @@ pub struct ConfTask<'a> {
     pub path: &'a str,
     /// Whether what isn't there is left out of it with a note.
     pub is_lenient: bool,
+    /// Interfaces with their addresses, as they were typed: a text may give none.
+    pub interfaces: Vec<&'a str>,
     pub question: Question<'a>,
+}
+
+/// What is asked of the rules and tables that a server has: which rules match the packet with these words.
+#[derive(Debug, PartialEq, Eq, Drop)]
+pub struct ServerTask<'a> {
+    /// The server's address, as it was typed.
+    pub from: &'a str,
+    pub packet: Vec<&'a str>,
 }
 
 fn file<'a>(alloc: Global) -> Arg<'a>
@@ -59,6 +69,17 @@ fn lenient<'a>(alloc: Global) -> Arg<'a>
         .long("lenient")
         .action(ArgAction::SetTrue)
         .help("Leaves out what isn't there and changes no verdict, with a note")
+}
+
+fn interface<'a>(alloc: Global) -> Arg<'a>
+    ensures rule { rule_of result ≡ interface_rule }
+    ensures local { result.global ≡ false }
+{
+    Arg::new(alloc, "interface")
+        .long("interface")
+        .value_name("NAME=ADDRESS/LENGTH,..")
+        .action(ArgAction::Append)
+        .help("An interface's addresses, where the file names it as a host; may be said again")
 }
 
 fn cases<'a>(alloc: Global) -> Arg<'a>
@@ -82,6 +103,15 @@ fn tap<'a>(alloc: Global) -> Arg<'a>
         .help("Writes the outcomes in TAP")
 }
 
+fn from<'a>(alloc: Global) -> Arg<'a>
+    ensures rule { rule_of result ≡ text_rule (codes "from") }
+    ensures local { result.global ≡ false }
+{
+    Arg::new(alloc, "from").long("from").value_name("ADDR").help(
+        "Explains by what the server at this address has, without FILE",
+    )
+}
+
 fn junit<'a>(alloc: Global) -> Arg<'a>
     ensures rule { rule_of result ≡ text_rule (codes "junit") }
     ensures local { result.global ≡ false }
@@ -94,14 +124,22 @@ fn junit<'a>(alloc: Global) -> Arg<'a>
 
 // The options of a subcommand, added two at a time.
 
-/// A subcommand of this name that asks something of a pf.conf.
-pub(crate) fn conf_words<'a>(alloc: Global, name: &'a str) -> Result<Command<'a>, AllocError>
-    ensures app { IfOk result (λ c. app_of c ≡ conf_words name.now) }
+/// A subcommand of this name for a pf.conf.
+fn file_words<'a>(alloc: Global, name: &'a str) -> Result<Command<'a>, AllocError>
+    ensures app { IfOk result (λ c. app_of c ≡ file_words name.now) }
     ensures local { IfOk result (λ c. (out-Command c).has_globals ≡ false) }
 {
     Command::new(alloc, name)
         .arg(file(alloc))?
         .arg(lenient(alloc))
+}
+
+/// The same, where interfaces may have addresses.
+pub(crate) fn conf_words<'a>(alloc: Global, name: &'a str) -> Result<Command<'a>, AllocError>
+    ensures app { IfOk result (λ c. app_of c ≡ conf_words name.now) }
+    ensures local { IfOk result (λ c. (out-Command c).has_globals ≡ false) }
+{
+    file_words(alloc, name)?.arg(interface(alloc))
 }
 
 /// The same of what its cases come to.
@@ -157,28 +195,40 @@ pub(crate) fn explain_words<'a>(alloc: Global) -> Result<Command<'a>, AllocError
     let words = conf_words(alloc, "explain")?;
     words
         .about("Shows the rules of a pf.conf that match a packet, and the verdict")
-        .arg(packet)
+        .arg(packet)?
+        .arg(from(alloc))
 }
 
 /// The pf.conf that a subcommand names, and this question of it.
-fn asked<'a>(found: &ArgMatches<'a>, question: Question<'a>) -> ConfTask<'a>
-    ensures path { (name : List ℕ) → SaysText (codes "file") (Some (name, rows_of (found_of found.now))) result.path.now }
-    ensures lenient { (name : List ℕ) → SaysFlag (codes "lenient") (Some (name, rows_of (found_of found.now))) result.is_lenient }
-    ensures question { result.question ≡ question.entry }
+fn asked<'a>(
+    alloc: Global,
+    found: &ArgMatches<'a>,
+    question: Question<'a>,
+) -> Result<ConfTask<'a>, AllocError>
+    ensures path { (name : List ℕ) → IfOk result (λ task. SaysText (codes "file") (Some (name, rows_of (found_of found.now))) task.path.now) }
+    ensures lenient { (name : List ℕ) → IfOk result (λ task. SaysFlag (codes "lenient") (Some (name, rows_of (found_of found.now))) task.is_lenient) }
+    ensures interfaces { (name : List ℕ) → IfOk result (λ task.
+        SaysTexts (codes "interface") (Some (name, rows_of (found_of found.now))) (map (λ s. s.now) task.interfaces.items)) }
+    ensures question { IfOk result (λ task. task.question ≡ question.entry) }
 {
-    ConfTask {
+    let interfaces = texts_in(alloc, found, "interface")?;
+    Ok(ConfTask {
         path: text_in(found, "file"),
         is_lenient: is_said(found, "lenient"),
+        interfaces,
         question,
-    }
+    })
 }
 
 /// The task of `check`.
-pub(crate) fn meaning_in<'a>(found: &ArgMatches<'a>) -> ConfTask<'a>
-    ensures { AsksConf (Some (codes "check", rows_of (found_of found.now))) result }
+pub(crate) fn meaning_in<'a>(
+    alloc: Global,
+    found: &ArgMatches<'a>,
+) -> Result<ConfTask<'a>, AllocError>
+    ensures { IfOk result (AsksConf (Some (codes "check", rows_of (found_of found.now)))) }
 {
     let anchor = text_if_any(found, "anchor");
-    asked(found, Question::Meaning { anchor })
+    asked(alloc, found, Question::Meaning { anchor })
 }
 
 /// The task of `test`.
@@ -191,7 +241,7 @@ pub(crate) fn outcomes_in<'a>(
     let cases = texts_in(alloc, found, "cases")?;
     let tap = is_said(found, "tap");
     let junit = text_if_any(found, "junit");
-    Ok(asked(found, Question::Outcomes { cases, tap, junit }))
+    asked(alloc, found, Question::Outcomes { cases, tap, junit })
 }
 
 /// The task of `cover`.
@@ -202,16 +252,31 @@ pub(crate) fn coverage_in<'a>(
     ensures { IfOk result (AsksConf (Some (codes "cover", rows_of (found_of found.now)))) }
 {
     let cases = texts_in(alloc, found, "cases")?;
-    Ok(asked(found, Question::Coverage { cases }))
+    asked(alloc, found, Question::Coverage { cases })
 }
 
-/// The task of `explain`.
+/// The task of `explain` without `--from`.
 pub(crate) fn matches_in<'a>(
     alloc: Global,
     found: &ArgMatches<'a>,
 ) -> Result<ConfTask<'a>, AllocError>
+    requires { first_of (codes "from") (rows_of (found_of found.now)) ≡ None }
     ensures { IfOk result (AsksConf (Some (codes "explain", rows_of (found_of found.now)))) }
 {
     let packet = texts_in(alloc, found, "packet")?;
-    Ok(asked(found, Question::Matches { packet }))
+    asked(alloc, found, Question::Matches { packet })
+}
+
+/// The task of `explain` with `--from` and this address. There is no file, so the first word is the packet's.
+pub(crate) fn server_matches_in<'a>(
+    alloc: Global,
+    found: &ArgMatches<'a>,
+    from: &'a str,
+) -> Result<ServerTask<'a>, AllocError>
+    requires { first_of (codes "from") (rows_of (found_of found.now)) ≡ Some from.now }
+    ensures { IfOk result (AsksServer (Some (codes "explain", rows_of (found_of found.now)))) }
+{
+    let mut packet = texts_in(alloc, found, "packet")?;
+    packet.insert(0, text_in(found, "file"))?;
+    Ok(ServerTask { from, packet })
 }

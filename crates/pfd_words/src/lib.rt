@@ -4,8 +4,8 @@
 //! `pfd` uses it. The modules:
 //!
 //! - `options`: what the options of a subcommand say.
-//! - `conf`: the subcommands `check`, `test`, `cover` and `explain`, which ask something of a pf.conf, and what they ask.
-//! - `words`: the subcommands `run`, `format`, `show`, `serve`, `connect` and `load`, and [`read_words`], which reads a command line into a
+//! - `conf`: the subcommands `check`, `test`, `cover` and `explain`, which ask something of a pf.conf or of a server, and what they ask.
+//! - `words`: the subcommands `run`, `format`, `show`, `serve`, `connect`, `load` and `status`, and [`read_words`], which reads a command line into a
 //!   [`Task`].
 //!
 //! Read `specs/Words.antt` first: it has the subcommands with their options, and `IsAsked`, what a command line asks for by clap's own
@@ -20,7 +20,7 @@ mod conf;
 mod options;
 mod words;
 
-pub use conf::{ConfTask, Question};
+pub use conf::{ConfTask, Question, ServerTask};
 pub use words::{
     HISTORY_LIMIT, Limits, LoadTask, MEMORY_SIZE, MOST_HISTORY, MOST_RENEWAL, MOST_WORKERS,
     RENEWAL, Service, Task, WORKERS, read_words,

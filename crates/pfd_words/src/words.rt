@@ -2,11 +2,11 @@
 ghost use Rattle.std.specs.Prelude.{◌≡◌, ◌≤◌, IfErr, IfOk, List, MatchOption, ℕ, Some, [], codes, false, map, option_map, string_bytes, true, unwrap_or};
 ghost use Rattle.clap.specs.Words.{app_of, found_of, kind_of, one_of, first_of, rows_of, rule_of, subcommand_of, subcommand_rows_of, takes};
 ghost use Rattle.clap.specs.declared.builder.command.Command.TheViews.{out-Command};
-ghost use Rattle.pfd_words.specs.Words.{IsPlainRun, plain_run, HasHistory, IsAsked, IsHistory, IsMode, IsNoMode, IsRefused, IsRefusedMode, MaySayNumber, SaysLimits, SaysMode, SaysNumber, disk_rule, history_rule, size_rule, listen_rule, workers_rule, sessions_rule, idle_rule, mode_rule, peers_rule, ask_rule, renew_rule, renew_bytes_rule, run_words, format_words, show_words, place_words, server_words, bounded_words, renewed_words, limited_words, asking_words, serve_words, connect_words, engine_words, to_rule, retry_rule, placed_words, load_words, AsksLoad, reading_words, program_words};
+ghost use Rattle.pfd_words.specs.Words.{IsPlainRun, plain_run, HasHistory, IsAsked, IsHistory, IsMode, IsNoMode, IsRefused, IsRefusedMode, MaySayNumber, SaysLimits, SaysMode, SaysNumber, disk_rule, history_rule, size_rule, listen_rule, workers_rule, sessions_rule, idle_rule, mode_rule, peers_rule, ask_rule, renew_rule, renew_bytes_rule, run_words, format_words, show_words, place_words, server_words, bounded_words, renewed_words, limited_words, asking_words, peer_words, serve_words, connect_words, engine_words, to_rule, retry_rule, placed_words, load_words, status_words, AsksLoad, reading_words, program_words};
 
 use crate::conf::{
-    ConfTask, check_words, conf_words, cover_words, coverage_in, explain_words, matches_in,
-    meaning_in, outcomes_in, test_words,
+    ConfTask, ServerTask, check_words, conf_words, cover_words, coverage_in, explain_words,
+    matches_in, meaning_in, outcomes_in, server_matches_in, test_words,
 };
 use crate::options::{is_said, text_if_any, text_in, texts_in};
 use clap::error::ErrorKind;
@@ -95,6 +95,8 @@ pub struct Service<'a> {
     pub sessions: u32,
     /// After how many seconds in which nothing came a connection is closed; 0 means never.
     pub idle: u32,
+    /// Whether a line is written for each change.
+    pub is_logged: bool,
 }
 
 /// What `load` asks for: a pf.conf, and a server that it is loaded into.
@@ -104,6 +106,8 @@ pub struct LoadTask<'a> {
     pub path: &'a str,
     /// Whether what isn't there is left out of it with a note.
     pub is_lenient: bool,
+    /// Interfaces with their addresses, as they were typed: a text may give none.
+    pub interfaces: Vec<&'a str>,
     /// The path from which on its rulesets are, if one is named. It is as it was typed: it may not be one.
     pub anchor: Option<&'a str>,
     /// The server's address, as it was typed.
@@ -145,8 +149,14 @@ pub enum Task<'a> {
     },
     /// Answers something of a pf.conf.
     Conf(ConfTask<'a>),
+    /// Which rules of a server match a packet.
+    Explain(ServerTask<'a>),
     /// Loads a pf.conf into a server, in one commit.
     Load(LoadTask<'a>),
+    /// Writes the status of the server at the address.
+    Status {
+        address: &'a str,
+    },
 }
 
 fn disk<'a>(alloc: Global) -> Arg<'a>
@@ -315,7 +325,7 @@ fn show_words<'a>(alloc: Global) -> Result<Command<'a>, AllocError>
         .arg(disk(alloc).required(true))
 }
 
-// The options of `serve`, added two at a time by the next six functions.
+// The options of `serve`, added two at a time.
 
 fn place_words<'a>(alloc: Global) -> Result<Command<'a>, AllocError>
     ensures app { IfOk result (λ c. app_of c ≡ place_words) }
@@ -374,12 +384,23 @@ fn asking_words<'a>(alloc: Global) -> Result<Command<'a>, AllocError>
     limited_words(alloc)?.arg(ask(alloc))?.arg(mode)
 }
 
-fn serve_words<'a>(alloc: Global) -> Result<Command<'a>, AllocError>
-    ensures app { IfOk result (λ c. app_of c ≡ serve_words) }
+fn peer_words<'a>(alloc: Global) -> Result<Command<'a>, AllocError>
+    ensures app { IfOk result (λ c. app_of c ≡ peer_words) }
     ensures local { IfOk result (λ c. (out-Command c).has_globals ≡ false) }
 {
     let mode = mode(alloc, "peers-mode").help("The same of --peers'");
     asking_words(alloc)?.arg(peers(alloc))?.arg(mode)
+}
+
+fn serve_words<'a>(alloc: Global) -> Result<Command<'a>, AllocError>
+    ensures app { IfOk result (λ c. app_of c ≡ serve_words) }
+    ensures local { IfOk result (λ c. (out-Command c).has_globals ≡ false) }
+{
+    let log = Arg::new(alloc, "log")
+        .long("log")
+        .action(ArgAction::SetTrue)
+        .help("Writes a line on standard error for each change, and for each opening");
+    peer_words(alloc)?.arg(log)
 }
 
 fn connect_words<'a>(alloc: Global) -> Result<Command<'a>, AllocError>
@@ -443,6 +464,18 @@ fn load_words<'a>(alloc: Global) -> Result<Command<'a>, AllocError>
         .arg(retry(alloc))
 }
 
+fn status_words<'a>(alloc: Global) -> Result<Command<'a>, AllocError>
+    ensures app { IfOk result (λ c. app_of c ≡ status_words) }
+    ensures local { IfOk result (λ c. (out-Command c).has_globals ≡ false) }
+{
+    let address = Arg::new(alloc, "address").value_name("ADDR").help(
+        "The server's address and port, or the path of its socket [default: /var/run/pfd/pfd.sock]",
+    );
+    Command::new(alloc, "status")
+        .about("Shows how far a server is, and how much it keeps")
+        .arg(address)
+}
+
 fn engine_words<'a>(alloc: Global) -> Result<Command<'a>, AllocError>
     ensures { IfOk result (λ c. app_of c ≡ engine_words) }
 {
@@ -470,7 +503,9 @@ fn reading_words<'a>(alloc: Global) -> Result<Command<'a>, AllocError>
 fn program_words<'a>(alloc: Global) -> Result<Command<'a>, AllocError>
     ensures { IfOk result (λ c. app_of c ≡ program_words) }
 {
-    reading_words(alloc)?.subcommand(load_words(alloc)?)
+    reading_words(alloc)?
+        .subcommand(load_words(alloc)?)?
+        .subcommand(status_words(alloc)?)
 }
 
 /// Reads a command line, which begins with the program's own name. The error has the text for the user: help, the version, what is wrong
@@ -508,11 +543,14 @@ fn task_of<'a>(alloc: Global, matches: &ArgMatches<'a>) -> Result<Task<'a>, Erro
         Some(("connect", found)) => Ok(Task::Connect {
             address: text_in(found, "address"),
         }),
-        Some(("check", found)) => Ok(Task::Conf(meaning_in(found))),
+        Some(("check", found)) => Ok(Task::Conf(meaning_in(alloc, found)?)),
         Some(("test", found)) => Ok(Task::Conf(outcomes_in(alloc, found)?)),
         Some(("cover", found)) => Ok(Task::Conf(coverage_in(alloc, found)?)),
-        Some(("explain", found)) => Ok(Task::Conf(matches_in(alloc, found)?)),
-        Some(("load", found)) => Ok(Task::Load(load_in(found))),
+        Some(("explain", found)) => Ok(explained_in(alloc, found)?),
+        Some(("load", found)) => Ok(Task::Load(load_in(alloc, found)?)),
+        Some(("status", found)) => Ok(Task::Status {
+            address: address_in(found, "address"),
+        }),
         Some((_, found)) => Ok(session_in(found)),
         None => Ok(Task::Run {
             size: MEMORY_SIZE,
@@ -569,6 +607,7 @@ fn server_in<'a>(alloc: Global, found: &ArgMatches<'a>) -> Result<Task<'a>, Erro
         renewal,
         sessions: sessions as u32,
         idle: idle as u32,
+        is_logged: is_said(found, "log"),
     }))
 }
 
@@ -589,26 +628,39 @@ fn limits_in(found: &ArgMatches<'_>) -> (usize, Option<Limits>)
     (MOST_HISTORY, Some(limits))
 }
 
-// The task of `load`.
-fn load_in<'a>(found: &ArgMatches<'a>) -> LoadTask<'a>
-    ensures { AsksLoad (Some (codes "load", rows_of (found_of found.now))) result }
+// The task of `explain`: of a server if one is named, else of a file.
+fn explained_in<'a>(alloc: Global, found: &ArgMatches<'a>) -> Result<Task<'a>, AllocError>
+    ensures asked { IfOk result (λ task. IsAsked (Some (codes "explain", rows_of (found_of found.now))) task) }
+    ensures history { IfOk result HasHistory }
 {
-    let retries = number_in(found, "retry", 0).min(MOST_RETRIES);
-    LoadTask {
-        path: text_in(found, "file"),
-        is_lenient: is_said(found, "lenient"),
-        anchor: text_if_any(found, "anchor"),
-        to: to_in(found),
-        retries: retries as u32,
-        is_dry: is_said(found, "dry-run"),
+    match text_if_any(found, "from") {
+        Some(from) => Ok(Task::Explain(server_matches_in(alloc, found, from)?)),
+        None => Ok(Task::Conf(matches_in(alloc, found)?)),
     }
 }
 
-// The address that is said, or the one at which the unit and the script for rc(8) have a server.
-fn to_in<'a>(found: &ArgMatches<'a>) -> &'a str
-    ensures { result.now ≡ unwrap_or (first_of (codes "to") (rows_of (found_of found.now))) (codes "/var/run/pfd/pfd.sock") }
+// The task of `load`.
+fn load_in<'a>(alloc: Global, found: &ArgMatches<'a>) -> Result<LoadTask<'a>, AllocError>
+    ensures { IfOk result (AsksLoad (Some (codes "load", rows_of (found_of found.now)))) }
 {
-    found.get_str("to").unwrap_or("/var/run/pfd/pfd.sock")
+    let retries = number_in(found, "retry", 0).min(MOST_RETRIES);
+    let interfaces = texts_in(alloc, found, "interface")?;
+    Ok(LoadTask {
+        path: text_in(found, "file"),
+        is_lenient: is_said(found, "lenient"),
+        interfaces,
+        anchor: text_if_any(found, "anchor"),
+        to: address_in(found, "to"),
+        retries: retries as u32,
+        is_dry: is_said(found, "dry-run"),
+    })
+}
+
+// The address that a word says, or the one at which the unit and the script for rc(8) have a server.
+fn address_in<'a>(found: &ArgMatches<'a>, word: &str) -> &'a str
+    ensures { result.now ≡ unwrap_or (first_of word.now (rows_of (found_of found.now))) (codes "/var/run/pfd/pfd.sock") }
+{
+    found.get_str(word).unwrap_or("/var/run/pfd/pfd.sock")
 }
 
 // The mode that an option of `serve` says, or without it the one by which only the owner may connect.

@@ -4,7 +4,7 @@ ghost use Rattle.pfd_words.specs.declared.words.TheConstants.{HISTORY_LIMIT};
 ghost use Rattle.pf_book.specs.Books.{IsNamed};
 
 use pf_core::Command;
-use pf_line::{parse_line, write_judged};
+use pf_line::{Request, parse_line, write_judged};
 use pf_rule::Packet;
 use pfd::{
     Accept, Arrival, Book, Chapter, EngineFault, HISTORY_LIMIT, MEMORY_SIZE, MemDisk, NewCalls,
@@ -29,7 +29,7 @@ const ALL: usize = 2 * CHANGES + 1;
 /// The command that a line spells.
 fn command(alloc: Global, line: &str) -> io::Result<Command> {
     match parse_line(alloc, line.as_bytes()) {
-        Ok(Some(command)) => Ok(command),
+        Ok(Some(Request::Run(command))) => Ok(command),
         _ => Err(io::Error::from(ErrorKind::InvalidInput)),
     }
 }

@@ -3,7 +3,7 @@ use Rattle.std.specs.{Prelude.{◌≡◌, ◌≢◌, ◌⊎◌, ℕ, ◌+◌, �
 use Rattle.pf_ticket.specs.{Mentions.{after, switches}, Tickets.fresh}
 use Rattle.pf_core.specs.{Commands.step_by, Cores.{PlainCore, core_with, stepped}, Durable.Changes.{PlainDurable, applied, kept_nothing, voided_by}}
 use Rattle.pf_core.specs.declared.{command.Command.{Command, TheVariants.{Transact, Edit}}, command.Transaction.TheVariants.Rollback, command.TableEdit.TheVariants.Set, reply.Refusal.Refusal, step.Step.{Step, TheVariants.Wants}}
-use Rattle.pf_line.specs.{Lines.{Means, line_at}, Reply.Replies.refusal_text}
+use Rattle.pf_line.specs.{declared.{request.Request.Request, request.Request.TheVariants.{Run, ShowStatus}}, Lines.{Means, line_at}, Reply.Replies.refusal_text}
 use Rattle.wirdalf_c.specs.declared.lines.{LineRefusal.LineRefusal, LineRefusal.TheVariants.{Refused, Unfit, Memory}, LineFault.LineFault}
 
 -- the lines of a text: what is before, between and after its newlines (10)
@@ -30,15 +30,16 @@ abbrev pub stepped_by : PlainCore → Command → Result Step Refusal → Result
 stepped_by w c (Ok step) = Ok (left_by w c step)
 stepped_by w c (Err e) = Err (Refused e)
 
--- what becomes of a core by what a line says: nothing, a command, or what refuses it
-abbrev pub done_by : PlainCore → Result (Option Command) Refusal → Result PlainCore LineRefusal
+-- what becomes of a core by what a line says: nothing, a request, or what refuses it
+abbrev pub done_by : PlainCore → Result (Option Request) Refusal → Result PlainCore LineRefusal
 done_by w (Ok None) = Ok w
-done_by w (Ok (Some c)) = if makes c then stepped_by w c (step_by w.tickets w.durable c) else Err Unfit
+done_by w (Ok (Some (Run c))) = if makes c then stepped_by w c (step_by w.tickets w.durable c) else Err Unfit
+done_by w (Ok (Some ShowStatus)) = Err Unfit
 done_by w (Err e) = Err (Refused e)
 
 -- A line comes to this.
 abbrev pub Comes : PlainCore → List ℕ → Result PlainCore LineRefusal → Type 0
-Comes w line r = (said : Result (Option Command) Refusal) × Means (line_at line) said × (done_by w said ≡ r)
+Comes w line r = (said : Result (Option Request) Refusal) × Means (line_at line) said × (done_by w said ≡ r)
 
 abbrev pub fault_at : ℕ → LineRefusal → LineFault
 fault_at number why = record { line = number; why = why }

@@ -1,12 +1,13 @@
 //! A configuration of lines.
 ghost use Rattle.std.specs.Prelude.{◌≡◌, ◌≢◌, Some, Ok, Err, IfOk, IfErr, OnOk};
 ghost use Rattle.pf_core.specs.declared.reply.Refusal.TheVariants as refusals;
+ghost use Rattle.pf_line.specs.declared.request.Request.TheVariants.{Run};
 ghost use Rattle.wirdalf_c.specs.declared.lines.LineRefusal.TheVariants.{Refused, Memory};
 ghost use Rattle.wirdalf_c.specs.Lines.{AreMade, Comes, Runs, done_by, first, lines_of, makes};
 
 use crate::holding::Holding;
 use pf_core::{Command, Core, Durable, ReadyStep, Refusal, TableEdit, Transaction};
-use pf_line::parse_line;
+use pf_line::{Request, parse_line};
 use std::alloc::{AllocError, Global};
 use std::sync::Arc;
 
@@ -15,7 +16,7 @@ use std::sync::Arc;
 pub enum LineRefusal {
     /// `pfd` refuses it like this.
     Refused(Refusal),
-    /// It is a command, but none of which configurations are made.
+    /// It asks something, but nothing of which configurations are made.
     Unfit,
     /// Out of memory.
     Memory,
@@ -100,8 +101,19 @@ fn do_line(alloc: Global, core: &mut Core, line: &[u8]) -> Result<(), LineRefusa
 {
     match parse_line(alloc, line) {
         Ok(None) => Ok(()),
-        Ok(Some(command)) => do_command(core, &command),
+        Ok(Some(request)) => do_request(core, &request),
         Err(refusal) => Err(told(refusal)),
+    }
+}
+
+// Does what a line asks, if configurations are made of such. If it isn't done, the core is as before.
+fn do_request(core: &mut Core, request: &Request) -> Result<(), LineRefusal>
+    ensures done { OnOk result (done_by core.old (Ok (Some request.now)) ≡ Ok core.new) }
+    ensures refused { IfErr result (λ why. why ≢ Memory → done_by core.old (Ok (Some request.now)) ≡ Err why) }
+{
+    match request {
+        Request::Run(command) => do_command(core, command),
+        Request::ShowStatus => Err(LineRefusal::Unfit),
     }
 }
 
@@ -118,8 +130,8 @@ fn makes(command: &Command) -> bool
 
 // Does a command, if configurations are made of such. If it isn't done, the core is as before.
 fn do_command(core: &mut Core, command: &Command) -> Result<(), LineRefusal>
-    ensures done { OnOk result (done_by core.old (Ok (Some command.now)) ≡ Ok core.new) }
-    ensures refused { IfErr result (λ why. why ≢ Memory → done_by core.old (Ok (Some command.now)) ≡ Err why) }
+    ensures done { OnOk result (done_by core.old (Ok (Some (Run command.now))) ≡ Ok core.new) }
+    ensures refused { IfErr result (λ why. why ≢ Memory → done_by core.old (Ok (Some (Run command.now))) ≡ Err why) }
 {
     if !makes(command) {
         return Err(LineRefusal::Unfit);

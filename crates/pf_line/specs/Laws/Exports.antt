@@ -7,7 +7,7 @@ use Rattle.pf_state.specs.{Peer.Written.{Each, message_bytes}, States.{PlainStat
 use Rattle.pf_anchor.specs.Rulesets.{rules_at}
 use Rattle.pf_core.specs.Durable.Changes.{PlainDurable, main_sum}
 use Rattle.pf_core.specs.declared.{command.Command.TheVariants.States, command.StateCommand.TheVariants.Peer}
-use Rattle.pf_line.specs.declared.line.TheConstants.{LINE_LIMIT}
+use Rattle.pf_line.specs.declared.{line.TheConstants.LINE_LIMIT, request.Request.TheVariants.Run}
 use Rattle.pf_line.specs.{Lines.{line_at, Means}, Reply.StateTexts.message_line}
 
 -- the line that a peer is sent for a message
@@ -21,7 +21,7 @@ exported_lines current es = map message_text (exported_messages current es)
 -- a line within the limit, which means to act on this message
 pub record TellsOf (m : Message) (line : List ℕ) : Type 0 where
   pub short : length line ≤ LINE_LIMIT
-  pub means : Means (line_at line) (Ok (Some (States (Peer m))))
+  pub means : Means (line_at line) (Ok (Some (Run (States (Peer m)))))
 
 -- what can be exported: a checksum, and a table's states, each number of which is within its width
 pub record CanBeExported (current : List ℕ) (es : List PlainState) : Type 0 where

@@ -6,10 +6,10 @@ use Rattle.pf_rule.specs.Packets.{PlainPacket}
 use Rattle.pf_core.specs.declared.{command.Command.Command, reply.Reply.Reply}
 use Rattle.pf_core.specs.{Calls.call, Durable.Changes.PlainDurable, Worlds.{Setting, heard}}
 use Rattle.pf_view.specs.Seers.{PlainSeer}
-use Rattle.pf_line.specs.Reply.Replies.{reply_text}
+use Rattle.pf_line.specs.{declared.{request.Request.Request, request.Request.TheVariants.{Run, ShowStatus}}, Reply.Replies.reply_text}
 use Rattle.pf_book.specs.Receipts.{PlainReceipt, IsAnswered}
 use Rattle.pf_session.specs.declared.line_engine.fault.EngineFault.{EngineFault}
-use Rattle.pf_session.specs.{LineEngine.Chains.Chain, LineEngine.Lines.seen, LineEngine.Sessions.IsSession, Server.Inquiries.is_inquiry, Server.Sittings.{IsJudged, Sitting, at_next_line, at_start, next_line, packet_in}, Telling.IsToldBy}
+use Rattle.pf_session.specs.{LineEngine.Chains.Chain, LineEngine.Lines.seen, LineEngine.Sessions.IsSession, Server.Inquiries.is_inquiry, Server.Sittings.{IsJudged, IsStatusShown, Sitting, at_next_line, at_start, next_line, packet_in}, Telling.IsToldBy}
 
 -- ---- what is denied
 
@@ -79,12 +79,17 @@ AsksBy None false base setting c old new text = IsDenied old new text
 abbrev pub Asks : PlainDurable → Setting → Command → Sitting → Sitting → List ℕ → Type 0
 Asks base setting c old new text = AsksBy (packet_in c) (is_inquiry c) base setting c old new text
 
+-- The status is shown as in any session.
+abbrev pub AsksOrShows : PlainDurable → Setting → Request → Sitting → Sitting → List ℕ → Type 0
+AsksOrShows base setting (Run c) old new text = Asks base setting c old new text
+AsksOrShows base setting ShowStatus old new text = IsStatusShown base setting old new text
+
 -- ---- lines
 
 -- before anything else is said of a line, it is denied or not
 abbrev pub IsHeard : Bool → PlainDurable → Setting → List ℕ → Sitting → Sitting → List ℕ → Type 0
 IsHeard true base setting line old new text = IsDenied old new text
-IsHeard false base setting line old new text = IsToldBy (Asks base setting) line old new text
+IsHeard false base setting line old new text = IsToldBy (AsksOrShows base setting) line old new text
 
 -- A line passed the gate with its number, and this is its reply.
 pub record AsksLine (passed : ℕ → Type 0) (base : PlainDurable) (setting : Setting) (line : List ℕ) (old new : Sitting) (text : List ℕ) : Type 0 where

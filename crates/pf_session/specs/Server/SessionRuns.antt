@@ -3,8 +3,8 @@ use Rattle.std.specs.Prelude.{◌≡◌, ℕ, zero, suc, List, [], ◌∷◌, So
 use Rattle.pf_core.specs.declared.command.Command.{Command}
 use Rattle.pf_core.specs.{Durable.Changes.PlainDurable, Worlds.Setting}
 use Rattle.pf_session.specs.declared.server.session.Session.{Session}
-use Rattle.pf_line.specs.Lines.{line_at, Means}
-use Rattle.pf_session.specs.Server.Sittings.{Runs, TakesLine, Sitting, next_line, packet_in}
+use Rattle.pf_line.specs.{declared.{request.Request.Request, request.Request.TheVariants.Run}, Lines.{line_at, Means}}
+use Rattle.pf_session.specs.Server.Sittings.{RunsOrShows, TakesLine, Sitting, next_line, packet_in}
 
 abbrev pub sitting : {C J G : Type 0} → Session C J G → Sitting
 sitting s = record { line = s.line; last = s.last.now; seer = s.seer.now }
@@ -16,11 +16,11 @@ pub record IsSame {C J G : Type 0} (old new : Session C J G) : Type 0 where
   pub number : new.number ≡ old.number
   pub gate : new.gate ≡ old.gate
 
--- this command took it from the one to the other
-pub record RunsInSession {C J G : Type 0} (base : PlainDurable) (setting : Setting) (c : Command)
+-- this request took it from the one to the other
+pub record RunsInSession {C J G : Type 0} (base : PlainDurable) (setting : Setting) (q : Request)
     (old new : Session C J G) (text : List ℕ) : Type 0 where
   pub same : IsSame old new
-  pub runs : Runs base setting c (sitting old) (sitting new) text
+  pub runs : RunsOrShows base setting q (sitting old) (sitting new) text
 
 -- this line took it from the one to the other
 pub record TakesInSession {C J G : Type 0} (passed : G → ℕ → ℕ → Type 0) (base : PlainDurable) (setting : Setting) (line : List ℕ)
@@ -32,7 +32,7 @@ pub record TakesInSession {C J G : Type 0} (passed : G → ℕ → ℕ → Type 
 
 -- a line means a command for the Book
 pub record IsMeant (line : List ℕ) (c : Command) : Type 0 where
-  pub means : Means (line_at line) (Ok (Some c))
+  pub means : Means (line_at line) (Ok (Some (Run c)))
   pub unjudged : packet_in c ≡ None
 
 -- each of these lines means its command

@@ -6,10 +6,10 @@ use Rattle.pf_rule.specs.Packets.{PlainPacket}
 use Rattle.pf_core.specs.declared.{command.Command.Command, command.Command.TheVariants.Ask, command.Question.TheVariants.Judge, reply.Answer.TheVariants.Judged, reply.Refusal.TheVariants.Fault, reply.Reply.Reply, reply.Reply.TheVariants.{Answer, Refused}}
 use Rattle.pf_core.specs.{Durable.Changes.{PlainDurable, after, verdict}, Worlds.{Setting, CurrentOpening, amid, changes_due}}
 use Rattle.pf_view.specs.Seers.{PlainSeer}
-use Rattle.pf_line.specs.Reply.Replies.{reply_text}
-use Rattle.pf_book.specs.{Groups.{Answered as Receipted, IsGroupAnswered}, Receipts.{PlainReceipt, IsAnswered, learns_from}}
+use Rattle.pf_line.specs.{declared.{request.Request.Request, request.Request.TheVariants.{Run, ShowStatus}}, Reply.Replies.reply_text}
+use Rattle.pf_book.specs.{Groups.{Answered as Receipted, IsGroupAnswered}, Receipts.{PlainReceipt, IsAnswered, learns_from}, Statuses.SaysStatus, declared.status.BookStatus.BookStatus}
 use Rattle.pf_session.specs.declared.line_engine.fault.EngineFault.{EngineFault}
-use Rattle.pf_session.specs.{LineEngine.Chains.Chain, LineEngine.Sessions.IsSession, Server.Streams.last_receipt, Telling.IsToldBy}
+use Rattle.pf_session.specs.{LineEngine.Chains.Chain, LineEngine.Sessions.IsSession, Server.Streams.last_receipt, Statuses.shown_text, Telling.IsToldBy}
 
 -- Where a session has come to: the number of its last line, the receipt of its last call, and what its seer saw and learnt.
 pub record Sitting : Type 0 where
@@ -115,12 +115,25 @@ RunsBy None base setting c old new text = IsCommandRun base setting c old new te
 abbrev pub Runs : PlainDurable → Setting → Command → Sitting → Sitting → List ℕ → Type 0
 Runs base setting c old new text = RunsBy (packet_in c) base setting c old new text
 
+-- The Book said this of itself, with the receipt of the session's last call handed in. So many sessions are open, as the server counts them.
+-- Nothing is done.
+pub record IsStatusShown (base : PlainDurable) (setting : Setting) (old new : Sitting) (text : List ℕ) : Type 0 where
+  pub status : BookStatus
+  pub says : SaysStatus base setting status old.last
+  pub sessions : ℕ
+  pub told : text ≡ shown_text status sessions
+  pub same : new ≡ old
+
+abbrev pub RunsOrShows : PlainDurable → Setting → Request → Sitting → Sitting → List ℕ → Type 0
+RunsOrShows base setting (Run c) old new text = Runs base setting c old new text
+RunsOrShows base setting ShowStatus old new text = IsStatusShown base setting old new text
+
 -- ---- lines
 
 -- A line passed the gate with its number, and this is its reply.
 pub record TakesLine (passed : ℕ → Type 0) (base : PlainDurable) (setting : Setting) (line : List ℕ) (old new : Sitting) (text : List ℕ) : Type 0 where
   pub gate : passed (next_line old.line)
-  pub told : IsToldBy (Runs base setting) line (at_next_line old) new text
+  pub told : IsToldBy (RunsOrShows base setting) line (at_next_line old) new text
 
 -- These lines passed the gate one after the other, and this is the text of their replies.
 abbrev pub TakesLines : (ℕ → Type 0) → PlainDurable → Setting → Sitting → Sitting → List (List ℕ) → List ℕ → Type 0

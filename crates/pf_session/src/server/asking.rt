@@ -13,7 +13,7 @@ use crate::server::gate::Gate;
 use crate::server::inquiry::Inquiry;
 use crate::server::line_session::LineSession;
 use crate::server::session::{packet_in, write_verdict};
-use crate::telling::{RunCommands, answer, tell};
+use crate::telling::{RunCommands, answer, show, tell};
 use pf_book::shared::Shared;
 use pf_book::{Chapter, Disk, Numbering, Publisher, Receipt, Seer};
 use pf_core::{Command, Reply};
@@ -98,6 +98,11 @@ impl<'a, A: AskBook<J>, J: Chapter, G: Gate> RunCommands for Asker<'a, A, J, G> 
 
     fn judge_packet<O: Write>(&mut self, packet: &Packet, writer: &mut O) -> io::Result<()> {
         self.judge(packet, writer)
+    }
+
+    fn show_status<O: Write>(&mut self, writer: &mut O) -> io::Result<()> {
+        let status = self.book.status(self.last.as_ref());
+        show(writer, status, self.gate.sessions())
     }
 }
 
@@ -268,13 +273,13 @@ pub fn go_on_asking<
 {
     let mut last = None;
     let book = Caller::new(rt, shared);
-    ask_on_by(
+    go_on_asking_by(
         alloc, session, reader, writer, &book, seer, gate, pause, &mut last,
     )
 }
 
-// The same, by whatever is asked, with the receipt of an earlier call.
-fn ask_on_by<A: AskBook<J>, J: Chapter, G: Gate, P: Pause, R: Read, O: Write>(
+/// As [`go_on_asking`], with its faults, but by whatever is asked, and with receipts as in [`go_on_by`](crate::go_on_by).
+pub fn go_on_asking_by<A: AskBook<J>, J: Chapter, G: Gate, P: Pause, R: Read, O: Write>(
     alloc: Global,
     session: &mut LineSession,
     reader: &mut R,

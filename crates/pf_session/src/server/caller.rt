@@ -1,16 +1,16 @@
 //! What sessions and streams call: a Book that others use too.
 ghost use Rattle.std.specs.{Option.option_copied, Prelude.{◌≡◌, MatchOption, None, Ok, Err}};
-ghost use Rattle.pf_book.specs.{Groups.{IsGroupAnswered, told}, Receipts.IsAnswered, Together.IsAnsweredTogether};
+ghost use Rattle.pf_book.specs.{Groups.{IsGroupAnswered, told}, Receipts.IsAnswered, Statuses.SaysStatus, Together.IsAnsweredTogether};
 
 use crate::server::inquiry::Inquiry;
 use pf_book::shared::Shared;
-use pf_book::{Chapter, Disk, Numbering, Publisher, Receipt};
+use pf_book::{BookStatus, Chapter, Disk, Numbering, Publisher, Receipt};
 use pf_core::{Command, Refusal, Reply};
 use std::sync::Wait;
 
 /// What runs the commands of a session and the messages of a peer, with receipts of the opening `J`. Whoever is generic in it needn't name
 /// a device, nor what waits.
-pub(crate) trait CallBook<J: Chapter> {
+pub trait CallBook<J: Chapter> {
     /// Runs a command, as [`Shared::run`] does.
     fn call(&self, command: Command, last: Option<&Receipt<J>>) -> (Reply, Receipt<J>)
         ensures { IsAnswered J.base J.setting command result.0 result.1 (option_copied last.entry) };
@@ -32,24 +32,26 @@ pub(crate) trait CallBook<J: Chapter> {
         last: Option<&Receipt<J>>,
     ) -> Result<Vec<(Reply, Receipt<J>)>, Refusal>
         ensures { IsGroupAnswered J.base J.setting commands.now (told result) (option_copied last.entry) };
+
+    /// What the Book says of itself, as [`Shared::status`] does.
+    fn status(&self, last: Option<&Receipt<J>>) -> BookStatus
+        ensures { SaysStatus J.base J.setting result (option_copied last.entry) };
 }
 
 /// What answers the questions of a session that may change nothing, with receipts of the opening `J`. It can do nothing else.
-pub(crate) trait AskBook<J: Chapter> {
+pub trait AskBook<J: Chapter> {
     /// Asks this, as [`Shared::run`] does.
     fn ask(&self, inquiry: Inquiry, last: Option<&Receipt<J>>) -> (Reply, Receipt<J>)
         ensures { IsAnswered J.base J.setting inquiry.command result.0 result.1 (option_copied last.entry) };
+
+    /// What the Book says of itself, as [`Shared::status`] does.
+    fn status(&self, last: Option<&Receipt<J>>) -> BookStatus
+        ensures { SaysStatus J.base J.setting result (option_copied last.entry) };
 }
 
 /// A caller of a Book under a lock, which waits for it by a handle.
 #[derive(Drop)]
-pub(crate) struct Caller<
-    'a,
-    W: Wait,
-    D: Disk + Drop,
-    J: Chapter + Numbering,
-    S: Publisher<J> + Drop,
-> {
+pub struct Caller<'a, W: Wait, D: Disk + Drop, J: Chapter + Numbering, S: Publisher<J> + Drop> {
     rt: &'a W,
     shared: &'a Shared<D, J, S>,
 }
@@ -62,7 +64,7 @@ impl<'a, W: Wait, D: Disk + Drop, J: Chapter + Numbering, S: Publisher<J> + Drop
     S,
 > {
     /// One that calls this Book.
-    pub(crate) fn new(rt: &'a W, shared: &'a Shared<D, J, S>) -> Caller<'a, W, D, J, S> {
+    pub fn new(rt: &'a W, shared: &'a Shared<D, J, S>) -> Caller<'a, W, D, J, S> {
         Caller { rt, shared }
     }
 }
@@ -94,11 +96,19 @@ impl<'a, W: Wait, D: Disk + Drop, J: Chapter + Numbering, S: Publisher<J> + Drop
     ) -> Result<Vec<(Reply, Receipt<J>)>, Refusal> {
         self.shared.group(self.rt, commands, last)
     }
+
+    fn status(&self, last: Option<&Receipt<J>>) -> BookStatus {
+        self.shared.status(self.rt, last)
+    }
 }
 
 impl<'a, W: Wait, D: Disk + Drop, J: Chapter + Numbering, S: Publisher<J> + Drop> AskBook<J>
     for Caller<'a, W, D, J, S> {
     fn ask(&self, inquiry: Inquiry, last: Option<&Receipt<J>>) -> (Reply, Receipt<J>) {
         self.shared.run(self.rt, inquiry.into_command(), last)
+    }
+
+    fn status(&self, last: Option<&Receipt<J>>) -> BookStatus {
+        self.shared.status(self.rt, last)
     }
 }

@@ -11,12 +11,19 @@ pub trait Gate {
     /// 4,294,967,295 once it has come so far.
     fn pass(&self, session: u32, line: u32)
         ensures { passed self.now session line };
+
+    /// How many sessions are open, as a status says it.
+    fn sessions(&self) -> u32;
 }
 
-/// A gate that is always open.
+/// A gate that is always open, and knows of one session.
 #[derive(Clone, Copy, Debug)]
 pub struct OpenGate;
 
 impl Gate for OpenGate {
     fn pass(&self, _session: u32, _line: u32) {}
+
+    fn sessions(&self) -> u32 {
+        1
+    }
 }

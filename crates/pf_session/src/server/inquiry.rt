@@ -6,7 +6,7 @@ use pf_core::{Command, HistoryCommand};
 
 /// A command that a Book answers, and that changes nothing.
 #[derive(Drop)]
-pub(crate) struct Inquiry {
+pub struct Inquiry {
     command: Command,
     ghost asks: { is_inquiry command ≡ true },
 }

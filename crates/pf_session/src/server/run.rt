@@ -13,6 +13,7 @@ use crate::server::session::Session;
 use crate::telling::{answer_said, refuse, tell};
 use pf_book::{Chapter, Receipt};
 use pf_core::{Command, GROUP_LIMIT, Refusal, Reply};
+use pf_line::Request;
 use std::alloc::Global;
 use std::io::{self, Write};
 
@@ -20,7 +21,7 @@ impl<'a, C: CallBook<J>, J: Chapter, G: Gate> Session<'a, C, J, G> {
     // Answers what was read of a line, behind the gate.
     fn answer_alone<O: Write>(
         &mut self,
-        said: Result<Option<Command>, Refusal>,
+        said: Result<Option<Request>, Refusal>,
         writer: &mut O,
     ) -> io::Result<()>
         ensures { (line : List ℕ) → Parses said (line_at line) → IfErr said (IsRefusal line) →
@@ -35,7 +36,7 @@ impl<'a, C: CallBook<J>, J: Chapter, G: Gate> Session<'a, C, J, G> {
     pub(super) fn answer_behind<O: Write>(
         &mut self,
         alloc: Global,
-        said: Result<Option<Command>, Refusal>,
+        said: Result<Option<Request>, Refusal>,
         waiting: &mut Vec<Command>,
         writer: &mut O,
     ) -> io::Result<()>
@@ -80,7 +81,10 @@ impl<'a, C: CallBook<J>, J: Chapter, G: Gate> Session<'a, C, J, G> {
     {
         match waiting.push(command) {
             Ok(()) => Ok(()),
-            Err(failed) => self.answer_behind(alloc, Ok(Some(failed.value)), waiting, writer),
+            Err(failed) => {
+                let request = Request::Run(failed.value);
+                self.answer_behind(alloc, Ok(Some(request)), waiting, writer)
+            },
         }
     }
 

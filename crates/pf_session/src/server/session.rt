@@ -1,7 +1,7 @@
 //! A session over a Book that others use too.
 ghost use Rattle.std.specs.Prelude.{◌≡◌, ◌++◌, ℕ, List, MatchResult, Ok, Option, Some, None, option_map};
 ghost use Rattle.pf_addr.specs.Writing.{Writes};
-ghost use Rattle.pf_line.specs.Reply.Replies.{reply_text};
+ghost use Rattle.pf_line.specs.{declared.request.Request.TheVariants.Run, Reply.Replies.reply_text};
 ghost use Rattle.pf_book.specs.Receipts.{PlainReceipt};
 ghost use Rattle.pf_session.specs.declared.line_engine.left_off.LeftOff.TheVariants.{Paused};
 ghost use Rattle.pf_session.specs.{LineEngine.{Intakes.{HasBegun, IsPart}, Sessions.IsSession}, Server.{Parts.IsSharedPart, Sittings.{HasJudged, IsJudged, IsCommandRun, IsSharedSession, Keeps, Runs, TakesLines, packet_in}, SessionRuns.{AreMeant, IsSame, RunsInSession, TakesInSession, sitting}}, Laws.Server.attends-seen};
@@ -10,12 +10,12 @@ use crate::line_engine::{self, AnswerLine, EngineFault, Intake, LeftOff, Pause};
 use crate::server::caller::{CallBook, Caller};
 use crate::server::gate::Gate;
 use crate::server::line_session::LineSession;
-use crate::telling::{RunCommands, answer, tell};
+use crate::telling::{RunCommands, answer, show, tell};
 use pf_addr::write_text;
 use pf_book::shared::Shared;
 use pf_book::{Chapter, Disk, Gone, Numbering, Publisher, Receipt, Seer, learn_from};
 use pf_core::{Command, Question, Refusal, Reply};
-use pf_line::{may_judge, parse_line, write_judged};
+use pf_line::{Request, may_judge, parse_line, write_judged};
 use pf_rule::Packet;
 use std::alloc::Global;
 use std::io::{self, Read, Write};
@@ -46,16 +46,16 @@ pub(super) fn packet_in(command: &Command) -> Option<&Packet>
 
 // The command that was read of a line, if a group may have it, else what was read.
 fn command_of(
-    said: Result<Option<Command>, Refusal>,
-) -> Result<Command, Result<Option<Command>, Refusal>>
-    ensures { MatchResult result (λ c. (said ≡ Ok (Some c)) × (packet_in c ≡ None)) (λ other. other ≡ said) }
+    said: Result<Option<Request>, Refusal>,
+) -> Result<Command, Result<Option<Request>, Refusal>>
+    ensures { MatchResult result (λ c. (said ≡ Ok (Some (Run c))) × (packet_in c ≡ None)) (λ other. other ≡ said) }
 {
     match said {
-        Ok(Some(command)) => {
+        Ok(Some(Request::Run(command))) => {
             if command.may_be_grouped() {
                 Ok(command)
             } else {
-                Err(Ok(Some(command)))
+                Err(Ok(Some(Request::Run(command))))
             }
         }
         other => Err(other),
@@ -139,6 +139,11 @@ impl<'a, C: CallBook<J>, J: Chapter, G: Gate> RunCommands for Session<'a, C, J, 
 
     fn judge_packet<O: Write>(&mut self, packet: &Packet, writer: &mut O) -> io::Result<()> {
         self.judge(packet, writer)
+    }
+
+    fn show_status<O: Write>(&mut self, writer: &mut O) -> io::Result<()> {
+        let status = self.book.status(self.last.as_ref());
+        show(writer, status, self.gate.sessions())
     }
 }
 
@@ -367,8 +372,9 @@ pub fn go_on<
     )
 }
 
-// The same, by whatever is called, with the receipt of an earlier call.
-fn go_on_by<C: CallBook<J>, J: Chapter, G: Gate, P: Pause, R: Read, O: Write>(
+/// As [`go_on`], with its faults, but by whatever is called, and the first call hands in the receipt that the caller has, if it has one.
+/// Afterwards the caller has the receipt of the session's last call in this opening, or its own if there was no call.
+pub fn go_on_by<C: CallBook<J>, J: Chapter, G: Gate, P: Pause, R: Read, O: Write>(
     alloc: Global,
     session: &mut LineSession,
     reader: &mut R,

@@ -272,7 +272,7 @@ fn follow_by<C: CallBook<J>, J: Chapter, R: Read, O: Write>(
     let Ok(mut stream) = PeerStream::new(alloc) else {
         return Err(EngineFault::Memory);
     };
-    match follow_from(alloc, &mut stream, reader, writer, book, &NoPause, last) {
+    match go_on_peer_by(alloc, &mut stream, reader, writer, book, &NoPause, last) {
         Ok(LeftOff::Ended) => Ok(()),
         Ok(LeftOff::Paused) => unreachable!(),
         Err(fault) => Err(fault),
@@ -340,11 +340,11 @@ pub fn go_on_peer<
 {
     let mut last = None;
     let book = Caller::new(rt, shared);
-    follow_from(alloc, stream, reader, writer, &book, pause, &mut last)
+    go_on_peer_by(alloc, stream, reader, writer, &book, pause, &mut last)
 }
 
-// The same, by whatever is called, with the receipt of an earlier call.
-fn follow_from<C: CallBook<J>, J: Chapter, P: Pause, R: Read, O: Write>(
+/// As [`go_on_peer`], with its faults, but by whatever is called, and with receipts as in [`go_on_by`](crate::go_on_by).
+pub fn go_on_peer_by<C: CallBook<J>, J: Chapter, P: Pause, R: Read, O: Write>(
     alloc: Global,
     stream: &mut PeerStream,
     reader: &mut R,

@@ -2,10 +2,8 @@
 ghost use Rattle.std.specs.Prelude.{◌≡◌, ◌∷◌, ◌++◌, []};
 ghost use Rattle.circular_buffer.specs.Buffer.{keep_last};
 
-use crate::fullness::gauge::write_fullness;
 use circular_buffer::HeapCircularBuffer;
 use std::alloc::{AllocError, Global};
-use std::io::Write;
 use std::sync::{Condvar, Mutex, Wait};
 
 // So many numbers wait to be said at most: more than there are hundredths beyond seven eighths.
@@ -25,6 +23,12 @@ impl Left {
     {
         self.waiting.push_back(hundredths);
     }
+}
+
+/// What says how full a disk is.
+pub(crate) trait SayFullness {
+    /// Says that so many hundredths of it are used. What can't be said is not said.
+    fn say_fullness(&self, hundredths: u64);
 }
 
 /// How full a disk is, as one thread finds it and another says it. Whoever leaves a number waits for no writer. Numbers are said in the
@@ -76,13 +80,12 @@ impl Notice {
     }
 
     /// Says each number that is left, until none will be.
-    pub(crate) fn say_all<R: Wait, F: Write>(&self, rt: &R, faults: &mut F) {
+    pub(crate) fn say_all<R: Wait, S: SayFullness>(&self, rt: &R, teller: &S) {
         for _ in rt.forever() {
             let Some(hundredths) = self.next(rt) else {
                 return;
             };
-            // a line that can't be written can't be said anywhere else
-            let _ = write_fullness(faults, hundredths);
+            teller.say_fullness(hundredths);
         }
     }
 }

@@ -2,8 +2,8 @@
 
 use pf_addr::path::Path;
 use pfd_conf::{
-    Cases, Fault as ConfFault, Firewall, Mode, Tally, Tried, check, read_cases, read_conf,
-    take_noting,
+    Cases, Fault as ConfFault, Firewall, Mode, Tally, Tried, check, given_interfaces, read_cases,
+    read_conf, take_noting,
 };
 use pfd_files::Fault;
 use pfd_words::{ConfTask, Question};
@@ -103,10 +103,12 @@ fn show<S: Files<File = File>, W: Write, F: Write>(
     let Ok(base) = Path::from_ascii(anchor.as_bytes()) else {
         return Err(ConfFault::anchor(alloc, anchor)?);
     };
+    let interfaces = given_interfaces(alloc, &task.interfaces)?;
     let read = |name: &[u8]| read_conf(alloc, files, name);
     check(
         alloc,
         &read,
+        interfaces.as_slice(),
         mode_of(task.is_lenient),
         &base,
         task.path,
@@ -122,10 +124,12 @@ fn firewall<S: Files<File = File>, F: Write>(
     task: &ConfTask<'_>,
     faults: &mut F,
 ) -> Result<Firewall, ConfFault> {
+    let interfaces = given_interfaces(alloc, &task.interfaces)?;
     let read = |name: &[u8]| read_conf(alloc, files, name);
     let taken = take_noting(
         alloc,
         &read,
+        interfaces.as_slice(),
         mode_of(task.is_lenient),
         &Path::main(),
         task.path,

@@ -5,7 +5,7 @@ use crate::stream::Stream;
 use pf_addr::path::Path;
 use pf_conf::Conf;
 use pf_load::{Fault as LoadFault, load, show_changes};
-use pfd_conf::{Fault as ConfFault, Taken, read_conf, take_noting};
+use pfd_conf::{Fault as ConfFault, Taken, given_interfaces, read_conf, take_noting};
 use pfd_files::Fault;
 use pfd_words::LoadTask;
 use std::alloc::Global;
@@ -58,10 +58,12 @@ fn taken<S: Files<File = File>, F: Write>(
     let Ok(base) = Path::from_ascii(anchor.as_bytes()) else {
         return Err(ConfFault::anchor(alloc, anchor)?);
     };
+    let interfaces = given_interfaces(alloc, &task.interfaces)?;
     let read = |name: &[u8]| read_conf(alloc, files, name);
     take_noting(
         alloc,
         &read,
+        interfaces.as_slice(),
         mode_of(task.is_lenient),
         &base,
         task.path,
@@ -94,8 +96,8 @@ fn write_reply<W: Write>(writer: &mut W, reply: &[u8]) -> io::Result<()> {
     writer.flush()
 }
 
-// What the program says of a load that stopped.
-fn told_of_load<F: Write>(fault: LoadFault, faults: &mut F) -> Fault {
+/// What the program says of a load that stopped, or of what a server has.
+pub(crate) fn told_of_load<F: Write>(fault: LoadFault, faults: &mut F) -> Fault {
     match fault {
         LoadFault::Memory => Fault::Memory,
         LoadFault::Ended => Fault::Output,

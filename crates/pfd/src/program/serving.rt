@@ -8,9 +8,11 @@ ghost use Rattle.pfd.specs.Program.{IsListening, address_count, listening_text};
 use crate::admitting::Admits;
 use crate::door::{Doors, Listener};
 use crate::fullness::gauge::{Gauge, tell_fullness};
-use crate::fullness::notice::Notice;
+use crate::fullness::notice::{Notice, SayFullness};
 use crate::fullness::watched::{Age, Watched};
 use crate::listener::{Reception, serve_until};
+use crate::log::KeepLog;
+use crate::log::saying::Log;
 use crate::program::ended::told;
 use crate::renewal::Renewal;
 use crate::socket_file::{SocketFile, listen_at};
@@ -19,7 +21,7 @@ use pf_addr::write_more;
 use pf_book::book::Book;
 use pf_book::shared::Shared;
 use pf_book::{Chapter, Disk, NewCalls, Numbering, Opening, Publisher, Seer};
-use pf_session::{EngineFault, OpenGate, renew};
+use pf_session::{EngineFault, renew};
 use pf_view::{ViewFault, views};
 use pfd_files::{Fault, open_file};
 use pfd_words::Service;
@@ -58,7 +60,7 @@ impl House {
 
 /// Serves connections over the disk that lies on a file. Faults are found in this order: of the file, of the disk, of the address, of the
 /// writer, and at last one of the listener, or of an opening that renews the history. How full the disk is goes to `faults`, from a thread of
-/// its own once clients are served.
+/// its own once clients are served, and so does the log, if one is kept, from whoever serves.
 pub(crate) fn serve_file<
     N: Wait + Threads + Net<Listener = TcpListener, Stream = TcpStream> + Sync,
     S: Files<File = File>,
@@ -106,6 +108,9 @@ fn serve_house<
     let Ok(house) = House::new(alloc, service, gauge) else {
         return Err(Fault::Memory);
     };
+    let Ok(log) = Log::new(machine, alloc, faults, service.is_logged) else {
+        return Err(Fault::Memory);
+    };
     let listening = open_doors(machine, alloc, files, service, writer)?;
     let served = serve_and_say(
         machine,
@@ -114,7 +119,7 @@ fn serve_house<
         service,
         &listening.doors,
         &house,
-        faults,
+        &log,
     );
     remove_sockets(files, &listening.sockets);
     served
@@ -122,22 +127,24 @@ fn serve_house<
 
 // Serves connections, while a thread of its own says how full the disk gets: no change and no renewal waits for what reads that. Where no such
 // thread can be made, it is said at the end.
-fn serve_and_say<D: Disk + Drop + Send, N: Wait + Threads + Sync, F: Write + Send>(
+fn serve_and_say<D: Disk + Drop + Send, N: Wait + Threads + Sync, L: KeepLog + SayFullness + Sync>(
     machine: &N,
     alloc: Global,
     opening: Opening<D>,
     service: &Service<'_>,
     doors: &Doors,
     house: &House,
-    faults: &mut F,
+    log: &L,
 ) -> Result<(), Fault>
     requires { CanServe service.now }
 {
     let (_, served) = thread::join(
         machine,
-        || house.notice.say_all(machine, faults),
-        || {
-            let served = serve_openings(machine, alloc, opening, service, doors, house);
+        || house.notice.say_all(machine, log),
+        ||
+            requires { CanServe service.now }
+        {
+            let served = serve_openings(machine, alloc, opening, service, doors, house, log);
             house.notice.end(machine);
             served
         },
@@ -146,21 +153,25 @@ fn serve_and_say<D: Disk + Drop + Send, N: Wait + Threads + Sync, F: Write + Sen
 }
 
 // Serves in one opening after the other.
-fn serve_openings<D: Disk + Drop + Send, N: Wait + Threads + Sync>(
+fn serve_openings<D: Disk + Drop + Send, N: Wait + Threads + Sync, L: KeepLog + Sync>(
     machine: &N,
     alloc: Global,
     first: Opening<D>,
     service: &Service<'_>,
     doors: &Doors,
     house: &House,
+    log: &L,
 ) -> Result<(), Fault>
     requires { CanServe service.now }
 {
     let mut opening = first;
+    let mut is_renewal = false;
     for _ in machine.forever() {
+        log.note_opening(opening.durable().epoch(), is_renewal);
+        is_renewal = true;
         let calls = NewCalls::open();
-        let next = serve_opening::<Brand, _, _>(
-            machine, alloc, opening, calls, service, doors, house,
+        let next = serve_opening::<Brand, _, _, _>(
+            machine, alloc, opening, calls, service, doors, house, log,
         )?;
         match next {
             Some(next) => opening = next,
@@ -176,6 +187,7 @@ fn serve_opening<
     J: Chapter + Numbering + Send + Sync,
     D: Disk + Drop + Send,
     N: Wait + Threads + Sync,
+    L: KeepLog + Sync,
 >(
     machine: &N,
     alloc: Global,
@@ -184,6 +196,7 @@ fn serve_opening<
     service: &Service<'_>,
     doors: &Doors,
     house: &House,
+    log: &L,
 ) -> Result<Option<Opening<D>>, Fault>
     requires service { CanServe service.now }
     requires name { IsNamed J.base J.history J.setting opening service.now.history }
@@ -199,8 +212,9 @@ fn serve_opening<
         &house.reception,
         &shared,
         seers,
-        &OpenGate,
+        &house.reception,
         &house.renewal,
+        log,
     );
     go_further(machine, alloc, shared, served, &house.reception)
 }

@@ -3,4 +3,6 @@ use Rattle.pf_conf.proofs.{Kept.rules_so, Places.files_at}
 use Rattle.pf_conf.proofs.laws.rules_stand_at_their_words.Goals as goal
 
 pub returns : goal.returns
-returns c = λ files. rules_so (λ (r : PlacedRule). IsRulePlace files r.place) files (files_at c.rules_stand_at_their_words.ensures files)
+returns c =
+    λ files interfaces. rules_so (λ (r : PlacedRule). IsRulePlace files interfaces r.place) files interfaces
+    (files_at c.rules_stand_at_their_words.ensures files interfaces)

@@ -1,7 +1,7 @@
 use Rattle.std.proofs.Common.{[]}
 use Rattle.pf_core.specs.declared.reply.Reply.TheVariants.{Refused}
 use Rattle.pf_line.specs.Reply.Replies.{reply_text}
-use Rattle.pf_session.proofs.{Flushing.appends_none, LineReplies.{silence-told, command-told, refusal-told}}
+use Rattle.pf_session.proofs.{Flushing.appends_none, LineReplies.{silence-told, request-told, refusal-told}}
 use Rattle.pf_session.proofs.telling.answer_said.Goals as goal
 
 pub returns-in-Ok-None : goal.returns-in-Ok-None
@@ -13,9 +13,9 @@ returns-in-Ok-None g c = λ line parses refused. (
 
 pub returns-in-Ok-Some : goal.returns-in-Ok-Some
 returns-in-Ok-Some g c = λ line parses refused.
-    let (text, runs, written) = c.run_command.ensures in (
+    let (text, runs, written) = c.do_request.ensures in (
       text,
-      command-told g.A.RunCommands.Runs line c.in-Ok-Some.command c.args.runner.now c.run_command.new.self text runs (rw (c.in-Ok-Some.is, c.in-Ok-Some.field-0-is) at parses),
+      request-told g.A.RunCommands.Runs line c.in-Ok-Some.request c.args.runner.now c.do_request.new.runner text runs (rw (c.in-Ok-Some.is, c.in-Ok-Some.field-0-is) at parses),
       written,
     )
 

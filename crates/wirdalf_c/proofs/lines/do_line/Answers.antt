@@ -1,4 +1,4 @@
-use Rattle.wirdalf_c.proofs.LineWords.{command_done, command_refused, refused_comes, silent_comes}
+use Rattle.wirdalf_c.proofs.LineWords.{request_done, request_refused, refused_comes, silent_comes}
 use Rattle.wirdalf_c.proofs.lines.do_line.Goals as goal
 
 pub returns-in-Ok-None-clause-done : goal.returns-in-Ok-None-clause-done
@@ -6,11 +6,11 @@ returns-in-Ok-None-clause-done c = silent_comes c.args.core.now c.args.line.now 
 
 pub returns-in-Ok-Some-clause-done : goal.returns-in-Ok-Some-clause-done
 returns-in-Ok-Some-clause-done c =
-    command_done c.args.core.now c.do_command.new.core c.args.line.now c.parse_line.result c.in-Ok-Some.command c.do_command.result (cc) c.parse_line.ensures.exact c.do_command.ensures.done
+    request_done c.args.core.now c.do_request.new.core c.args.line.now c.parse_line.result c.in-Ok-Some.request c.do_request.result (cc) c.parse_line.ensures.exact c.do_request.ensures.done
 
 pub returns-in-Ok-Some-clause-refused : goal.returns-in-Ok-Some-clause-refused
 returns-in-Ok-Some-clause-refused c =
-    command_refused c.args.core.now c.args.line.now c.parse_line.result c.in-Ok-Some.command c.do_command.result (cc) c.parse_line.ensures.exact c.do_command.ensures.refused
+    request_refused c.args.core.now c.args.line.now c.parse_line.result c.in-Ok-Some.request c.do_request.result (cc) c.parse_line.ensures.exact c.do_request.ensures.refused
 
 pub returns-in-Err-clause-refused : goal.returns-in-Err-clause-refused
 returns-in-Err-clause-refused c =

@@ -1,12 +1,12 @@
 use Rattle.std.proofs.Common.{◌≡◌, ℕ, List, [], ◌∷◌, refl, subst}
-use Rattle.pf_session.specs.{Laws.Seeing.seen-told, Serving.CallsBook, Telling.IsToldBy}
+use Rattle.pf_session.specs.{Laws.Seeing.seen-told, Serving.CallsOrShows, Telling.IsToldBy}
 use Rattle.pf_session.proofs.AnsweredLines.{all-taken, line-answers}
 use Rattle.pf_session.proofs.engine.BookAnswerLine.take_line.Goals as goal
 
 pub returns : goal.returns
 returns g c = λ lines whole none is.
     let (text, told, written) = c.answer_line.ensures in
-    let Runs = CallsBook g.D.Disk.fault_count in
+    let Runs = CallsOrShows g.D.Disk.fault_count in
     let old = c.args.self.now in
     let new = c.answer_line.new.self in
     let held = g.W.Write.contents c.args.writer.now in

@@ -9,6 +9,9 @@ use Rattle.pfd.proofs.program.serving.serve_house.Goals as goal
 pub returns-in_default : goal.returns-in_default
 returns-in_default g c = let held = g.W.Write.contents c.args.writer.now in ([], whole_front held held [] (appends_none held), tt)
 
+pub returns-in_default-new : goal.returns-in_default-new
+returns-in_default-new g c = let held = g.W.Write.contents c.args.writer.now in ([], whole_front held held [] (appends_none held), tt)
+
 pub returns-in_err-listening : goal.returns-in_err-listening
 returns-in_err-listening g c =
     let (bounds, front, none) = c.in_err-listening.ensures in
@@ -19,6 +22,6 @@ pub returns : goal.returns
 returns g c =
     let (bounds, out, each) = c.in_ok-listening.ensures in (
       bounds,
-      whole_writes c.serve_and_say.result (g.W.Write.contents c.args.writer.now) (g.W.Write.contents c.open_doors.new.writer) (flat_map listening_text bounds) out,
-      where_ok c.serve_and_say.result _ each,
+      whole_writes c.serve_and_say-served.result (g.W.Write.contents c.args.writer.now) (g.W.Write.contents c.open_doors.new.writer) (flat_map listening_text bounds) out,
+      where_ok c.serve_and_say-served.result _ each,
     )

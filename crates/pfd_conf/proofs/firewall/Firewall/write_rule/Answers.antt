@@ -8,15 +8,9 @@ returns g c =
     (Continues-then
     (Continues-then
     (Continues-then
-    (Continues-then
-    (Continues-then
-    (Continues-then
-    (Continues-then c.write_place-so_far.ensures c.write_more-so_far.ensures)
-    (rw c.from.ensures at c.write_more_number-so_far.ensures))
-    c.write_more-so_far-2.ensures)
+    (Continues-then c.write_front-so_far.ensures c.write_more-so_far.ensures)
+    (rw c.sign.ensures at c.write_more-so_far-2.ensures))
+    c.write_more_number-so_far.ensures)
     c.write_more-so_far-3.ensures)
-    (rw c.sign.ensures at c.write_more-so_far-4.ensures))
-    c.write_more_number-so_far-2.ensures)
-    c.write_more-so_far-5.ensures)
     c.write_rule_text-so_far.ensures)
     c.write_more.ensures

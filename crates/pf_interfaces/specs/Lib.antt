@@ -1,0 +1,5 @@
+pub mod Interfaces
+pub mod Mentions
+pub mod Hosts
+pub mod Addresses
+pub mod Laws
