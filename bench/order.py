@@ -288,7 +288,10 @@ NEVER.close()
 
 
 class Openings:
-    """To which opening each change belongs. `wrong` says which belong to none, and which are missing."""
+    """To which opening each change belongs. `wrong` says which belong to none, and which are missing.
+
+    Replies don't say their opening. Of openings that fit, by what was read before and sent behind, the earliest is taken, which may be the
+    wrong one where a server renews many times a second. So a fault told of there may be this program's own: look at the replies."""
 
     def __init__(self, histories, world, last, least=None):
         """The last one is known, and that each before it has at least so many changes; none is missing, unless it isn't said how many."""

@@ -205,11 +205,12 @@ def verdict_text(match):
 
 
 class Session:
-    """All that a process knows. `half` is half of the disk's bytes, and `changes` are the numbered ones since it was opened."""
+    """All that a process knows. `half` is half of the disk's bytes, `changes` are the numbered ones since it was opened, and `sessions` are
+    as many as a status says to be open."""
 
-    def __init__(self, half=1 << 19, history=65_536, held=None):
+    def __init__(self, half=1 << 19, history=65_536, held=None, sessions=1):
         self.held = Held(1) if held is None else held
-        self.half, self.history, self.changes = half, history, 0
+        self.half, self.history, self.changes, self.sessions = half, history, 0, sessions
         self.offers, self.next_ticket, self.lengths = {}, 1, []
 
     # Lines
@@ -537,10 +538,9 @@ class Session:
         return self.held.checksum().hex()
 
     def status(self):
-        """That of a session which is alone."""
         held, used = self.held, HEADER + self.length() + writing.SPARE
         return (f"epoch {held.epoch} changes {self.changes} tick {held.tick} rulesets {len(held.rulesets)} tables {len(held.tables)}"
-                f" states {len(held.states)} held {used} of {self.half} sessions 1")
+                f" states {len(held.states)} held {used} of {self.half} sessions {self.sessions}")
 
     def show(self, what, path=b""):
         if what == "status":

@@ -13,6 +13,8 @@ from .streams import read_stream
 
 # The most bytes that a row's input may have to be played here.
 MOST_INPUT = 3_000_000
+# How many sessions a status says to be open in rows of sessions, as crates/pfd_rows/src/sharing.rt has it.
+OPEN = 3
 
 
 class Table:
@@ -35,7 +37,8 @@ class Table:
         return any(word in self.settings for word in words)
 
     def session(self):
-        return Session(int(self.settings.get("size", 8192)) // 2, int(self.settings.get("history", 65_536)))
+        size, history = int(self.settings.get("size", 8192)), int(self.settings.get("history", 65_536))
+        return Session(size // 2, history, sessions=OPEN if self.has("session") else 1)
 
     def played(self):
         """What is played on one Book: the rows of `as` for each row, in turn, or the row as it is."""

@@ -1,5 +1,6 @@
-//! One history over a device. Groups of commands are in `groups`, replies with receipts in `receipts`.
-ghost use Rattle.std.specs.Prelude.{◌≡◌, ℕ, ◌+◌, ◌<◌, ◌≤◌, [], ◌∷◌, ◌++◌, List, All, Ok, true, false, IfOk, IfErr, IfSome, OnOk, OnErr, IsErrOf, MatchBool, MatchResult, length, map, take, slice_get, nat_lt, not};
+//! One history over a device. Groups of commands are in `groups`, replies with receipts in `receipts`, what is left of a closed one in
+//! `closed`.
+ghost use Rattle.std.specs.Prelude.{◌≡◌, ℕ, ◌+◌, ◌<◌, ◌≤◌, [], ◌∷◌, ◌++◌, List, All, Ok, true, false, IfOk, IfErr, IfSome, OnOk, OnErr, IsErrOf, MatchBool, MatchResult, length, map, take, slice_get, nat_lt, not, if◌then◌else◌};
 ghost use Rattle.std.specs.{Arc.arc_value, List.list_all, Option.option_map};
 ghost use Rattle.pf_disk.specs.Disk.{IsImage};
 ghost use Rattle.pf_core.specs.declared.reply.Refusal.TheVariants as told;
@@ -10,6 +11,7 @@ ghost use Rattle.pf_view.specs.Seers.{IsNewSeer, IsNewShower, JudgesBy};
 ghost use Rattle.pf_book.specs.Receipts.{IsGiven, IsReached};
 ghost use Rattle.pf_book.specs.Books.{world_book, HoldsLeft, HasRoom, HasNoRoom, left_together, IsMore, IsUnkept, IsUnshown, IsMade, IsTold, Stays, IsLeft, IsOpenable, KeepsOpening, StaysUnlessKept, UsesDevice, shows_all, change_in, log_in, is_fault_reply, is_fault_result, IsNumbered, IsJudged, IsNamed, setting_of, judging};
 
+mod closed;
 mod groups;
 mod receipts;
 
@@ -17,6 +19,7 @@ use crate::chapter::Chapter;
 use crate::opening::{NamedOpening, Opening};
 use crate::saving::{Copies, note_all, prepare, put_all, share};
 use crate::showing::{offer_rest, show_offered};
+pub use closed::Closed;
 use pf_core::{
     Answer, Change, Command, Core, Durable, HistoryCommand, Next, Outcome, ReadyStep, Refusal,
     Reply, Verdict,

@@ -44,6 +44,7 @@ mod showing;
 mod status;
 mod worker;
 
+pub use book::Closed;
 pub use chapter::Chapter;
 pub use opening::{NamedOpening, Opening};
 pub use pf_core::Reply;

@@ -202,10 +202,13 @@ if_none : {E : Type 0} (s t : Found) (b : Bool) (e : E) → (if b then Err e els
 if_none s t true e is = absurd (cc)
 if_none s t false e is = refl
 
-flat_fits : (files : List File) (interfaces : List Interface) (mode : Mode) (path : Word) (spot : Spot) (flat : Flat) (s t : Found) → Fits s → has_rules path s ≡ false → with_flat files interfaces mode path spot flat s ≡ Ok t → Fits t
+flat_fits : (files : List File) (interfaces : List Interface) (mode : Mode) (path : Word) (spot : Spot) (flat : Flat) (s t : Found) → Fits s
+    → has_rules path s ≡ false → with_flat files interfaces mode path spot flat s ≡ Ok t → Fits t
 unfolding with_flat
 flat_fits files interfaces mode path spot flat s t known free from =
-    let a = both (telling files flat.macros (parsed_with interfaces flat.tokens mode (is_main path))) (λ (p : Parsed). room_for spot (with_notes files flat.macros p.notes s) >>= λ u. telling files flat.macros (with_tree files flat.macros path p.tree u)) t from in
+    let a = both (telling files flat.macros (parsed_with interfaces flat.tokens mode (is_main path)))
+    (λ (p : Parsed). room_for spot (with_notes files flat.macros p.notes s)
+    >>= λ u. telling files flat.macros (with_tree files flat.macros path p.tree u)) t from in
     let p : Parsed = a.0 in
     let noted : Found = with_notes files flat.macros p.notes s in
     let b = both (room_for spot noted) (λ (u : Found). telling files flat.macros (with_tree files flat.macros path p.tree u)) t a.2 in
@@ -215,27 +218,34 @@ flat_fits files interfaces mode path spot flat s t known free from =
     tree_fits files flat.macros path p.tree b.0 t (subst Fits same here) (subst (λ (u : Found). has_rules path u ≡ false) same free) (subst (λ (u : Found). is_full u ≡ false) same room)
     (telling_so files flat.macros (with_tree files flat.macros path p.tree b.0) t b.2)
 
-file_fits : (files : List File) (interfaces : List Interface) (mode : Mode) (path : Word) (m : Mention) (s t : Found) → Fits s → with_file files interfaces mode path m s ≡ Ok t → Fits t
+file_fits : (files : List File) (interfaces : List Interface) (mode : Mode) (path : Word) (m : Mention) (s t : Found) → Fits s
+    → with_file files interfaces mode path m s ≡ Ok t → Fits t
 unfolding with_file
 file_fits files interfaces mode path m s t known from =
-    let a = both (free_for path m.at s) (λ (u : Found). flat_of files m u.files_read >>= λ flat. with_flat files interfaces mode path m.at flat (after_flat flat u)) t from in
+    let a = both (free_for path m.at s) (λ (u : Found). flat_of files m u.files_read
+    >>= λ flat. with_flat files interfaces mode path m.at flat (after_flat flat u)) t from in
     let u : Found = a.0 in
-    let b = both (flat_of files m u.files_read) (λ (flat : Flat). with_flat files interfaces mode path m.at flat (after_flat flat u)) t a.2 in
+    let b = both (flat_of files m u.files_read)
+    (λ (flat : Flat). with_flat files interfaces mode path m.at flat (after_flat flat u)) t a.2 in
     let same : s ≡ u = if_free s u (has_rules path s) (told_at m.at (mistakes.RulesTwice (path_text path))) a.1 in
     let free : has_rules path s ≡ false = if_none s u (has_rules path s) (told_at m.at (mistakes.RulesTwice (path_text path))) a.1 in
     let here : Fits u = subst Fits same known in
-    flat_fits files interfaces mode path m.at b.0 (after_flat b.0 u) t (record { paths = here.paths; rulesets = here.rulesets; rules = here.rules; tables = here.tables })
+    flat_fits files interfaces mode path m.at b.0 (after_flat b.0 u) t
+    (record { paths = here.paths; rulesets = here.rulesets; rules = here.rules; tables = here.tables })
     (subst (λ (v : Found). has_rules path v ≡ false) same free) b.2
 
-load_fits : (files : List File) (interfaces : List Interface) (mode : Mode) (m : Mention) (path : Option Word) (s t : Found) → Fits s → with_load files interfaces mode m path s ≡ Ok t → Fits t
+load_fits : (files : List File) (interfaces : List Interface) (mode : Mode) (m : Mention) (path : Option Word) (s t : Found) → Fits s
+    → with_load files interfaces mode m path s ≡ Ok t → Fits t
 load_fits files interfaces mode m None s t known from = absurd (cc)
 load_fits files interfaces mode m (Some path) s t known from = file_fits files interfaces mode path m s t known from
 
-waiting_fits : (files : List File) (interfaces : List Interface) (mode : Mode) (w : Option Waiting) (s t : Found) → Fits s → with_waiting files interfaces mode w s ≡ Ok t → Fits t
+waiting_fits : (files : List File) (interfaces : List Interface) (mode : Mode) (w : Option Waiting) (s t : Found) → Fits s
+    → with_waiting files interfaces mode w s ≡ Ok t → Fits t
 waiting_fits files interfaces mode None s t known from = let same : s ≡ t = cc in subst Fits same known
 waiting_fits files interfaces mode (Some w) s t known from = load_fits files interfaces mode w.mention w.path s t known from
 
-loads_fit : (files : List File) (interfaces : List Interface) (mode : Mode) (n more : ℕ) (s t : Found) → Fits s → loads_from files interfaces mode n more s ≡ Ok t → Fits t
+loads_fit : (files : List File) (interfaces : List Interface) (mode : Mode) (n more : ℕ) (s t : Found) → Fits s
+    → loads_from files interfaces mode n more s ≡ Ok t → Fits t
 unfolding loads_from
 loads_fit files interfaces mode n zero s t known from = let same : s ≡ t = cc in subst Fits same known
 loads_fit files interfaces mode n (suc more) s t known from =
@@ -246,13 +256,17 @@ nothing_fits : Fits nothing_found
 unfolding IsDistinct
 nothing_fits = record { paths = tt; rulesets = lit≤ tt; rules = All-nil (λ (q : Ruleset). length q.rules ≤ RULE_LIMIT); tables = All-nil (λ (t : FilledTable). Small t.table) }
 
-pub fits_commit : (files : List File) (interfaces : List Interface) (mode : Mode) (base name : Word) (c : Conf) → resolved files interfaces mode base name ≡ Ok c → FitsCommit c
+pub fits_commit : (files : List File) (interfaces : List Interface) (mode : Mode) (base name : Word) (c : Conf)
+    → resolved files interfaces mode base name ≡ Ok c → FitsCommit c
 unfolding resolved
 fits_commit files interfaces mode base name c from =
-    let a = both (with_file files interfaces mode base (main_file name) nothing_found >>= loads_from files interfaces mode 0 READING_LIMIT) (committed (first_spot name)) c from in
+    let a = both (with_file files interfaces mode base (main_file name) nothing_found >>= loads_from files interfaces mode 0 READING_LIMIT)
+    (committed (first_spot name)) c from in
     let u : Found = a.0 in
-    let b = both (with_file files interfaces mode base (main_file name) nothing_found) (loads_from files interfaces mode 0 READING_LIMIT) u a.1 in
-    let all : Fits u = loads_fit files interfaces mode 0 READING_LIMIT b.0 u (file_fits files interfaces mode base (main_file name) nothing_found b.0 nothing_fits b.1) b.2 in
+    let b = both (with_file files interfaces mode base (main_file name) nothing_found)
+    (loads_from files interfaces mode 0 READING_LIMIT) u a.1 in
+    let all : Fits u = loads_fit files interfaces mode 0 READING_LIMIT b.0 u
+    (file_fits files interfaces mode base (main_file name) nothing_found b.0 nothing_fits b.1) b.2 in
     let same : record { rulesets = u.rulesets; tables = u.tables; notes = u.notes } ≡ c = if_fits u c (nat_le (commit_length u) LINE_LIMIT) (told_at (first_spot name) mistakes.LongCommit) a.2 in
     let few : length u.rulesets ≤ RULESET_LIMIT = omega (arith, all.rulesets) in
     subst FitsCommit same (record { paths = all.paths; rulesets = few; rules = all.rules; tables = all.tables })

@@ -227,54 +227,78 @@ telling_so files ms (Err e) x is = absurd (cc)
 
 -- the rules of all trees are so that files are
 abbrev pub FilesSo : (PlacedRule → Type 0) → List File → List Interface → Type 0
-FilesSo P files interfaces = (m : Mention) (read : ℕ) (flat : Flat) (mode : Mode) (main : Bool) (p : Parsed) → flat_of files m read ≡ Ok flat → parsed_with interfaces flat.tokens mode main ≡ Ok p → TreeSo P p.tree
+FilesSo P files interfaces = (m : Mention) (read : ℕ) (flat : Flat) (mode : Mode) (main : Bool) (p : Parsed)
+    → flat_of files m read ≡ Ok flat → parsed_with interfaces flat.tokens mode main ≡ Ok p → TreeSo P p.tree
 
-flat_so : (P : PlacedRule → Type 0) (files : List File) (interfaces : List Interface) (mode : Mode) (path : Word) (spot : Spot) (flat : Flat) → ((p : Parsed) → parsed_with interfaces flat.tokens mode (is_main path) ≡ Ok p → TreeSo P p.tree) → (s t : Found) → Ruled P s → with_flat files interfaces mode path spot flat s ≡ Ok t → Ruled P t
+flat_so : (P : PlacedRule → Type 0) (files : List File) (interfaces : List Interface) (mode : Mode) (path : Word) (spot : Spot)
+    (flat : Flat) → ((p : Parsed) → parsed_with interfaces flat.tokens mode (is_main path) ≡ Ok p → TreeSo P p.tree) → (s t : Found)
+    → Ruled P s → with_flat files interfaces mode path spot flat s ≡ Ok t → Ruled P t
 unfolding with_flat
 flat_so P files interfaces mode path spot flat so s t known from =
-    let a = both (telling files flat.macros (parsed_with interfaces flat.tokens mode (is_main path))) (λ (p : Parsed). room_for spot (with_notes files flat.macros p.notes s) >>= λ u. telling files flat.macros (with_tree files flat.macros path p.tree u)) t from in
+    let a = both (telling files flat.macros (parsed_with interfaces flat.tokens mode (is_main path)))
+    (λ (p : Parsed). room_for spot (with_notes files flat.macros p.notes s)
+    >>= λ u. telling files flat.macros (with_tree files flat.macros path p.tree u)) t from in
     let p : Parsed = a.0 in
     let b = both (room_for spot (with_notes files flat.macros p.notes s)) (λ (u : Found). telling files flat.macros (with_tree files flat.macros path p.tree u)) t a.2 in
     let noted : Found = with_notes files flat.macros p.notes s in
     let same : noted ≡ b.0 = if_room spot noted b.0 (is_full noted) b.1 in
-    tree_so P files flat.macros path p.tree (so p (telling_so files flat.macros (parsed_with interfaces flat.tokens mode (is_main path)) p a.1)) b.0 t (subst (Ruled P) same known) (telling_so files flat.macros (with_tree files flat.macros path p.tree b.0) t b.2)
+    tree_so P files flat.macros path p.tree
+    (so p (telling_so files flat.macros (parsed_with interfaces flat.tokens mode (is_main path)) p a.1)) b.0 t
+    (subst (Ruled P) same known) (telling_so files flat.macros (with_tree files flat.macros path p.tree b.0) t b.2)
 
-file_so : (P : PlacedRule → Type 0) (files : List File) (interfaces : List Interface) → FilesSo P files interfaces → (mode : Mode) (path : Word) (m : Mention) (s t : Found) → Ruled P s → with_file files interfaces mode path m s ≡ Ok t → Ruled P t
+file_so : (P : PlacedRule → Type 0) (files : List File) (interfaces : List Interface) → FilesSo P files interfaces
+    → (mode : Mode) (path : Word) (m : Mention) (s t : Found) → Ruled P s → with_file files interfaces mode path m s ≡ Ok t → Ruled P t
 unfolding with_file
 file_so P files interfaces so mode path m s t known from =
-    let a = both (free_for path m.at s) (λ (u : Found). flat_of files m u.files_read >>= λ flat. with_flat files interfaces mode path m.at flat (after_flat flat u)) t from in
+    let a = both (free_for path m.at s) (λ (u : Found). flat_of files m u.files_read
+    >>= λ flat. with_flat files interfaces mode path m.at flat (after_flat flat u)) t from in
     let u : Found = a.0 in
-    let b = both (flat_of files m u.files_read) (λ (flat : Flat). with_flat files interfaces mode path m.at flat (after_flat flat u)) t a.2 in
+    let b = both (flat_of files m u.files_read)
+    (λ (flat : Flat). with_flat files interfaces mode path m.at flat (after_flat flat u)) t a.2 in
     let same : s ≡ u = if_free s u (has_rules path s) (told_at m.at (mistakes.RulesTwice (path_text path))) a.1 in
-    flat_so P files interfaces mode path m.at b.0 (λ p one. so m u.files_read b.0 mode (is_main path) p b.1 one) (after_flat b.0 u) t (subst (Ruled P) same known) b.2
+    flat_so P files interfaces mode path m.at b.0 (λ p one. so m u.files_read b.0 mode (is_main path) p b.1 one) (after_flat b.0 u) t
+    (subst (Ruled P) same known) b.2
 
-load_so : (P : PlacedRule → Type 0) (files : List File) (interfaces : List Interface) → FilesSo P files interfaces → (mode : Mode) (m : Mention) (path : Option Word) (s t : Found) → Ruled P s → with_load files interfaces mode m path s ≡ Ok t → Ruled P t
+load_so : (P : PlacedRule → Type 0) (files : List File) (interfaces : List Interface) → FilesSo P files interfaces
+    → (mode : Mode) (m : Mention) (path : Option Word) (s t : Found) → Ruled P s → with_load files interfaces mode m path s ≡ Ok t
+    → Ruled P t
 load_so P files interfaces so mode m None s t known from = absurd (cc)
 load_so P files interfaces so mode m (Some path) s t known from = file_so P files interfaces so mode path m s t known from
 
-waiting_so : (P : PlacedRule → Type 0) (files : List File) (interfaces : List Interface) → FilesSo P files interfaces → (mode : Mode) (w : Option Waiting) (s t : Found) → Ruled P s → with_waiting files interfaces mode w s ≡ Ok t → Ruled P t
+waiting_so : (P : PlacedRule → Type 0) (files : List File) (interfaces : List Interface) → FilesSo P files interfaces
+    → (mode : Mode) (w : Option Waiting) (s t : Found) → Ruled P s → with_waiting files interfaces mode w s ≡ Ok t → Ruled P t
 waiting_so P files interfaces so mode None s t known from = let same : s ≡ t = cc in subst (Ruled P) same known
 waiting_so P files interfaces so mode (Some w) s t known from = load_so P files interfaces so mode w.mention w.path s t known from
 
-loads_so : (P : PlacedRule → Type 0) (files : List File) (interfaces : List Interface) → FilesSo P files interfaces → (mode : Mode) (n more : ℕ) (s t : Found) → Ruled P s → loads_from files interfaces mode n more s ≡ Ok t → Ruled P t
+loads_so : (P : PlacedRule → Type 0) (files : List File) (interfaces : List Interface) → FilesSo P files interfaces
+    → (mode : Mode) (n more : ℕ) (s t : Found) → Ruled P s → loads_from files interfaces mode n more s ≡ Ok t → Ruled P t
 unfolding loads_from
 loads_so P files interfaces so mode n zero s t known from = let same : s ≡ t = cc in subst (Ruled P) same known
 loads_so P files interfaces so mode n (suc more) s t known from =
     let b = both (load_numbered files interfaces mode n s) (λ (u : Found). loads_from files interfaces mode (n + 1) more u) t from in
-    loads_so P files interfaces so mode (n + 1) more b.0 t (waiting_so P files interfaces so mode (slice_get s.waiting n) s b.0 known b.1) b.2
+    loads_so P files interfaces so mode (n + 1) more b.0 t
+    (waiting_so P files interfaces so mode (slice_get s.waiting n) s b.0 known b.1) b.2
 
 -- the rules of what files mean
-pub rules_so : (P : PlacedRule → Type 0) (files : List File) (interfaces : List Interface) → FilesSo P files interfaces → (mode : Mode) (base name : Word) (c : Conf) → resolved files interfaces mode base name ≡ Ok c → All (λ (q : Ruleset). All P q.rules) c.rulesets
+pub rules_so : (P : PlacedRule → Type 0) (files : List File) (interfaces : List Interface) → FilesSo P files interfaces
+    → (mode : Mode) (base name : Word) (c : Conf) → resolved files interfaces mode base name ≡ Ok c
+    → All (λ (q : Ruleset). All P q.rules) c.rulesets
 unfolding resolved
 rules_so P files interfaces so mode base name c from =
-    let a = both (with_file files interfaces mode base (main_file name) nothing_found >>= loads_from files interfaces mode 0 READING_LIMIT) (committed (first_spot name)) c from in
+    let a = both (with_file files interfaces mode base (main_file name) nothing_found >>= loads_from files interfaces mode 0 READING_LIMIT)
+    (committed (first_spot name)) c from in
     let u : Found = a.0 in
-    let b = both (with_file files interfaces mode base (main_file name) nothing_found) (loads_from files interfaces mode 0 READING_LIMIT) u a.1 in
-    let all = loads_so P files interfaces so mode 0 READING_LIMIT b.0 u (file_so P files interfaces so mode base (main_file name) nothing_found b.0 (All-nil (λ (q : Ruleset). All P q.rules)) b.1) b.2 in
+    let b = both (with_file files interfaces mode base (main_file name) nothing_found)
+    (loads_from files interfaces mode 0 READING_LIMIT) u a.1 in
+    let all = loads_so P files interfaces so mode 0 READING_LIMIT b.0 u
+    (file_so P files interfaces so mode base (main_file name) nothing_found b.0 (All-nil (λ (q : Ruleset). All P q.rules)) b.1) b.2 in
     let same : record { rulesets = u.rulesets; tables = u.tables; notes = u.notes } ≡ c = if_fits u c (nat_le (commit_length u) LINE_LIMIT) (told_at (first_spot name) mistakes.LongCommit) a.2 in
     subst (λ (d : Conf). All (λ (q : Ruleset). All P q.rules) d.rulesets) same all
 
 -- each is one that was read of words
-pub rules_are_read : (P : PlainRule → Type 0) → ReadIs P → (files : List File) (interfaces : List Interface) (mode : Mode) (base name : Word) (c : Conf) → resolved files interfaces mode base name ≡ Ok c → All (λ (q : Ruleset). Placed P q.rules) c.rulesets
+pub rules_are_read : (P : PlainRule → Type 0) → ReadIs P
+    → (files : List File) (interfaces : List Interface) (mode : Mode) (base name : Word) (c : Conf)
+    → resolved files interfaces mode base name ≡ Ok c → All (λ (q : Ruleset). Placed P q.rules) c.rulesets
 rules_are_read P is files interfaces mode base name c from =
-    rules_so (λ (r : PlacedRule). P r.is) files interfaces (λ m read flat at main p one two number rules given. rules_in_so P is number p.tree rules given) mode base name c from
+    rules_so (λ (r : PlacedRule). P r.is) files interfaces
+    (λ m read flat at main p one two number rules given. rules_in_so P is number p.tree rules given) mode base name c from

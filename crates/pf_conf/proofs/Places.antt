@@ -75,7 +75,8 @@ among ps k d within =
 abbrev pub LinesAt : Type 0
 LinesAt = (ts : List Token) (mode : Mode) (is_main : Bool) (p : Parsed) → parsed ts mode is_main ≡ Ok p → All (λ (w : Written). BeginsAt ts w.product.place) p.tree.rules
 
-lines_read : (interfaces : List Interface) (ts : List Token) (mode : Mode) (main : Bool) (p : Parsed) → parsed_with interfaces ts mode main ≡ Ok p → parsed (with_addresses interfaces ts) mode main ≡ Ok p
+lines_read : (interfaces : List Interface) (ts : List Token) (mode : Mode) (main : Bool) (p : Parsed)
+    → parsed_with interfaces ts mode main ≡ Ok p → parsed (with_addresses interfaces ts) mode main ≡ Ok p
 unfolding parsed_with
 lines_read interfaces ts mode main p from =
     let b = both (spoof_checked interfaces ts) (λ _. parsed (with_addresses interfaces ts) mode main) p from in b.2
@@ -86,16 +87,26 @@ is_word_at_all false x y z is = is
 
 begins_so : (t : Token) → begins_rule t ≡ true → same_kind t.kind Word ≡ true
 begins_so t is =
-    is_word_at_all (same_kind t.kind Word) (bytes_eq (text_of t.text) (codes "pass")) (bytes_eq (text_of t.text) (codes "block")) (bytes_eq (text_of t.text) (codes "anchor")) is
+    is_word_at_all (same_kind t.kind Word) (bytes_eq (text_of t.text) (codes "pass")) (bytes_eq (text_of t.text) (codes "block"))
+    (bytes_eq (text_of t.text) (codes "anchor")) is
 
 -- a rule's word is one of the file's
 begins_there : (interfaces : List Interface) (ts : List Token) (p : Place) → BeginsAt (with_addresses interfaces ts) p → BeginsAt ts p
 begins_there interfaces ts p here = (here.0, words_are interfaces ts here.0 here.1 (begins_so here.0 here.3), here.2, here.3)
 
-pub files_at : LinesAt → (files : List File) (interfaces : List Interface) → FilesSo (λ (r : PlacedRule). IsRulePlace files interfaces r.place) files interfaces
+pub files_at : LinesAt → (files : List File) (interfaces : List Interface)
+    → FilesSo (λ (r : PlacedRule). IsRulePlace files interfaces r.place) files interfaces
 files_at lines files interfaces m read flat mode main p one two =
     let skips : All (λ (w : Product). IsRulePlace files interfaces w.place) p.tree.skips =
     λ k d within. record { file = m; before = read; flat = flat; read = one; begins = inr (record { mode = mode; is_main = main; lines = p; read = two; among = among p.tree.skips k d within }) } in
     let written : All (λ (w : Written). IsRulePlace files interfaces w.product.place) p.tree.rules =
-    λ k d within. record { file = m; before = read; flat = flat; read = one; begins = inl (begins_there interfaces flat.tokens _ (lines (with_addresses interfaces flat.tokens) mode main p (lines_read interfaces flat.tokens mode main p two) k d within)) } in
+    λ k d within. record {
+      file = m;
+      before = read;
+      flat = flat;
+      read = one;
+      begins = inl
+          (begins_there interfaces flat.tokens _
+          (lines (with_addresses interfaces flat.tokens) mode main p (lines_read interfaces flat.tokens mode main p two) k d within));
+    } in
     tree_at (IsRulePlace files interfaces) p.tree skips written

@@ -71,7 +71,8 @@ free_for path spot s = if has_rules path s then Err (told_at spot (mistakes.Rule
 -- a file, for the rulesets from this path on
 unfoldable pub with_file : List File → List Interface → Mode → Word → Mention → Found → Result Found Unread
 with_file files interfaces mode path m s =
-    free_for path m.at s >>= λ t. flat_of files m t.files_read >>= λ flat. with_flat files interfaces mode path m.at flat (after_flat flat t)
+    free_for path m.at s >>= λ t. flat_of files m t.files_read
+    >>= λ flat. with_flat files interfaces mode path m.at flat (after_flat flat t)
 
 -- ---- loads
 
@@ -90,7 +91,8 @@ load_numbered files interfaces mode n s = with_waiting files interfaces mode (sl
 -- The loads from this number on, at most so many. Each takes one of the readings.
 unfoldable pub loads_from : List File → List Interface → Mode → ℕ → ℕ → Found → Result Found Unread
 loads_from files interfaces mode n zero s = Ok s
-loads_from files interfaces mode n (suc more) s = load_numbered files interfaces mode n s >>= λ t. loads_from files interfaces mode (n + 1) more t
+loads_from files interfaces mode n (suc more) s =
+    load_numbered files interfaces mode n s >>= λ t. loads_from files interfaces mode (n + 1) more t
 
 -- ---- all
 
@@ -114,4 +116,5 @@ main_file name = record { at = first_spot name; named = first_spot name; name = 
 -- what a file means that is read for the rulesets from this path on
 unfoldable pub resolved : List File → List Interface → Mode → Word → Word → Result Conf Unread
 resolved files interfaces mode base name =
-    with_file files interfaces mode base (main_file name) nothing_found >>= loads_from files interfaces mode 0 READING_LIMIT >>= committed (first_spot name)
+    with_file files interfaces mode base (main_file name) nothing_found >>= loads_from files interfaces mode 0 READING_LIMIT
+    >>= committed (first_spot name)

@@ -123,10 +123,13 @@ tree_within low files ms path tree s t known from =
     let same : with_loads files ms path tree.loads a.0 ≡ t = cc in
     subst (FoundWithin low) same all
 
-flat_within : (low : ℕ) (files : List File) (interfaces : List Interface) (mode : Mode) (path : Word) (spot : Spot) (flat : Flat) (s t : Found) → FoundWithin low s → with_flat files interfaces mode path spot flat s ≡ Ok t → FoundWithin low t
+flat_within : (low : ℕ) (files : List File) (interfaces : List Interface) (mode : Mode) (path : Word) (spot : Spot) (flat : Flat)
+    (s t : Found) → FoundWithin low s → with_flat files interfaces mode path spot flat s ≡ Ok t → FoundWithin low t
 unfolding with_flat
 flat_within low files interfaces mode path spot flat s t known from =
-    let a = both (telling files flat.macros (parsed_with interfaces flat.tokens mode (is_main path))) (λ (p : Parsed). room_for spot (with_notes files flat.macros p.notes s) >>= λ u. telling files flat.macros (with_tree files flat.macros path p.tree u)) t from in
+    let a = both (telling files flat.macros (parsed_with interfaces flat.tokens mode (is_main path)))
+    (λ (p : Parsed). room_for spot (with_notes files flat.macros p.notes s)
+    >>= λ u. telling files flat.macros (with_tree files flat.macros path p.tree u)) t from in
     let p : Parsed = a.0 in
     let noted : Found = with_notes files flat.macros p.notes s in
     let b = both (room_for spot noted) (λ (u : Found). telling files flat.macros (with_tree files flat.macros path p.tree u)) t a.2 in
@@ -153,35 +156,43 @@ flat_of_within files m read flat from =
     let one : Within (read + 1) (read + 1) = (omega arith, omega (arith, room)) in
     file_within (read + 1) files INCLUDE_LIMIT found.0 found.1 (no_flat read) flat one (telling_with_ok files (read_file files INCLUDE_LIMIT found.0 found.1 (no_flat read)) flat a.2)
 
-pub one_more_read : (files : List File) (interfaces : List Interface) (mode : Mode) (path : Word) (m : Mention) (s t : Found) → with_file files interfaces mode path m s ≡ Ok t → FoundWithin (s.files_read + 1) t
+pub one_more_read : (files : List File) (interfaces : List Interface) (mode : Mode) (path : Word) (m : Mention) (s t : Found)
+    → with_file files interfaces mode path m s ≡ Ok t → FoundWithin (s.files_read + 1) t
 unfolding with_file
 one_more_read files interfaces mode path m s t from =
-    let a = both (free_for path m.at s) (λ (u : Found). flat_of files m u.files_read >>= λ flat. with_flat files interfaces mode path m.at flat (after_flat flat u)) t from in
+    let a = both (free_for path m.at s) (λ (u : Found). flat_of files m u.files_read
+    >>= λ flat. with_flat files interfaces mode path m.at flat (after_flat flat u)) t from in
     let u : Found = a.0 in
-    let b = both (flat_of files m u.files_read) (λ (flat : Flat). with_flat files interfaces mode path m.at flat (after_flat flat u)) t a.2 in
+    let b = both (flat_of files m u.files_read)
+    (λ (flat : Flat). with_flat files interfaces mode path m.at flat (after_flat flat u)) t a.2 in
     let same : s ≡ u = if_free s u (has_rules path s) (told_at m.at (mistakes.RulesTwice (path_text path))) a.1 in
-    let more : FoundWithin (u.files_read + 1) t = flat_within (u.files_read + 1) files interfaces mode path m.at b.0 (after_flat b.0 u) t (flat_of_within files m u.files_read b.0 b.1) b.2 in
+    let more : FoundWithin (u.files_read + 1) t = flat_within (u.files_read + 1) files interfaces mode path m.at b.0 (after_flat b.0 u) t
+    (flat_of_within files m u.files_read b.0 b.1) b.2 in
     subst (λ (v : Found). FoundWithin (v.files_read + 1) t) (sym same) more
 
 -- ---- loads
 
 -- past the last load nothing is done
-idle : (files : List File) (interfaces : List Interface) (mode : Mode) (n more : ℕ) (s : Found) → length s.waiting ≤ n → loads_from files interfaces mode n more s ≡ Ok s
+idle : (files : List File) (interfaces : List Interface) (mode : Mode) (n more : ℕ) (s : Found) → length s.waiting ≤ n
+    → loads_from files interfaces mode n more s ≡ Ok s
 unfolding loads_from
 idle files interfaces mode n zero s past = refl
 idle files interfaces mode n (suc more) s past =
-    ap (λ (w : Option Waiting). with_waiting files interfaces mode w s >>= λ t. loads_from files interfaces mode (n + 1) more t) (slice_get_past s.waiting n past) ∙ idle files interfaces mode (n + 1) more s (omega (arith, past))
+    ap (λ (w : Option Waiting). with_waiting files interfaces mode w s >>= λ t. loads_from files interfaces mode (n + 1) more t)
+    (slice_get_past s.waiting n past) ∙ idle files interfaces mode (n + 1) more s (omega (arith, past))
 
 some_there : (ws : List Waiting) (n : ℕ) → n < length ws → slice_get ws n ≡ None → ⊥
 some_there [] n within none = omega (arith, within)
 some_there (w ∷ ws) zero within none = cc
 some_there (w ∷ ws) (suc n) within none = some_there ws n (omega (arith, within)) none
 
-load_reads : (files : List File) (interfaces : List Interface) (mode : Mode) (m : Mention) (path : Option Word) (s t : Found) → with_load files interfaces mode m path s ≡ Ok t → FoundWithin (s.files_read + 1) t
+load_reads : (files : List File) (interfaces : List Interface) (mode : Mode) (m : Mention) (path : Option Word) (s t : Found)
+    → with_load files interfaces mode m path s ≡ Ok t → FoundWithin (s.files_read + 1) t
 load_reads files interfaces mode m None s t from = absurd (cc)
 load_reads files interfaces mode m (Some path) s t from = one_more_read files interfaces mode path m s t from
 
-waiting_reads : (files : List File) (interfaces : List Interface) (mode : Mode) (n : ℕ) (s t : Found) (w : Option Waiting) → n < length s.waiting → slice_get s.waiting n ≡ w → with_waiting files interfaces mode w s ≡ Ok t → FoundWithin (s.files_read + 1) t
+waiting_reads : (files : List File) (interfaces : List Interface) (mode : Mode) (n : ℕ) (s t : Found) (w : Option Waiting)
+    → n < length s.waiting → slice_get s.waiting n ≡ w → with_waiting files interfaces mode w s ≡ Ok t → FoundWithin (s.files_read + 1) t
 waiting_reads files interfaces mode n s t None within is from = absurd (some_there s.waiting n within is)
 waiting_reads files interfaces mode n s t (Some w) within is from = load_reads files interfaces mode w.mention w.path s t from
 
@@ -190,7 +201,8 @@ record InTurn (n : ℕ) (s : Found) : Type 0 where
   read : n < s.files_read
   room : s.files_read ≤ READING_LIMIT
 
-next_turn : (files : List File) (interfaces : List Interface) (mode : Mode) (n : ℕ) (s t : Found) → InTurn n s → n < length s.waiting → load_numbered files interfaces mode n s ≡ Ok t → InTurn (n + 1) t
+next_turn : (files : List File) (interfaces : List Interface) (mode : Mode) (n : ℕ) (s t : Found) → InTurn n s → n < length s.waiting
+    → load_numbered files interfaces mode n s ≡ Ok t → InTurn (n + 1) t
 next_turn files interfaces mode n s t turn within from =
     let more : FoundWithin (s.files_read + 1) t = waiting_reads files interfaces mode n s t (slice_get s.waiting n) within refl from in
     record { read = omega (arith, more.0, turn.read); room = more.1 }
@@ -199,41 +211,55 @@ same_behind : (r : Result Found Unread) (f g : Found → Result Found Unread) �
 same_behind (Ok t) f g same = same t refl
 same_behind (Err e) f g same = refl
 
-more_turns : (files : List File) (interfaces : List Interface) (mode : Mode) (n k extra : ℕ) (s : Found) → InTurn n s → READING_LIMIT ≤ n + k → loads_from files interfaces mode n (k + extra) s ≡ loads_from files interfaces mode n k s
+more_turns : (files : List File) (interfaces : List Interface) (mode : Mode) (n k extra : ℕ) (s : Found) → InTurn n s
+    → READING_LIMIT ≤ n + k → loads_from files interfaces mode n (k + extra) s ≡ loads_from files interfaces mode n k s
 unfolding loads_from
 more_turns files interfaces mode n zero extra s turn enough = absurd (omega (arith, turn.read, turn.room, enough))
 more_turns files interfaces mode n (suc k) extra s turn enough =
     let longer : suc k + extra ≡ suc (k + extra) = omega arith in
     ap (λ (m : ℕ). loads_from files interfaces mode n m s) longer
     ∙ elim (cases_lt n (length s.waiting)) [
-      | inl within ↦ same_behind (load_numbered files interfaces mode n s) (λ (t : Found). loads_from files interfaces mode (n + 1) (k + extra) t) (λ (t : Found). loads_from files interfaces mode (n + 1) k t)
-          (λ t from. more_turns files interfaces mode (n + 1) k extra t (next_turn files interfaces mode n s t turn within from) (omega (arith, enough)))
+      | inl within ↦ same_behind (load_numbered files interfaces mode n s)
+          (λ (t : Found). loads_from files interfaces mode (n + 1) (k + extra) t)
+          (λ (t : Found). loads_from files interfaces mode (n + 1) k t)
+          (λ t from. more_turns files interfaces mode (n + 1) k extra t (next_turn files interfaces mode n s t turn within from)
+          (omega (arith, enough)))
       | inr past ↦ idle files interfaces mode n (suc (k + extra)) s past ∙ sym (idle files interfaces mode n (suc k) s past)
     ]
 
-none_waits : (files : List File) (interfaces : List Interface) (mode : Mode) (n k : ℕ) (s t : Found) → InTurn n s → READING_LIMIT ≤ n + k → loads_from files interfaces mode n k s ≡ Ok t → length t.waiting < READING_LIMIT
+none_waits : (files : List File) (interfaces : List Interface) (mode : Mode) (n k : ℕ) (s t : Found) → InTurn n s → READING_LIMIT ≤ n + k
+    → loads_from files interfaces mode n k s ≡ Ok t → length t.waiting < READING_LIMIT
 unfolding loads_from
 none_waits files interfaces mode n zero s t turn enough from = absurd (omega (arith, turn.read, turn.room, enough))
 none_waits files interfaces mode n (suc k) s t turn enough from =
     elim (cases_lt n (length s.waiting)) [
       | inl within ↦
           let b = both (load_numbered files interfaces mode n s) (λ (u : Found). loads_from files interfaces mode (n + 1) k u) t from in
-          none_waits files interfaces mode (n + 1) k b.0 t (next_turn files interfaces mode n s b.0 turn within b.1) (omega (arith, enough)) b.2
+          none_waits files interfaces mode (n + 1) k b.0 t (next_turn files interfaces mode n s b.0 turn within b.1)
+          (omega (arith, enough)) b.2
       | inr past ↦
           let done : Ok s ≡ Ok t = sym (idle files interfaces mode n (suc k) s past) ∙ from in
           let same : s ≡ t = cc in
           subst (λ (u : Found). length u.waiting < READING_LIMIT) same (omega (arith, past, turn.read, turn.room))
     ]
 
-first_turn : (files : List File) (interfaces : List Interface) (mode : Mode) (base name : Word) (s : Found) → IsOfMain files interfaces mode base name s → InTurn 0 s
+first_turn : (files : List File) (interfaces : List Interface) (mode : Mode) (base name : Word) (s : Found)
+    → IsOfMain files interfaces mode base name s → InTurn 0 s
 first_turn files interfaces mode base name s from =
     let more : Within (0 + 1) s.files_read = one_more_read files interfaces mode base (main_file name) nothing_found s from in
     record { read = omega (arith, more.0); room = more.1 }
 
-pub more_loads : (files : List File) (interfaces : List Interface) (mode : Mode) (base name : Word) (s : Found) (more : ℕ) → IsOfMain files interfaces mode base name s → READING_LIMIT ≤ more → loads_from files interfaces mode 0 more s ≡ loads_from files interfaces mode 0 READING_LIMIT s
+pub more_loads : (files : List File) (interfaces : List Interface) (mode : Mode) (base name : Word) (s : Found) (more : ℕ)
+    → IsOfMain files interfaces mode base name s → READING_LIMIT ≤ more
+    → loads_from files interfaces mode 0 more s ≡ loads_from files interfaces mode 0 READING_LIMIT s
 more_loads files interfaces mode base name s more from enough =
     let split : more ≡ READING_LIMIT + (more - READING_LIMIT) = omega (arith, enough) in
-    ap (λ (m : ℕ). loads_from files interfaces mode 0 m s) split ∙ more_turns files interfaces mode 0 READING_LIMIT (more - READING_LIMIT) s (first_turn files interfaces mode base name s from) (omega arith)
+    ap (λ (m : ℕ). loads_from files interfaces mode 0 m s) split
+    ∙ more_turns files interfaces mode 0 READING_LIMIT (more - READING_LIMIT) s (first_turn files interfaces mode base name s from)
+    (omega arith)
 
-pub no_load_waits : (files : List File) (interfaces : List Interface) (mode : Mode) (base name : Word) (s t : Found) → IsOfMain files interfaces mode base name s → loads_from files interfaces mode 0 READING_LIMIT s ≡ Ok t → length t.waiting < READING_LIMIT
-no_load_waits files interfaces mode base name s t from loaded = none_waits files interfaces mode 0 READING_LIMIT s t (first_turn files interfaces mode base name s from) (omega arith) loaded
+pub no_load_waits : (files : List File) (interfaces : List Interface) (mode : Mode) (base name : Word) (s t : Found)
+    → IsOfMain files interfaces mode base name s → loads_from files interfaces mode 0 READING_LIMIT s ≡ Ok t
+    → length t.waiting < READING_LIMIT
+no_load_waits files interfaces mode base name s t from loaded = none_waits files interfaces mode 0 READING_LIMIT s t
+    (first_turn files interfaces mode base name s from) (omega arith) loaded

@@ -259,10 +259,13 @@ not_full : (spot : Spot) (s t : Found) (full : Bool) → (if full then Err (told
 not_full spot s t true from = absurd (cc)
 not_full spot s t false from = refl
 
-flat_once : (files : List File) (interfaces : List Interface) (mode : Mode) (path : Word) (spot : Spot) (flat : Flat) (s t : Found) → Once s → has_rules path s ≡ false → with_flat files interfaces mode path spot flat s ≡ Ok t → Once t
+flat_once : (files : List File) (interfaces : List Interface) (mode : Mode) (path : Word) (spot : Spot) (flat : Flat) (s t : Found) → Once s
+    → has_rules path s ≡ false → with_flat files interfaces mode path spot flat s ≡ Ok t → Once t
 unfolding with_flat
 flat_once files interfaces mode path spot flat s t known free from =
-    let a = both (telling files flat.macros (parsed_with interfaces flat.tokens mode (is_main path))) (λ (p : Parsed). room_for spot (with_notes files flat.macros p.notes s) >>= λ u. telling files flat.macros (with_tree files flat.macros path p.tree u)) t from in
+    let a = both (telling files flat.macros (parsed_with interfaces flat.tokens mode (is_main path)))
+    (λ (p : Parsed). room_for spot (with_notes files flat.macros p.notes s)
+    >>= λ u. telling files flat.macros (with_tree files flat.macros path p.tree u)) t from in
     let p : Parsed = a.0 in
     let noted : Found = with_notes files flat.macros p.notes s in
     let b = both (room_for spot noted) (λ (u : Found). telling files flat.macros (with_tree files flat.macros path p.tree u)) t a.2 in
@@ -276,28 +279,35 @@ free_one : (s t : Found) (has : Bool) (e : Unread) → (if has then Err e else O
 free_one s t true e from = absurd (cc)
 free_one s t false e from = refl
 
-file_once : (files : List File) (interfaces : List Interface) (mode : Mode) (path : Word) (m : Mention) (s t : Found) → Once s → with_file files interfaces mode path m s ≡ Ok t → Once t
+file_once : (files : List File) (interfaces : List Interface) (mode : Mode) (path : Word) (m : Mention) (s t : Found) → Once s
+    → with_file files interfaces mode path m s ≡ Ok t → Once t
 unfolding with_file
 file_once files interfaces mode path m s t known from =
-    let a = both (free_for path m.at s) (λ (u : Found). flat_of files m u.files_read >>= λ flat. with_flat files interfaces mode path m.at flat (after_flat flat u)) t from in
+    let a = both (free_for path m.at s) (λ (u : Found). flat_of files m u.files_read
+    >>= λ flat. with_flat files interfaces mode path m.at flat (after_flat flat u)) t from in
     let u : Found = a.0 in
-    let b = both (flat_of files m u.files_read) (λ (flat : Flat). with_flat files interfaces mode path m.at flat (after_flat flat u)) t a.2 in
+    let b = both (flat_of files m u.files_read)
+    (λ (flat : Flat). with_flat files interfaces mode path m.at flat (after_flat flat u)) t a.2 in
     let e : Unread = told_at m.at (mistakes.RulesTwice (path_text path)) in
     let same : s ≡ u = if_free s u (has_rules path s) e a.1 in
     let free : has_rules path s ≡ false = free_one s u (has_rules path s) e a.1 in
     let here : Once u = subst Once same known in
-    flat_once files interfaces mode path m.at b.0 (after_flat b.0 u) t (record { once = here.once; ruled = here.ruled; paths = here.paths; room = here.room })
+    flat_once files interfaces mode path m.at b.0 (after_flat b.0 u) t
+    (record { once = here.once; ruled = here.ruled; paths = here.paths; room = here.room })
     (subst (λ (v : Found). has_rules path v ≡ false) same free) b.2
 
-load_once : (files : List File) (interfaces : List Interface) (mode : Mode) (m : Mention) (path : Option Word) (s t : Found) → Once s → with_load files interfaces mode m path s ≡ Ok t → Once t
+load_once : (files : List File) (interfaces : List Interface) (mode : Mode) (m : Mention) (path : Option Word) (s t : Found) → Once s
+    → with_load files interfaces mode m path s ≡ Ok t → Once t
 load_once files interfaces mode m None s t known from = absurd (cc)
 load_once files interfaces mode m (Some path) s t known from = file_once files interfaces mode path m s t known from
 
-waiting_once : (files : List File) (interfaces : List Interface) (mode : Mode) (w : Option Waiting) (s t : Found) → Once s → with_waiting files interfaces mode w s ≡ Ok t → Once t
+waiting_once : (files : List File) (interfaces : List Interface) (mode : Mode) (w : Option Waiting) (s t : Found) → Once s
+    → with_waiting files interfaces mode w s ≡ Ok t → Once t
 waiting_once files interfaces mode None s t known from = let same : s ≡ t = cc in subst Once same known
 waiting_once files interfaces mode (Some w) s t known from = load_once files interfaces mode w.mention w.path s t known from
 
-loads_once : (files : List File) (interfaces : List Interface) (mode : Mode) (n more : ℕ) (s t : Found) → Once s → loads_from files interfaces mode n more s ≡ Ok t → Once t
+loads_once : (files : List File) (interfaces : List Interface) (mode : Mode) (n more : ℕ) (s t : Found) → Once s
+    → loads_from files interfaces mode n more s ≡ Ok t → Once t
 unfolding loads_from
 loads_once files interfaces mode n zero s t known from = let same : s ≡ t = cc in subst Once same known
 loads_once files interfaces mode n (suc more) s t known from =
@@ -321,21 +331,27 @@ committed_by s c true e is from = record { same = cc; line = leb-true (commit_le
 committed_by s c false e is from = absurd (cc)
 
 -- what was found before the commit
-found_once : (files : List File) (interfaces : List Interface) (mode : Mode) (base name : Word) (c : Conf) → resolved files interfaces mode base name ≡ Ok c → (s : Found) × Once s × Committed s c
+found_once : (files : List File) (interfaces : List Interface) (mode : Mode) (base name : Word) (c : Conf)
+    → resolved files interfaces mode base name ≡ Ok c → (s : Found) × Once s × Committed s c
 unfolding resolved
 found_once files interfaces mode base name c from =
-    let a = both (with_file files interfaces mode base (main_file name) nothing_found >>= loads_from files interfaces mode 0 READING_LIMIT) (committed (first_spot name)) c from in
+    let a = both (with_file files interfaces mode base (main_file name) nothing_found >>= loads_from files interfaces mode 0 READING_LIMIT)
+    (committed (first_spot name)) c from in
     let u : Found = a.0 in
-    let b = both (with_file files interfaces mode base (main_file name) nothing_found) (loads_from files interfaces mode 0 READING_LIMIT) u a.1 in
-    let all : Once u = loads_once files interfaces mode 0 READING_LIMIT b.0 u (file_once files interfaces mode base (main_file name) nothing_found b.0 nothing_once b.1) b.2 in
+    let b = both (with_file files interfaces mode base (main_file name) nothing_found)
+    (loads_from files interfaces mode 0 READING_LIMIT) u a.1 in
+    let all : Once u = loads_once files interfaces mode 0 READING_LIMIT b.0 u
+    (file_once files interfaces mode base (main_file name) nothing_found b.0 nothing_once b.1) b.2 in
     (u, all, committed_by u c (nat_le (commit_length u) LINE_LIMIT) (told_at (first_spot name) mistakes.LongCommit) refl a.2)
 
-pub tables_once : (files : List File) (interfaces : List Interface) (mode : Mode) (base name : Word) (c : Conf) → resolved files interfaces mode base name ≡ Ok c → AreOnce c.tables
+pub tables_once : (files : List File) (interfaces : List Interface) (mode : Mode) (base name : Word) (c : Conf)
+    → resolved files interfaces mode base name ≡ Ok c → AreOnce c.tables
 tables_once files interfaces mode base name c from =
     let f = found_once files interfaces mode base name c from in
     subst (λ (d : Conf). AreOnce d.tables) f.2.same f.1.once
 
-pub room_for_all : (files : List File) (interfaces : List Interface) (mode : Mode) (base name : Word) (c : Conf) → resolved files interfaces mode base name ≡ Ok c → HasRoom c
+pub room_for_all : (files : List File) (interfaces : List Interface) (mode : Mode) (base name : Word) (c : Conf)
+    → resolved files interfaces mode base name ≡ Ok c → HasRoom c
 room_for_all files interfaces mode base name c from =
     let f = found_once files interfaces mode base name c from in
     let s : Found = f.0 in

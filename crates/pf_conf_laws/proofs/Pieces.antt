@@ -7,7 +7,7 @@ use Rattle.pf_tokens.specs.declared.{place.Placed.Placed, token.Token.Token, tok
 use Rattle.pf_tokens.specs.declared.fault.Mistake.TheVariants.{CommentInValue, MacroInValue, NoMacroName}
 use Rattle.pf_tokens.specs.declared.lexing.Source.TheVariants as sources
 use Rattle.pf_tokens.specs.{Stops.faulty, Counting.counted_some, Laws.bytes_of}
-use Rattle.pf_tokens.specs.Lexing.{front, lex, token_of, skipped, comment, named_macro, macro_use, unjoined, word, a_quoted, a_symbol, symbol_more, quoted, word_checked, is_quote, is_letter, is_word_byte, is_text}
+use Rattle.pf_tokens.specs.Lexing.{front, lex, token_of, skipped, comment, named_macro, a_macro, macro_use, modifier_more, word, a_quoted, a_symbol, symbol_more, quoted, word_checked, is_quote, is_letter, is_word_byte, is_text}
 use Rattle.pf_tokens.proofs.Binds.{then_all, or_else, ok_all, err_all}
 use Rattle.pf_conf_laws.specs.Types.{second_of}
 use Rattle.pf_conf_laws.specs.Pieces.{is_passed, has_no_newline, may_be_passed, Piece, IsCut}
@@ -162,11 +162,12 @@ symbol_cut c cs f is =
 macro_cut : (c : Placed) (cs : List Placed) (f : Front) → (c.byte == 36) ≡ true → named_macro c (run is_letter cs) cs ≡ Ok f → InFront c cs f
 macro_cut c cs f dollar is =
     let name : List Placed = run is_letter cs in
-    let made : Front = token_of Macro c name (length name) in
-    let all : IsCut (c ∷ name) name = both (c ∷ []) name [] name (passed (c ∷ []) (dollar_passed c.byte dollar)) (taken name) in
-    let cut : IsCut (c ∷ take (length name) cs) name = subst (λ (t : List Placed). IsCut (c ∷ t) name) (sym (take_run is_letter cs)) all in
     or_else (InFront c cs) (length name == 0) f (err_all (InFront c cs) (faulty c.place NoMacroName) f)
-    (then_all (InFront c cs) (unjoined (run is_word_byte (drop (length name) cs))) (λ _. Ok made) f (λ u free last. ok_all (InFront c cs) made f (one_token Macro c cs name (length name) cut) last)) is
+    (then_all (InFront c cs) (modifier_more (run is_word_byte (drop (length name) cs))) (λ n. Ok (a_macro c cs (length name + n))) f
+    (λ n more last.
+    let text : List Placed = take (length name + n) cs in
+    let cut : IsCut (c ∷ text) text = both (c ∷ []) text [] text (passed (c ∷ []) (dollar_passed c.byte dollar)) (taken text) in
+    ok_all (InFront c cs) (a_macro c cs (length name + n)) f (one_token Macro c cs text (length name + n) cut) last)) is
 
 use_cut : (s : Source) (c : Placed) (cs : List Placed) (f : Front) → (c.byte == 36) ≡ true → macro_use s c cs ≡ Ok f → InFront c cs f
 use_cut sources.File c cs f dollar is = macro_cut c cs f dollar is

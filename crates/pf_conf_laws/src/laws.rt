@@ -40,7 +40,8 @@ pub fn a_rule_without_lists_is_one_rule()
 
 /// Of what a file means, with all that it loads, no table is filled twice.
 pub fn tables_are_filled_once()
-    ensures { (files : List File) (interfaces : List Interface) (mode : Mode) (base name : List ℕ) (c : Conf) → resolved files interfaces mode base name ≡ Ok c → AreOnce c.tables }
+    ensures { (files : List File) (interfaces : List Interface) (mode : Mode) (base name : List ℕ) (c : Conf) →
+        resolved files interfaces mode base name ≡ Ok c → AreOnce c.tables }
 {}
 
 /// After the commit of a load of a file that went through, its rulesets have exactly the file's rules, and its tables the file's entries,
@@ -54,7 +55,8 @@ pub fn a_file_is_loaded_exactly()
 /// One commit has room for all that a file means: the rules of each path and the tables of each path are 64 rulesets at most, and one line
 /// of 4,096 bytes names them with any tickets.
 pub fn one_commit_has_room()
-    ensures { (files : List File) (interfaces : List Interface) (mode : Mode) (base name : List ℕ) (c : Conf) → resolved files interfaces mode base name ≡ Ok c → HasRoom c }
+    ensures { (files : List File) (interfaces : List Interface) (mode : Mode) (base name : List ℕ) (c : Conf) →
+        resolved files interfaces mode base name ≡ Ok c → HasRoom c }
 {}
 
 /// All files that are mentioned by `load anchor` are read, if no fault is told: there are fewer of them than files that may be read.

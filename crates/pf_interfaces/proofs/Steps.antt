@@ -17,10 +17,12 @@ drop_item {X} xs i x in_list here =
 pub take_item : {X : Type 0} → (xs : List X) (i : ℕ) (x : X) → i < length xs → x ≡ get_or xs i x → take (i + 1) xs ≡ take i xs ++ x ∷ []
 take_item {X} xs i x in_list here = take_more xs i x in_list ∙ ap (λ (y : X). take i xs ++ y ∷ []) (sym here)
 
-pub map_item : {X Y : Type 0} → (f : X → Y) (xs : List X) (i : ℕ) (x : X) → i < length xs → x ≡ get_or xs i x → map f (take (i + 1) xs) ≡ map f (take i xs) ++ f x ∷ []
+pub map_item : {X Y : Type 0} → (f : X → Y) (xs : List X) (i : ℕ) (x : X) → i < length xs → x ≡ get_or xs i x
+    → map f (take (i + 1) xs) ≡ map f (take i xs) ++ f x ∷ []
 map_item {X} f xs i x in_list here = ap (λ (ys : List X). map f ys) (take_item xs i x in_list here) ∙ map-append f (take i xs) (x ∷ [])
 
-pub flat_item : {X Y : Type 0} → (f : X → List Y) (xs : List X) (i : ℕ) (x : X) → i < length xs → x ≡ get_or xs i x → flat_map f (take (i + 1) xs) ≡ flat_map f (take i xs) ++ f x
+pub flat_item : {X Y : Type 0} → (f : X → List Y) (xs : List X) (i : ℕ) (x : X) → i < length xs → x ≡ get_or xs i x
+    → flat_map f (take (i + 1) xs) ≡ flat_map f (take i xs) ++ f x
 flat_item {X} {Y} f xs i x in_list here =
     ap (λ (ys : List X). flat_map f ys) (take_item xs i x in_list here) ∙ flat_map-append f (take i xs) (x ∷ [])
     ∙ ap (λ (ys : List Y). flat_map f (take i xs) ++ ys) (append-nil (f x))
@@ -30,23 +32,28 @@ flat_item {X} {Y} f xs i x in_list here =
 drop_get : {X : Type 0} → (xs : List X) (i : ℕ) (d : X) → i < length xs → drop i xs ≡ get_or xs i d ∷ drop (i + 1) xs
 drop_get {X} xs i d in_list = drop-cons xs i d in_list ∙ ap (λ (n : ℕ). get_or xs i d ∷ drop n xs) (sym (add-one i))
 
-pub held_next : (parts : List (Bor Word)) (i : ℕ) (d : Bor Word) (hs : List Held) (h : Held) (whole : Option (List Held)) → whole ≡ all_held hs (texts (drop i parts)) → i < length parts → held_of (get_or parts i d).now ≡ Some h → whole ≡ all_held (hs ++ h ∷ []) (texts (drop (i + 1) parts))
+pub held_next : (parts : List (Bor Word)) (i : ℕ) (d : Bor Word) (hs : List Held) (h : Held) (whole : Option (List Held))
+    → whole ≡ all_held hs (texts (drop i parts)) → i < length parts → held_of (get_or parts i d).now ≡ Some h
+    → whole ≡ all_held (hs ++ h ∷ []) (texts (drop (i + 1) parts))
 unfolding all_held
 held_next parts i d hs h whole known within is =
     known ∙ ap (λ (ps : List (Bor Word)). all_held hs (texts ps)) (drop_get parts i d within) ∙ rw is refl
 
-pub held_none : (parts : List (Bor Word)) (i : ℕ) (d : Bor Word) (hs : List Held) (whole : Option (List Held)) → whole ≡ all_held hs (texts (drop i parts)) → i < length parts → held_of (get_or parts i d).now ≡ None → whole ≡ None
+pub held_none : (parts : List (Bor Word)) (i : ℕ) (d : Bor Word) (hs : List Held) (whole : Option (List Held))
+    → whole ≡ all_held hs (texts (drop i parts)) → i < length parts → held_of (get_or parts i d).now ≡ None → whole ≡ None
 unfolding all_held
 held_none parts i d hs whole known within is =
     known ∙ ap (λ (ps : List (Bor Word)). all_held hs (texts ps)) (drop_get parts i d within) ∙ rw is refl
 
-pub held_end : (parts : List (Bor Word)) (i : ℕ) (hs : List Held) (whole : Option (List Held)) → whole ≡ all_held hs (texts (drop i parts)) → length parts ≤ i → whole ≡ Some hs
+pub held_end : (parts : List (Bor Word)) (i : ℕ) (hs : List Held) (whole : Option (List Held)) → whole ≡ all_held hs (texts (drop i parts))
+    → length parts ≤ i → whole ≡ Some hs
 unfolding all_held
 held_end parts i hs whole known past = known ∙ ap (λ (ps : List (Bor Word)). all_held hs (texts ps)) (drop_all i parts past)
 
 -- ---- tokens, one after another
 
-pub token_skipped : (is : List Interface) (more : ℕ) (c : Context) (ts : List Token) → 0 < length ts → 0 < more → known_from is more c ts ≡ known_from is (more - 1) c (drop 1 ts)
+pub token_skipped : (is : List Interface) (more : ℕ) (c : Context) (ts : List Token) → 0 < length ts → 0 < more
+    → known_from is more c ts ≡ known_from is (more - 1) c (drop 1 ts)
 unfolding known_from
 token_skipped is more c [] some left = absurd (omega arith)
 token_skipped is zero c (t ∷ ts) some left = absurd (omega arith)
@@ -54,14 +61,19 @@ token_skipped is (suc more) c (t ∷ ts) some left =
     let same : more ≡ suc more - 1 = omega arith in
     ap (λ (n : ℕ). known_from is n c ts) same
 
-pub front_taken : (is : List Interface) (c : Context) (ts : List Token) (t d : Token) (m : Option Mention) (f : Front) (old : List Token) → 0 < length ts → t ≡ get_or ts 0 d → m ≡ mention_at is c ts → f ≡ front_by c t m → old ++ known_from is 0 c ts ≡ (old ++ f.tokens) ++ known_from is f.more f.context (drop 1 ts)
+pub front_taken : (is : List Interface) (c : Context) (ts : List Token) (t d : Token) (m : Option Mention) (f : Front) (old : List Token)
+    → 0 < length ts → t ≡ get_or ts 0 d → m ≡ mention_at is c ts → f ≡ front_by c t m
+    → old ++ known_from is 0 c ts ≡ (old ++ f.tokens) ++ known_from is f.more f.context (drop 1 ts)
 unfolding known_from front_of
 front_taken is c [] t d m f old some here mentions means = absurd (omega arith)
 front_taken is c (u ∷ us) t d m f old some here mentions means =
-    let same : front_by c u (mention_at is c (u ∷ us)) ≡ f = sym (means ∙ ap (λ (v : Token). front_by c v m) here ∙ ap (λ (n : Option Mention). front_by c u n) mentions) in
-    ap (λ (g : Front). old ++ (g.tokens ++ known_from is g.more g.context us)) same ∙ sym (append_assoc old f.tokens (known_from is f.more f.context us))
+    let same : front_by c u (mention_at is c (u ∷ us)) ≡ f = sym (means ∙ ap (λ (v : Token). front_by c v m) here
+    ∙ ap (λ (n : Option Mention). front_by c u n) mentions) in
+    ap (λ (g : Front). old ++ (g.tokens ++ known_from is g.more g.context us)) same
+    ∙ sym (append_assoc old f.tokens (known_from is f.more f.context us))
 
-pub no_token : (is : List Interface) (more : ℕ) (c : Context) (ts : List Token) (i : ℕ) (old : List Token) → length ts ≤ i → old ++ known_from is more c (drop i ts) ≡ old
+pub no_token : (is : List Interface) (more : ℕ) (c : Context) (ts : List Token) (i : ℕ) (old : List Token) → length ts ≤ i
+    → old ++ known_from is more c (drop i ts) ≡ old
 unfolding known_from
 no_token is more c ts i old past =
     ap (λ (us : List Token). old ++ known_from is more c us) (drop_all i ts past) ∙ append-nil old
@@ -94,7 +106,10 @@ front_deep c t None =
 
 -- ---- the next of a file's tokens
 
-pub next_token : (is : List Interface) (ts us : List Token) (i : ℕ) (old new : List Token) (more left : ℕ) (c d : Context) (whole : List Token) → us ≡ drop i ts → Goes is us old more c new left d → old ++ known_from is more c (drop i ts) ≡ whole → new ++ known_from is left d (drop (i + 1) ts) ≡ whole
+pub next_token : (is : List Interface) (ts us : List Token) (i : ℕ) (old new : List Token) (more left : ℕ) (c d : Context)
+    (whole : List Token) → us ≡ drop i ts → Goes is us old more c new left d → old ++ known_from is more c (drop i ts) ≡ whole
+    → new ++ known_from is left d (drop (i + 1) ts) ≡ whole
 next_token is ts us i old new more left c d whole same goes known =
-    ap (λ (vs : List Token). new ++ known_from is left d vs) (sym (drop-drop 1 i ts)) ∙ ap (λ (vs : List Token). new ++ known_from is left d (drop 1 vs)) (sym same)
+    ap (λ (vs : List Token). new ++ known_from is left d vs) (sym (drop-drop 1 i ts))
+    ∙ ap (λ (vs : List Token). new ++ known_from is left d (drop 1 vs)) (sym same)
     ∙ sym goes ∙ ap (λ (vs : List Token). old ++ known_from is more c vs) same ∙ known

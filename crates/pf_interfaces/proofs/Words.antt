@@ -26,16 +26,19 @@ one_host p false text = alone (token_at p Quoted text) refl
 
 each_host : (p : Place) (negated : Bool) (texts : List Text) → All IsOther (flat_map (host_at p negated) texts)
 each_host p negated [] = All-nil IsOther
-each_host p negated (text ∷ texts) = All-append IsOther (host_at p negated text) (flat_map (host_at p negated) texts) (one_host p negated text) (each_host p negated texts)
+each_host p negated (text ∷ texts) = All-append IsOther (host_at p negated text) (flat_map (host_at p negated) texts)
+    (one_host p negated text) (each_host p negated texts)
 
 as_list : (m : Mention) → All IsOther (symbol_at m.place (codes "{") ∷ hosts_at m ++ symbol_at m.place (codes "}") ∷ [])
 as_list m =
     All-append IsOther (symbol_at m.place (codes "{") ∷ hosts_at m) (symbol_at m.place (codes "}") ∷ [])
-    (All-cons IsOther (symbol_at m.place (codes "{")) (hosts_at m) refl (each_host m.place m.is_negated m.texts)) (alone (symbol_at m.place (codes "}")) refl)
+    (All-cons IsOther (symbol_at m.place (codes "{")) (hosts_at m) refl (each_host m.place m.is_negated m.texts))
+    (alone (symbol_at m.place (codes "}")) refl)
 
 in_list : (deep : ℕ) (m : Mention) → All IsOther (listed deep m)
 in_list deep m =
-    elim (deep == 0) as (λ b. All IsOther (if b then (symbol_at m.place (codes "{") ∷ hosts_at m) ++ symbol_at m.place (codes "}") ∷ [] else hosts_at m)) [
+    elim (deep == 0) as (λ b. All IsOther
+    (if b then (symbol_at m.place (codes "{") ∷ hosts_at m) ++ symbol_at m.place (codes "}") ∷ [] else hosts_at m)) [
       | true ↦ as_list m
       | false ↦ each_host m.place m.is_negated m.texts
     ]
@@ -47,15 +50,18 @@ in_front : (all : List Token) (c : Context) (t : Token) (m : Option Mention) →
 in_front all c t None among = All-cons (IsOf all) t [] (λ word. among) (All-nil (IsOf all))
 in_front all c t (Some m) among = All-weaker IsOther (IsOf all) (other_of all) (listed c.deep m) (in_list c.deep m)
 
-words_from : (all : List Token) (is : List Interface) (more : ℕ) (c : Context) (ts : List Token) → All (Contains all) ts → All (IsOf all) (known_from is more c ts)
+words_from : (all : List Token) (is : List Interface) (more : ℕ) (c : Context) (ts : List Token) → All (Contains all) ts
+    → All (IsOf all) (known_from is more c ts)
 unfolding known_from front_of
 words_from all is more c [] among = All-nil (IsOf all)
 words_from all is (suc more) c (t ∷ ts) among = words_from all is more c ts (All-tail (Contains all) t ts among)
 words_from all is zero c (t ∷ ts) among =
     let f = front_by c t (mention_at is c (t ∷ ts)) in
-    All-append (IsOf all) f.tokens (known_from is f.more f.context ts) (in_front all c t (mention_at is c (t ∷ ts)) (among 0 t (omega arith)))
+    All-append (IsOf all) f.tokens (known_from is f.more f.context ts)
+    (in_front all c t (mention_at is c (t ∷ ts)) (among 0 t (omega arith)))
     (words_from all is f.more f.context ts (All-tail (Contains all) t ts among))
 
 pub words_are : (is : List Interface) (ts : List Token) → HasTheWordsOf ts (with_addresses is ts)
 words_are [] ts t among word = among
-words_are (i ∷ is) ts t among word = All-contains (IsOf ts) (known_from (i ∷ is) 0 beginning ts) t (words_from ts (i ∷ is) 0 beginning ts (All-contains_itself ts)) among word
+words_are (i ∷ is) ts t among word = All-contains (IsOf ts) (known_from (i ∷ is) 0 beginning ts) t
+    (words_from ts (i ∷ is) 0 beginning ts (All-contains_itself ts)) among word

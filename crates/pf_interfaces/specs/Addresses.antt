@@ -1,5 +1,5 @@
--- The tokens of a file in which each mention of interfaces is the list of their addresses, as pfctl puts them there (pf.conf(5), PARAMETERS,
--- "from": "interface names .. are translated to the addresses").
+-- The tokens of a file in which each mention of interfaces is the list of their addresses, as pfctl puts them there (pf.conf(5),
+-- PARAMETERS, "from": "interface names .. are translated to the addresses").
 use Rattle.std.specs.Prelude.{◌≡◌, ℕ, zero, suc, ◌==◌, Bool, true, false, List, [], ◌∷◌, ◌++◌, map, find, drop, codes, Option, Some, None, if◌then◌else◌}
 use Rattle.std.specs.List.{flat_map}
 use Rattle.pf_tokens.specs.declared.{place.Place.Place, token.Token.Token, token.Kind.Kind, token.Kind.TheVariants.{Quoted, Symbol}}

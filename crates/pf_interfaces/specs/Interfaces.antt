@@ -11,9 +11,12 @@ use Rattle.pf_interfaces.specs.declared.interface.{Held.Held, Interface.Interfac
 abbrev pub before_slash : Word → Word
 before_slash text = take_while (λ b. not (b == 47)) text
 
+abbrev pub address_of : Held → Word
+address_of h = before_slash h.network
+
 -- given whether the address is one, and the network
 abbrev pub held_if : Word → Result PlainNet NoValue → Result PlainNet NoValue → Option Held
-held_if text (Ok a) (Ok n) = Some (record { address = before_slash text; network = text })
+held_if text (Ok a) (Ok n) = Some (record { network = text })
 held_if text (Ok a) (Err m) = None
 held_if text (Err m) n = None
 

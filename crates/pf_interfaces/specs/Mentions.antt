@@ -4,6 +4,7 @@ use Rattle.std.specs.{Prelude.{ℕ, ◌+◌, ◌*◌, ◌==◌, nat_le, ◌&&◌
 use Rattle.pf_tokens.specs.declared.{token.Token.Token}
 use Rattle.pf_tokens.specs.{Places.text_of, Words.{is_word, is_symbol, is_string}}
 use Rattle.pf_values.specs.Numbers.{Word}
+use Rattle.pf_interfaces.specs.Interfaces.{address_of}
 use Rattle.pf_interfaces.specs.declared.{interface.Held.Held, interface.Interface.Interface, mention.Mention.Mention}
 
 -- ---- what a text names
@@ -14,7 +15,7 @@ is_meant name i = bytes_eq name (codes "self") || bytes_eq i.name name
 
 abbrev pub host_of : Bool → Held → Word
 host_of true h = h.network
-host_of false h = h.address
+host_of false h = address_of h
 
 abbrev pub hosts_of : Word → Bool → Interface → List Word
 hosts_of name of_networks i = if is_meant name i then map (host_of of_networks) i.addresses else []

@@ -151,7 +151,8 @@ fn take_token(
 ) -> Result<Reading, AllocError>
     requires some { 0 < length tokens.now }
     requires deep { reading.context.deep + 1 < 2 ^ 64 }
-    ensures goes { IfOk result (λ left. Goes interfaces.now tokens.now known.old reading.more reading.context known.new left.more left.context) }
+    ensures goes { IfOk result (λ left.
+        Goes interfaces.now tokens.now known.old reading.more reading.context known.new left.more left.context) }
     ensures deep { IfOk result (λ left. left.context.deep ≤ reading.context.deep + 1) }
 {
     let context = reading.context;

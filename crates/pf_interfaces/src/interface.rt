@@ -1,7 +1,7 @@
 //! Interfaces as a user gives them.
 ghost use Rattle.std.specs.{Prelude.{◌≡◌, ◌<◌, ◌==◌, [], ◌++◌, length, map, IfOk, IfSome, position}, List.slice_split};
 ghost use Rattle.pf_form.specs.Form.Words.{texts};
-ghost use Rattle.pf_interfaces.specs.Interfaces.{before_slash, held_of, all_held, interface_of};
+ghost use Rattle.pf_interfaces.specs.Interfaces.{before_slash, address_of, held_of, all_held, interface_of};
 
 use pf_rule::Interface as Name;
 use pf_tokens::{Bytes, Items};
@@ -11,10 +11,17 @@ use std::alloc::{AllocError, Global};
 /// An address of an interface, and the network that it is in. Both are texts of networks, as pf_values reads them.
 #[derive(Debug, Drop)]
 pub struct Held {
-    /// The address alone, as `192.0.2.1`.
-    pub address: Bytes,
     /// The address with its network's length, as `192.0.2.1/24`.
     pub network: Bytes,
+}
+
+impl Held {
+    /// The address alone, as `192.0.2.1`.
+    pub fn address(&self) -> &[u8]
+        ensures { result.now ≡ address_of self.now }
+    {
+        before_slash(self.network.as_slice())
+    }
 }
 
 /// An interface with its addresses, in the order in which they were given.
@@ -46,10 +53,8 @@ fn held_of(alloc: Global, text: &[u8]) -> Result<Option<Held>, AllocError>
     if net(address).is_err() || net(text).is_err() {
         return Ok(None);
     }
-    Ok(Some(Held {
-        address: Items::copied(alloc, address)?,
-        network: Items::copied(alloc, text)?,
-    }))
+    let network = Items::copied(alloc, text)?;
+    Ok(Some(Held { network }))
 }
 
 /// The parts of a text between commas.

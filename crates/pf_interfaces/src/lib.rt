@@ -6,9 +6,9 @@
 //!
 //! The crate asks no machine for its interfaces. An interface that isn't given stays a name, which pf_parse refuses as a host.
 //!
-//! Read `specs/Interfaces.antt` first, then `specs/Mentions.antt`, `specs/Hosts.antt` and `specs/Addresses.antt`. Proved: each function gives
-//! what its definition says. Laws: without interfaces the tokens stay as they are (`without_interfaces_nothing_changes`); no word without
-//! quotes is added to a file (`words_are_the_files`).
+//! Read `specs/Interfaces.antt` first, then `specs/Mentions.antt`, `specs/Hosts.antt` and `specs/Addresses.antt`. Proved: each function
+//! gives what its definition says. Laws: without interfaces the tokens stay as they are (`without_interfaces_nothing_changes`); no word
+//! without quotes is added to a file (`words_are_the_files`).
 #![tactic(auto)]
 
 mod addresses;

@@ -32,7 +32,7 @@ fn host_of(alloc: Global, of_networks: bool, held: &Held) -> Result<Bytes, Alloc
     if of_networks {
         Items::copied(alloc, held.network.as_slice())
     } else {
-        Items::copied(alloc, held.address.as_slice())
+        Items::copied(alloc, held.address())
     }
 }
 

@@ -11,11 +11,17 @@ pub asks_none : {A E : Type 0} (r : Result A E) (old : Option (List ℕ)) → As
 asks_none (Ok u) old = record { asked = []; sent = Appends-none old }
 asks_none (Err e) old = record { asked = []; sent = no_front old [] }
 
-pub asks_one : {A E : Type 0} (r : Result A E) (old new : Option (List ℕ)) (a : Asked) → Writes r old new (asked_text a) → AsksOnly r old new
-asks_one r old new a sent = record { asked = a ∷ []; sent = subst (λ (text : List ℕ). Writes r old new text) (sym (append-nil (asked_text a))) sent }
+pub asks_one : {A E : Type 0} (r : Result A E) (old new : Option (List ℕ)) (a : Asked) → Writes r old new (asked_text a)
+    → AsksOnly r old new
+asks_one r old new a sent = record {
+  asked = a ∷ [];
+  sent = subst (λ (text : List ℕ). Writes r old new text)
+      (sym (append-nil (asked_text a))) sent;
+}
 
 -- what is sent behind what went through
-pub asks_then : {A B D E : Type 0} (u : A) (r : Result B E) (old mid new : Option (List ℕ)) → AsksOnly {A = A} {E = D} (Ok u) old mid → AsksOnly r mid new → AsksOnly r old new
+pub asks_then : {A B D E : Type 0} (u : A) (r : Result B E) (old mid new : Option (List ℕ)) → AsksOnly {A = A} {E = D} (Ok u) old mid
+    → AsksOnly r mid new → AsksOnly r old new
 asks_then u r old mid new first second = record {
   asked = first.asked ++ second.asked;
   sent = subst (λ (text : List ℕ). Writes r old new text) (sym (flat_map-append asked_text first.asked second.asked))
@@ -23,9 +29,11 @@ asks_then u r old mid new first second = record {
 }
 
 -- what was sent doesn't depend on what came of it
-pub asks_so : {A B D E : Type 0} (u : A) (v : B) (old new : Option (List ℕ)) → AsksOnly {A = A} {E = D} (Ok u) old new → AsksOnly {A = B} {E = E} (Ok v) old new
+pub asks_so : {A B D E : Type 0} (u : A) (v : B) (old new : Option (List ℕ)) → AsksOnly {A = A} {E = D} (Ok u) old new
+    → AsksOnly {A = B} {E = E} (Ok v) old new
 asks_so u v old new a = record { asked = a.asked; sent = a.sent }
 
-pub asks_failed : {A B D E : Type 0} (e : D) (r : Result B E) (why : E → Type 0) (old new : Option (List ℕ)) → IsErrAnd r why → AsksOnly {A = A} {E = D} (Err e) old new → AsksOnly r old new
+pub asks_failed : {A B D E : Type 0} (e : D) (r : Result B E) (why : E → Type 0) (old new : Option (List ℕ)) → IsErrAnd r why
+    → AsksOnly {A = A} {E = D} (Err e) old new → AsksOnly r old new
 asks_failed e (Ok u) why old new failed a = absurd failed
 asks_failed e (Err f) why old new failed a = record { asked = a.asked; sent = a.sent }

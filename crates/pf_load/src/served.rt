@@ -139,7 +139,8 @@ impl Known {
 /// The server isn't asked to change anything: nothing is sent but `show rules PATH` and `show tables PATH`. What is changed there meanwhile
 /// may be seen in part.
 ///
-/// The faults are those of [`load`](crate::load). `Fault::Wild`: an anchor rule leads to all rulesets within a path, whose names no line shows.
+/// The faults are those of [`load`](crate::load). `Fault::Wild`: an anchor rule leads to all rulesets within a path, whose names no line
+/// shows.
 pub fn served_conf<B: BufRead, W: Write>(
     alloc: Global,
     server: &mut W,

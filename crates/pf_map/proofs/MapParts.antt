@@ -1,5 +1,5 @@
 -- A map in parts: what is read and replaced in the part of a key's place is read and replaced in the map.
-use Rattle.std.proofs.Common.{◌≡◌, ℕ, zero, suc, ◌-◌, ◌<◌, ◌≤◌, T, true, false, not, cond, List, [], ◌∷◌, ◌++◌, length, take, drop, get_or, Option, Some, None, option_map, refl, sym, ap, subst, ◌∙◌, append_assoc, append-nil, arith, true≢false, MatchOption, map}
+use Rattle.std.proofs.Common.{◌≡◌, ℕ, zero, suc, ◌-◌, ◌<◌, ◌≤◌, T, true, false, not, cond, List, [], ◌∷◌, ◌++◌, length, take, drop, get_or, Option, Some, None, option_map, refl, sym, ap, subst, ◌∙◌, append_assoc, append-nil, arith, map}
 use Rattle.std.specs.declared.cmp.Ordering.{Ordering}
 use Rattle.std.specs.declared.cmp.Ordering.TheVariants.{Less, Equal, Greater}
 use Rattle.std.specs.Cmp.{IsTotalOrder}
@@ -10,8 +10,8 @@ use Rattle.std.specs.Ordering.{ordering_reverse, eq_by_cmp, is_eq, is_lt}
 use Rattle.std.proofs.lemmas.List.{get_or_default, map-append, take-append-drop}
 use Rattle.std.proofs.lemmas.List.Concat.{flat_map-append}
 use Rattle.std.proofs.lemmas.List.Elements.{filter-append}
-use Rattle.pf_map.specs.Maps.{without, with_value, or_else, entry_at, at_or_before}
-use Rattle.pf_map.specs.MapParts.{joined, part_before, starts_behind, IsPlace, IsUpTo}
+use Rattle.pf_map.specs.Maps.{without, with_value, entry_at}
+use Rattle.pf_map.specs.MapParts.{joined, part_before, starts_behind, IsPlace}
 use Rattle.pf_map.proofs.Tests.{less_of, parts_of, both_of}
 
 -- while a place is sought it is between these two
@@ -91,10 +91,6 @@ module _ {K X : Type 0} {R : K → K → Ordering} (o : IsTotalOrder R) (k : K) 
   find_before [] b at = ap (find R k) (sym (append-nil b)) ∙ find_apart Less b [] refl at
   find_before (e ∷ m) b at = ap (λ z. cond (eq_by_cmp R k e.0) (Some e.1) z) (find_before m b at)
 
-  none_behind : (b : List (K × X)) → AllAt Less b → at_or_before R k b ≡ None
-  none_behind [] at = refl
-  none_behind (e ∷ b) at = rw (none_behind b at.1, at.0) refl
-
   -- ---- a map in order
 
   below_at : (x : K) (a : List (K × X)) (e : K × X) (es : List (K × X)) → T (below_all R x (a ++ e ∷ es)) → R x e.0 ≡ Less
@@ -164,26 +160,6 @@ module _ {K X : Type 0} {R : K → K → Ordering} (o : IsTotalOrder R) (k : K) 
   read_at parts n part some within is at sorted =
       ap (λ z. option_map (λ v. (k, v)) z) (ap (find R k) (at_part parts (n - 1) part within is ∙ sym (before_is parts n some)) ∙ sym (read_there parts n at sorted))
 
-  -- ---- the part of the last entry that isn't behind a key
-
-  pub none_up_to : (parts : List (List (K × X))) (i : ℕ) (part : List (K × X)) → i < length parts → part ≡ get_or parts i part → IsPlace R k parts (suc i) → T (is_sorted R (joined parts)) →
-      starts_behind R k part ≡ true → at_or_before R k (joined parts) ≡ None
-  none_up_to parts i part within is at sorted starts = first i (subst (λ p. starts_behind R k p ≡ true) (at_part parts i part within is) starts) at where
-    first : (i : ℕ) → starts_behind R k (get_or parts i []) ≡ true → IsPlace R k parts (suc i) → at_or_before R k (joined parts) ≡ None
-    first zero behind at = none_behind (joined parts) (parts_behind parts zero (λ _. behind) sorted)
-    first (suc j) behind at = absurd (true≢false (sym behind ∙ (at.here (omega arith)).1))
-
-  pub up_to_here : (parts : List (List (K × X))) (i : ℕ) (part : List (K × X)) → i < length parts → part ≡ get_or parts i part → IsPlace R k parts (suc i) → T (is_sorted R (joined parts)) →
-      0 < length part → starts_behind R k part ≡ false → IsUpTo R k part (joined parts)
-  up_to_here parts i part within is at sorted some starts = record {
-    front = joined (take i parts);
-    back = joined (drop (suc i) parts);
-    around = around parts i ∙ ap (λ p. joined (take i parts) ++ (p ++ joined (drop (suc i) parts))) (sym (at_part parts i part within is));
-    some = some;
-    starts = starts;
-    behind = none_behind (joined (drop (suc i) parts)) (parts_behind parts (suc i) at.next sorted);
-  }
-
 -- ---- each part is in order
 
 module _ {K X : Type 0} (R : K → K → Ordering) where
@@ -207,48 +183,6 @@ module _ {K X : Type 0} (R : K → K → Ordering) where
 
   pub sorted_at : (parts : List (List (K × X))) (i : ℕ) (part : List (K × X)) → i < length parts → part ≡ get_or parts i part → T (is_sorted R (joined parts)) → T (is_sorted R part)
   sorted_at parts i part within is sorted = subst (λ z. T (is_sorted R z)) (sym (at_part parts i part within is)) (part_sorted parts i sorted)
-
--- ---- a page within a part
-
-neither : {A : Type 0} (x y : Option A) → or_else x y ≡ None → (x ≡ None) × (y ≡ None)
-neither None y e = (refl, e)
-neither (Some x) y e = absurd (cc (e))
-
-module _ {K X : Type 0} (R : K → K → Ordering) (k : K) where
-  all_behind_both : (a b : List (K × X)) → at_or_before R k a ≡ None → at_or_before R k b ≡ None → at_or_before R k (a ++ b) ≡ None
-  all_behind_both [] b left right = right
-  all_behind_both (e ∷ a) b left right =
-      let parts = neither (at_or_before R k a) (cond (not (is_lt (R k e.0))) (Some e) None) left in
-      rw (all_behind_both a b parts.0 right) parts.1
-
-  up_to_within : (page part es : List (K × X)) → IsUpTo R k part es → IsUpTo R k page part → IsUpTo R k page es
-  up_to_within page part es outer inner = record {
-    front = outer.front ++ inner.front;
-    back = inner.back ++ outer.back;
-    around =
-        outer.around ∙ ap (λ z. outer.front ++ (z ++ outer.back)) inner.around
-        ∙ ap (λ z. outer.front ++ z) (append_assoc inner.front (page ++ inner.back) outer.back ∙ ap (λ z. inner.front ++ z) (append_assoc page inner.back outer.back))
-        ∙ sym (append_assoc outer.front inner.front (page ++ (inner.back ++ outer.back)));
-    some = inner.some;
-    starts = inner.starts;
-    behind = all_behind_both inner.back outer.back inner.behind outer.behind;
-  }
-
-  -- a part that doesn't start behind a key has an entry that isn't
-  one_is_up_to : (part : List (K × X)) → 0 < length part → starts_behind R k part ≡ false → at_or_before R k part ≡ None → ⊥
-  one_is_up_to [] some starts none = absurd (omega arith)
-  one_is_up_to (e ∷ part) some starts none =
-      let gone : cond (not (is_lt (R k e.0))) (Some e) None ≡ None = (neither (at_or_before R k part) (cond (not (is_lt (R k e.0))) (Some e) None) none).1 in
-      let own : Some e ≡ None = rw starts at gone in absurd (cc (own))
-
-  -- the page within the part is the one in the map
-  pub page_up_to : {P : Type 0} (entries : P → List (K × X)) (part es : List (K × X)) (found : Option P) → IsUpTo R k part es →
-      MatchOption found (at_or_before R k part ≡ None) (λ p. IsUpTo R k (entries p) part) → MatchOption found (at_or_before R k es ≡ None) (λ p. IsUpTo R k (entries p) es)
-  page_up_to entries part es None outer none = absurd (one_is_up_to part outer.some outer.starts none)
-  page_up_to entries part es (Some p) outer inner = up_to_within (entries p) part es outer inner
-
-  pub sorted_up_to : (part es : List (K × X)) → IsUpTo R k part es → T (is_sorted R es) → T (is_sorted R part)
-  sorted_up_to part es at sorted = sorted_front R part at.back (sorted_rest R at.front (part ++ at.back) (subst (λ z. T (is_sorted R z)) at.around sorted))
 
 -- ---- parts in two
 

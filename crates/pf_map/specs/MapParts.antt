@@ -1,7 +1,6 @@
 -- A map in parts, which are lists of entries that follow one another, and the part where a key's entry is.
 use Rattle.std.specs.{Prelude.{◌≡◌, ℕ, zero, suc, ◌<◌, ◌≤◌, Bool, true, false, List, [], ◌∷◌, length, get_or, map, flat_map, ◌++◌, Option, Some, None}, Ordering.is_lt}
 use Rattle.std.specs.declared.cmp.Ordering.{Ordering}
-use Rattle.pf_map.specs.Maps.{at_or_before}
 
 -- the entries of parts one after the other
 abbrev pub joined : {E : Type 0} → List (List E) → List E
@@ -28,18 +27,3 @@ pub record IsPlace {K X : Type 0} (R : K → K → Ordering) (k : K) (parts : Li
   pub some : 0 < length parts → 0 < n
   pub here : 1 < n → (0 < length (part_before n parts)) × (starts_behind R k (part_before n parts) ≡ false)
   pub next : n < length parts → starts_behind R k (get_or parts n []) ≡ true
-
--- a page of a map that has its last entry that isn't behind a key: all entries of later pages are
-pub record IsUpTo {K X : Type 0} (R : K → K → Ordering) (k : K) (page es : List (K × X)) : Type 0 where
-  pub front : List (K × X)
-  pub back : List (K × X)
-  pub around : es ≡ front ++ (page ++ back)
-  pub some : 0 < length page
-  pub starts : starts_behind R k page ≡ false
-  pub behind : at_or_before R k back ≡ None
-
--- what a page keeps beside its entries follows from them; `pair` says which pair an entry is
-pub record FollowsFrom {E K X B : Type 0} (pair : E → K × X) (follows : B → List E → Type 0) (b : B) (page : List (K × X)) : Type 0 where
-  pub entries : List E
-  pub pairs : map pair entries ≡ page
-  pub follows_from : follows b entries

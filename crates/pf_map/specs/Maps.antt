@@ -1,16 +1,6 @@
 -- Finite maps, as the list of their entries in the order of their keys. `put`, `where_key`, `find` and `is_sorted` are std's.
-use Rattle.std.specs.{Prelude.{◌≡◌, T, not, cond, List, [], ◌∷◌, Bool, Option, Some, None}, FinMap.{find, put, is_sorted}, FinMap.Entries.where_key, Option.option_map, Ordering.{eq_by_cmp, is_lt}}
+use Rattle.std.specs.{Prelude.{◌≡◌, T, not, List, Option, Some, None}, FinMap.{find, put, is_sorted}, FinMap.Entries.where_key, Option.option_map, Ordering.eq_by_cmp}
 use Rattle.std.specs.declared.cmp.Ordering.{Ordering}
-
--- this, or else the other
-abbrev pub or_else : {X : Type 0} → Option X → Option X → Option X
-or_else None y = y
-or_else (Some x) y = Some x
-
--- the last of a list that passes a test
-abbrev pub last_where : {X : Type 0} → (X → Bool) → List X → Option X
-last_where test [] = None
-last_where test (x ∷ xs) = or_else (last_where test xs) (cond (test x) (Some x) None)
 
 module _ {K X : Type 0} (R : K → K → Ordering) where
   -- the map with no value at a key
@@ -29,10 +19,6 @@ module _ {K X : Type 0} (R : K → K → Ordering) where
   -- the entry at a key
   abbrev pub entry_at : K → List (K × X) → Option (K × X)
   entry_at k es = option_map (λ v. (k, v)) (find R k es)
-
-  -- the last entry that isn't behind a key
-  abbrev pub at_or_before : K → List (K × X) → Option (K × X)
-  at_or_before k es = last_where (λ e. not (is_lt (R k e.0))) es
 
 -- entries in the order of their keys, none of them twice; each is then what is found at its key, and so has a value that is kept
 pub record IsMap {K X : Type 0} (R : K → K → Ordering) (kept : X → Option X) (es : List (K × X)) : Type 0 where

@@ -1,7 +1,7 @@
 //! A level of the tree: parts that follow one another, in one page.
-ghost use Rattle.std.specs.Prelude.{◌≡◌, ◌<◌, ◌≤◌, T, [], ◌++◌, length, take, drop, IfOk, OnOk, IfSome, None, MatchOption};
+ghost use Rattle.std.specs.Prelude.{◌≡◌, ◌<◌, ◌≤◌, T, [], ◌++◌, length, take, drop, IfOk, OnOk, IfSome, None};
 ghost use Rattle.std.specs.{FinMap.is_sorted, Option.{option_map, option_map_or}};
-ghost use Rattle.pf_map.specs.{Maps.{with_value, entry_at, at_or_before}, MapParts.{joined, IsPlace, IsUpTo}, Pieces.all_of};
+ghost use Rattle.pf_map.specs.{Maps.{with_value, entry_at}, MapParts.{joined, IsPlace}, Pieces.all_of};
 
 use crate::entry::Holder;
 use crate::page::{Page, each_alone};
@@ -84,27 +84,6 @@ pub(crate) fn find_in<'a, K: Key, V: Drop, E: Holder<K, V>, P: Part<K, V, E>, Q:
         return None;
     }
     slots[place - 1].part().find(hint, sought)
-}
-
-/// The part with the last entry that isn't behind a key among parts that follow one another; None where all entries are.
-pub(crate) fn part_up_to<'a, K: Key, V: Drop, E: Holder<K, V>, P: Part<K, V, E>, Q: Sought<K>>(
-    slots: &'a [Slot<K, V, E, P>],
-    hint: u64,
-    sought: &Q,
-) -> Option<&'a P>
-    requires hinted { hint ≡ K.hint (Q.key sought.now) }
-    requires sorted { T (is_sorted K.order (joined slots.now)) }
-    ensures { MatchOption result (at_or_before K.order (Q.key sought.now) (joined slots.now) ≡ None) (λ p. IsUpTo K.order (Q.key sought.now) (P.entries p.now) (joined slots.now)) }
-{
-    let place = place_in(slots, hint, sought);
-    if place == 0 {
-        return None;
-    }
-    let slot = &slots[place - 1];
-    if slot.starts_behind(hint, sought) {
-        return None;
-    }
-    Some(slot.part())
 }
 
 // The same parts in a page of their own.

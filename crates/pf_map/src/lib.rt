@@ -10,7 +10,7 @@
 //!
 //! `entry` is what stands at a key, and `weight` what entries weigh together. A tree consists of parts
 //! (`part`), which a `level` holds in slots (`slot`), and a `page` is a part that holds entries; `pieces` is what becomes of a part that
-//! was changed, `raised` makes levels over parts that are there already, and `beside` keeps with a page what follows from its entries.
+//! was changed, and `raised` makes levels over parts that are there already.
 //! `tree_map` is the tree and `entries` goes over it, or `each` where an entry is a key and the value there; `pairs` are trees of such
 //! entries, on which `paged_map` and `index` stand, the latter also on `flows`, trees of the same entries under their second keys
 //! (`by_flow`). `laws` has what follows from the definitions.
@@ -20,7 +20,6 @@
 //! growth was refused.
 #![tactic(auto)]
 
-mod beside;
 mod by_flow;
 mod each;
 mod entries;
@@ -39,7 +38,6 @@ mod slot;
 mod tree_map;
 mod weight;
 
-pub use beside::{Beside, PageBeside};
 pub use by_flow::Flowed;
 pub use each::Each;
 pub use entries::Entries;

@@ -1,11 +1,11 @@
 //! Maps in trees.
 ghost use Rattle.std.specs.Prelude.{◌≡◌, ◌+◌, ◌<◌, T, [], length, map, cond, true, Some, None, is_some, IfOk, IfSome, MatchOption, nat_lt};
 ghost use Rattle.std.specs.{Option.option_map, FinMap.{find, is_sorted}};
-ghost use Rattle.pf_map.specs.{Maps.{with_value, without, entry_at, at_or_before}, MapParts.{joined, first_of, IsUpTo}};
+ghost use Rattle.pf_map.specs.{Maps.{with_value, without, entry_at}, MapParts.{joined, first_of}};
 
 use crate::entries::Entries;
 use crate::entry::Holder;
-use crate::level::{Leaf, Level, Middle, find_in, part_up_to, replaced_in};
+use crate::level::{Leaf, Level, Middle, find_in, replaced_in};
 use crate::page::Page;
 use crate::part::Part;
 use crate::raised::{leaves, middles};
@@ -33,8 +33,7 @@ fn recount(count: usize, had: bool, has: bool) -> Result<usize, AllocError>
 /// A finite map: entries in the order of their keys, no key twice. Contracts see it as the list.
 ///
 /// The entries stand in a tree of three levels, so that a changed map shares with an old one all pages but the three on the way to
-/// the entry that changed; pages that no other map holds are changed in place. A page of entries may keep beside them what follows
-/// from them (`PageBeside`).
+/// the entry that changed; pages that no other map holds are changed in place.
 pub struct TreeMap<K: Key, V: Drop, E: Holder<K, V>, L: Page<K, V, E> = Leaf<K, V, E>> {
     top: Option<Top<K, V, E, L>>,
     count: usize,
@@ -122,15 +121,6 @@ impl<K: Key, V: Drop, E: Holder<K, V>, L: Page<K, V, E>> TreeMap<K, V, E, L> {
             Some(top) => Some(top.first()),
             None => None,
         }
-    }
-
-    /// The page with the last entry that isn't behind a key; None where all entries are.
-    pub fn page_up_to<Q: Sought<K>>(&self, sought: &Q) -> Option<&L>
-        ensures { MatchOption result (at_or_before K.order (Q.key sought.now) self.now ≡ None) (λ p. IsUpTo K.order (Q.key sought.now) (L.entries p.now) self.now) }
-    {
-        let hint = sought.hint();
-        let middle = part_up_to(self.slots(), hint, sought)?;
-        part_up_to(middle.slots(), hint, sought)
     }
 
     /// The same map, with one owner more. No page is copied. `AllocError`: nothing is made.

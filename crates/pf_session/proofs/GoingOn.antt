@@ -5,7 +5,7 @@ use Rattle.pf_core.specs.{Durable.Changes.PlainDurable, Worlds.Setting}
 use Rattle.pf_book.specs.Receipts.{PlainReceipt}
 use Rattle.pf_session.specs.declared.{line_engine.fault.EngineFault.EngineFault, line_engine.left_off.LeftOff.LeftOff, line_engine.left_off.LeftOff.TheVariants.{Ended, Paused}}
 use Rattle.pf_session.specs.declared.line_engine.fault.EngineFault.TheVariants as fault
-use Rattle.pf_session.specs.{Laws.GoingOn.{BeginsAlone, GoesOnElsewhere, IsWhole, StreamsBeginAlone, StreamsGoOnElsewhere}, LineEngine.{Intakes.{EndsWith, LeavesOff, PlainIntake}, Lines.{IsCut, IsLine, ended, last_line, newline}, Sessions.{Answered, CutOff, SessionEnds}}, Server.{Parts.{Follows, IsStreamPart, Resumes, TakesAlong, TakesPartsAlong, Within, within}, Sittings.Sitting, Streams.{ArePieces, IsStreamFrom, Piece, StreamEnds, StreamSoFar, Takes, parts_in}}}
+use Rattle.pf_session.specs.{Laws.GoingOn.{BeginsAlone, GoesOnElsewhere, GoesOnHere, IsWhole, StreamsBeginAlone, StreamsGoOnElsewhere}, LineEngine.{Intakes.{EndsWith, HasBegun, IsPart, LeavesOff, PlainIntake}, Lines.{IsCut, IsLine, ended, last_line, newline}, Sessions.{Answered, CutOff, SessionEnds}}, Server.{Parts.{Follows, IsStreamPart, Resumes, TakesAlong, TakesPartsAlong, Within, within}, Sittings.Sitting, Streams.{ArePieces, IsStreamFrom, Piece, StreamEnds, StreamSoFar, Takes, parts_in}}}
 use Rattle.pf_session.proofs.Moving.{answered-as, cut_off-as, part-as}
 
 -- ---- whatever is answered
@@ -42,6 +42,51 @@ module _ {S L : Type 0} (Step : PlainDurable → Setting → S → S → List L 
     front = q.front;
   }
 
+  -- in the same opening
+  module _ (join : (a b c : S) (xs ys : List L) (s t : List ℕ) → Step base setting a b xs s → Step base setting b c ys t → Step base setting a c (xs ++ ys) (s ++ t)) where
+    along-here : (a left : S) (c : Within S) (xs ys : List L) (s t : List ℕ) → Step base setting a left xs s → TakesAlong Step Next (within base setting left) c ys t
+        → TakesAlong Step Next (within base setting a) c (xs ++ ys) (s ++ t)
+    along-here a left c xs ys s t step ([], (same, kept, more)) = ([], (same, kept, join a left c.here xs ys s t step more))
+    along-here a left c xs ys s t step (begun ∷ others, (mid, first, rest, said, told, more, next, goes, items, texts)) = (
+      begun ∷ others,
+      (
+        mid,
+        xs ++ first,
+        rest,
+        s ++ said,
+        told,
+        join a left mid xs first s said step more,
+        next,
+        goes,
+        ap (λ (l : List L). xs ++ l) items ∙ sym (append_assoc xs first rest),
+        ap (λ (l : List ℕ). s ++ l) texts ∙ sym (append_assoc s said told),
+      ),
+    )
+
+    pub answered-here : {xs ys : List L} {a left : S} {c : Within S} {h i j : Option (List ℕ)} → Answered (Step base setting) xs a left h i
+        → Answered (TakesAlong Step Next) ys (within base setting left) c i j → Answered (TakesAlong Step Next) (xs ++ ys) (within base setting a) c h j
+    answered-here {xs} {ys} {a} {left} {c} {h} {i} {j} p q = record {
+      text = p.text ++ q.text;
+      served = along-here a left c xs ys p.text q.text p.served q.served;
+      written = Appends-trans h i j p.text q.text p.written q.written;
+    }
+
+    pub cut-here : {xs ys : List L} {a left : S} {c : Within S} {h i j : Option (List ℕ)} → Answered (Step base setting) xs a left h i
+        → CutOff (TakesAlong Step Next) ys (within base setting left) c i j → CutOff (TakesAlong Step Next) (xs ++ ys) (within base setting a) c h j
+    cut-here {xs} p q = record {
+      earlier = xs ++ q.earlier;
+      last = q.last;
+      others = q.others;
+      lines_are = ap (λ (l : List L). xs ++ l) q.lines_are ∙ sym (append_assoc xs q.earlier (q.last ++ q.others));
+      one = q.one;
+      before = q.before;
+      mid = q.mid;
+      answered = answered-here p q.answered;
+      text = q.text;
+      served = q.served;
+      front = q.front;
+    }
+
   -- what is true of each state
   abbrev any : S → Type 0
   any a = Unit {0}
@@ -68,52 +113,54 @@ cut-behind xs text ys rest whole cut = record {
   unended = cut.unended;
 }
 
-module _ (Lines : PlainDurable → Setting → Sitting → Sitting → List (List ℕ) → List ℕ → Type 0) where
-  pub begins-alone : BeginsAlone Lines
-  begins-alone base setting result text intake unread still_unread old new held held' p =
-      (part-as (within base setting) (any Lines Resumes base setting) (Lines base setting) (TakesAlong Lines Resumes) (one-along Lines Resumes base setting) tt p).0
+-- whole lines before what was done for a text
+module _ {A : Type 0} (Serves : A → A → List (List ℕ) → List ℕ → Type 0) (xs : List (List ℕ)) {old begun new : A} {held shown held' : Option (List ℕ)}
+    (answered-before : (ys : List (List ℕ)) → Answered Serves ys begun new shown held' → Answered Serves (xs ++ ys) old new held held')
+    (cut-before : (ys : List (List ℕ)) → CutOff Serves ys begun new shown held' → CutOff Serves (xs ++ ys) old new held held') where
+  ends-along : (result : Result (Unit {0}) EngineFault) (why : (result ≡ Err fault.Memory) → ⊥) (input text : List ℕ) (lines : List (List ℕ)) (rest : List ℕ) (unread : Option (List ℕ))
+      → SessionEnds Serves result input lines rest unread begun new shown held' → SessionEnds Serves result text (xs ++ lines) rest unread old new held held'
+  ends-along (Ok u) why input text lines rest unread (answered, end) = (rw (append_assoc xs lines (last_line rest)) (answered-before (lines ++ last_line rest) answered), end)
+  ends-along (Err fault.Read) why input text lines rest unread answered = answered-before lines answered
+  ends-along (Err fault.Write) why input text lines rest unread (inl cut) = inl (cut-before lines cut)
+  ends-along (Err fault.Write) why input text lines rest unread (inr (cut, end)) = inr (rw (append_assoc xs lines (last_line rest)) (cut-before (lines ++ last_line rest) cut), end)
+  ends-along (Err fault.Memory) why input text lines rest unread ends = absurd (why refl)
 
-  module _ (base : PlainDurable) (setting : Setting) {xs : List (List ℕ)} {old left : Sitting} {begun : Within Sitting} {held shown : Option (List ℕ)}
-      (first : Answered (Lines base setting) xs old left held shown) (next : Resumes (within base setting left) begun) (new : Within Sitting) (held' : Option (List ℕ)) where
-    ends-along : (result : Result (Unit {0}) EngineFault) (why : (result ≡ Err fault.Memory) → ⊥) (input text : List ℕ) (lines : List (List ℕ)) (rest : List ℕ) (unread : Option (List ℕ))
-        → SessionEnds (TakesAlong Lines Resumes) result input lines rest unread begun new shown held' → SessionEnds (TakesAlong Lines Resumes) result text (xs ++ lines) rest unread (within base setting old) new held held'
-    ends-along (Ok u) why input text lines rest unread (answered, end) =
-        (rw (append_assoc xs lines (last_line rest)) (answered-along Lines Resumes base setting first next answered), end)
-    ends-along (Err fault.Read) why input text lines rest unread answered = answered-along Lines Resumes base setting first next answered
-    ends-along (Err fault.Write) why input text lines rest unread (inl cut) = inl (cut-along Lines Resumes base setting first next cut)
-    ends-along (Err fault.Write) why input text lines rest unread (inr (cut, end)) =
-        inr (rw (append_assoc xs lines (last_line rest)) (cut-along Lines Resumes base setting first next cut), end)
-    ends-along (Err fault.Memory) why input text lines rest unread ends = absurd (why refl)
+  ends-with : (result : Result (Unit {0}) EngineFault) (why : (result ≡ Err fault.Memory) → ⊥) (input text : List ℕ) (unread : Option (List ℕ)) → All IsLine xs → text ≡ ended xs ++ input
+      → EndsWith Serves result input unread begun new shown held' → EndsWith Serves result text unread old new held held'
+  ends-with result why input text unread whole is e = record {
+    lines = xs ++ e.lines;
+    rest = e.rest;
+    cut = rw is (cut-behind xs input e.lines e.rest whole e.cut);
+    ends = ends-along result why input text e.lines e.rest unread e.ends;
+  }
 
-    ends-with : (result : Result (Unit {0}) EngineFault) (why : (result ≡ Err fault.Memory) → ⊥) (input text : List ℕ) (unread : Option (List ℕ)) → All IsLine xs → text ≡ ended xs ++ input
-        → EndsWith (TakesAlong Lines Resumes) result input unread begun new shown held' → EndsWith (TakesAlong Lines Resumes) result text unread (within base setting old) new held held'
-    ends-with result why input text unread whole is e = record {
-      lines = xs ++ e.lines;
-      rest = e.rest;
-      cut = rw is (cut-behind xs input e.lines e.rest whole e.cut);
-      ends = ends-along result why input text e.lines e.rest unread e.ends;
-    }
+  leaves-along : (result : Result LeftOff EngineFault) (intake : PlainIntake) (input text : List ℕ) (unread : Option (List ℕ)) → All IsLine xs → text ≡ ended xs ++ input
+      → LeavesOff Serves result input intake unread begun new shown held' → LeavesOff Serves result text intake unread old new held held'
+  leaves-along (Ok Paused) intake input text unread whole is s = record {
+    before = ended xs ++ s.before;
+    so_far = record {
+      lines = xs ++ s.so_far.lines;
+      rest = s.so_far.rest;
+      cut = cut-behind xs s.before s.so_far.lines s.so_far.rest whole s.so_far.cut;
+      kept_is = s.so_far.kept_is;
+      answered = answered-before s.so_far.lines s.so_far.answered;
+    };
+    input_is = is ∙ ap (λ (l : List ℕ). ended xs ++ l) s.input_is ∙ sym (append_assoc (ended xs) s.before intake.ahead);
+  }
+  leaves-along (Ok Ended) intake input text unread whole is e = ends-with (Ok tt) (λ bad. cc (bad)) input text unread whole is e
+  leaves-along (Err fault.Read) intake input text unread whole is e = ends-with (Err fault.Read) (λ bad. cc (bad)) input text unread whole is e
+  leaves-along (Err fault.Write) intake input text unread whole is e = ends-with (Err fault.Write) (λ bad. cc (bad)) input text unread whole is e
+  leaves-along (Err fault.Memory) intake input text unread whole is never = absurd never
 
-    leaves-along : (result : Result LeftOff EngineFault) (intake : PlainIntake) (input text : List ℕ) (unread : Option (List ℕ)) → All IsLine xs → text ≡ ended xs ++ input
-        → LeavesOff (TakesAlong Lines Resumes) result input intake unread begun new shown held' → LeavesOff (TakesAlong Lines Resumes) result text intake unread (within base setting old) new held held'
-    leaves-along (Ok Paused) intake input text unread whole is s = record {
-      before = ended xs ++ s.before;
-      so_far = record {
-        lines = xs ++ s.so_far.lines;
-        rest = s.so_far.rest;
-        cut = cut-behind xs s.before s.so_far.lines s.so_far.rest whole s.so_far.cut;
-        kept_is = s.so_far.kept_is;
-        answered = answered-along Lines Resumes base setting first next s.so_far.answered;
-      };
-      input_is = is ∙ ap (λ (l : List ℕ). ended xs ++ l) s.input_is ∙ sym (append_assoc (ended xs) s.before intake.ahead);
-    }
-    leaves-along (Ok Ended) intake input text unread whole is e = ends-with (Ok tt) (λ bad. cc (bad)) input text unread whole is e
-    leaves-along (Err fault.Read) intake input text unread whole is e = ends-with (Err fault.Read) (λ bad. cc (bad)) input text unread whole is e
-    leaves-along (Err fault.Write) intake input text unread whole is e = ends-with (Err fault.Write) (λ bad. cc (bad)) input text unread whole is e
-    leaves-along (Err fault.Memory) intake input text unread whole is never = absurd never
-
-  pub goes-on-elsewhere : GoesOnElsewhere Lines
-  goes-on-elsewhere base setting result text between intake unread mid_unread still_unread old left begun new held shown held' p next others =
+-- a part that paused, and one behind it
+module _ {A B : Type 0} (Before : B → B → List (List ℕ) → List ℕ → Type 0) (Serves : A → A → List (List ℕ) → List ℕ → Type 0)
+    {text : List ℕ} {between : PlainIntake} {unread mid_unread : Option (List ℕ)} {a b : B} {held shown : Option (List ℕ)} (p : IsPart Before (Ok Paused) text between unread mid_unread a b held shown)
+    {old begun new : A} {held' : Option (List ℕ)}
+    (answered-before : (ys : List (List ℕ)) → Answered Serves ys begun new shown held' → Answered Serves (p.leaves.so_far.lines ++ ys) old new held held')
+    (cut-before : (ys : List (List ℕ)) → CutOff Serves ys begun new shown held' → CutOff Serves (p.leaves.so_far.lines ++ ys) old new held held') where
+  part-behind : (result : Result LeftOff EngineFault) (intake : PlainIntake) (still_unread : Option (List ℕ))
+      → ((line : List ℕ) → HasBegun between line → IsPart Serves result (line ++ between.ahead) intake mid_unread still_unread begun new shown held') → IsPart Serves result text intake unread still_unread old new held held'
+  part-behind result intake still_unread others =
       let s = p.leaves.so_far in
       let q = others s.rest (s.cut.unended, s.kept_is) in
       let xs = ended s.lines in
@@ -123,8 +170,24 @@ module _ (Lines : PlainDurable → Setting → Sitting → Sitting → List (Lis
       record {
         input = p.input ++ q.input;
         read = Consumes-trans unread mid_unread still_unread p.input q.input p.read q.read;
-        leaves = leaves-along base setting s.answered next new held' result intake ((s.rest ++ between.ahead) ++ q.input) (text ++ (p.input ++ q.input)) still_unread s.cut.whole is q.leaves;
+        leaves = leaves-along Serves s.lines answered-before cut-before result intake ((s.rest ++ between.ahead) ++ q.input) (text ++ (p.input ++ q.input)) still_unread s.cut.whole is q.leaves;
       }
+
+module _ (Lines : PlainDurable → Setting → Sitting → Sitting → List (List ℕ) → List ℕ → Type 0) where
+  pub begins-alone : BeginsAlone Lines
+  begins-alone base setting result text intake unread still_unread old new held held' p =
+      (part-as (within base setting) (any Lines Resumes base setting) (Lines base setting) (TakesAlong Lines Resumes) (one-along Lines Resumes base setting) tt p).0
+
+  pub goes-on-elsewhere : GoesOnElsewhere Lines
+  goes-on-elsewhere base setting result text between intake unread mid_unread still_unread old left begun new held shown held' p next others =
+      let first = p.leaves.so_far.answered in
+      part-behind (Lines base setting) (TakesAlong Lines Resumes) p (λ ys q. answered-along Lines Resumes base setting first next q) (λ ys q. cut-along Lines Resumes base setting first next q) result intake still_unread others
+
+  -- one part behind the other in one opening
+  pub goes-on-here : ((base : PlainDurable) (setting : Setting) (a b c : Sitting) (xs ys : List (List ℕ)) (s t : List ℕ) → Lines base setting a b xs s → Lines base setting b c ys t → Lines base setting a c (xs ++ ys) (s ++ t)) → GoesOnHere Lines
+  goes-on-here then base setting result text between intake unread mid_unread still_unread old left new held shown held' p others =
+      let first = p.leaves.so_far.answered in
+      part-behind (Lines base setting) (TakesAlong Lines Resumes) p (λ ys q. answered-here Lines Resumes base setting (then base setting) first q) (λ ys q. cut-here Lines Resumes base setting (then base setting) first q) result intake still_unread others
 
   pub is-whole : IsWhole Lines
   is-whole intake unread still_unread old new held held' p =

@@ -19,6 +19,8 @@ mod TakingOver
 pub mod Flushing
 pub mod JoinedCalls
 pub mod Asking
+pub mod AnsweringSome
+pub mod Judging
 pub mod Pausing
 pub mod GoingOn
 pub mod Renewed

@@ -1,6 +1,6 @@
 -- What a Book's device gives that is opened again.
 use Rattle.std.proofs.Common.{◌≡◌, ◌∙◌, ℕ, ◌<◌, ◌≤◌, Bool, List, [], ◌∷◌, ◌++◌, length, take, Result, Ok, Err, refl, sym, ap, subst, append-nil}
-use Rattle.std.proofs.lemmas.List.Elements.{All-weaker}
+use Rattle.std.proofs.lemmas.List.Elements.{All-nil, All-weaker}
 use Rattle.std.specs.Prelude.{All, IfOk}
 use mathlib.Core.List.{IsPrefix}
 use Rattle.pf_disk.specs.Disk.{IsImage}
@@ -38,6 +38,15 @@ within b n xs begins few =
 knows-all : (b : WorldBook) (n : ℕ) (all : List PlainSeer) → All (IsCovered b) all → All (KnowsWithin (flat (b.acked ++ take n b.pending))) all
 knows-all b n all covered = All-weaker (IsCovered b) (KnowsWithin (flat (b.acked ++ take n b.pending)))
     (λ known c. (within b n known.seen c.seen c.seen_acked, within b n known.learnt c.learnt c.learnt_acked)) all covered
+
+-- what a seer of a closed Book knows was acknowledged in it
+pub record IsKnown (acked : List PlainChange) (known : PlainSeer) : Type 0 where
+  pub seen : IsPrefix known.seen acked
+  pub learnt : IsPrefix known.learnt acked
+
+pub known-within : (acked front : List PlainChange) (all : List PlainSeer) → IsPrefix acked front → All (IsKnown acked) all → All (KnowsWithin front) all
+known-within acked front all has known = All-weaker (IsKnown acked) (KnowsWithin front)
+    (λ seer k. (prefix_trans seer.seen acked front k.seen has, prefix_trans seer.learnt acked front k.learnt has)) all known
 
 -- what is given is the fold of a front that has all that these seers know
 pub renewed : (b : WorldBook) (image : List ℕ) (d given : PlainDurable) (all : List PlainSeer) → HoldsLeft (opening_in b) idle image → Holds image d → given ≡ raised d → All (IsCovered b) all
@@ -78,6 +87,18 @@ module _ {D : Type 0} (seen : D → List ℕ) (unsynced : D → ℕ → Bool) (b
       → IfOk r (λ o. (front : List PlainChange) × RenewsBook (world_book b) front o.given × All (KnowsWithin front) known)
   gives (Ok o) known covered (d, holds, raises, low) = renewed (world_book b) (seen disk) d o.given known (left-now (opening_in (world_book b)) (at-itself (world_book b))) holds raises covered
   gives (Err e) known covered none = tt
+
+  -- the front has all that was acknowledged
+  has-acked : (o : PlainOpening D) (acked : List PlainChange) → acked ≡ flat b.acked → (front : List PlainChange) × RenewsBook (world_book b) front o.given × All (KnowsWithin front) []
+      → (front : List PlainChange) × RenewsBook (world_book b) front o.given × IsPrefix acked front
+  has-acked o acked is (front, renews, none) =
+      (front, renews, subst (λ (l : List PlainChange). IsPrefix l front) (sym is) (subst (λ (l : List PlainChange). IsPrefix (flat b.acked) l) (sym renews.front_is) (prefix-more b.acked (take renews.kept b.pending))))
+
+  pub gives-acked : {E : Type 0} (r : Result (PlainOpening D) E) (acked : List PlainChange) → acked ≡ flat b.acked → IfOk r Opened
+      → IfOk r (λ o. (front : List PlainChange) × RenewsBook (world_book b) front o.given × IsPrefix acked front)
+  gives-acked (Ok o) acked is (d, holds, raises, low) =
+      has-acked o acked is (renewed (world_book b) (seen disk) d o.given [] (left-now (opening_in (world_book b)) (at-itself (world_book b))) holds raises (All-nil (IsCovered (world_book b))))
+  gives-acked (Err e) acked is none = tt
 
   pub goes-on : {E : Type 0} (r : Result (PlainOpening D) E) → IfOk r Opened
       → IfOk r (λ o. (first : PlainDurable) (world : List Event) (setting : Setting) (next : WorldBook) → StandsFor first (world_book b) world → IsAt (begun setting o.given) next → IsFolded next

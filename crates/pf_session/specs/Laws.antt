@@ -7,4 +7,5 @@ pub mod Lines
 pub mod Takeover
 pub mod Streams
 pub mod Asking
+pub mod Judging
 pub mod GoingOn

@@ -5,3 +5,4 @@ pub mod Askings
 pub mod AskingRuns
 pub mod Streams
 pub mod Parts
+pub mod Judgings

@@ -1,6 +1,6 @@
 //! Laws of a Book and of sessions. Each function does nothing; its contract is the law.
 ghost use Rattle.std.specs.Prelude.{ℕ};
-ghost use Rattle.pf_session.specs.{Laws.{Acknowledged.{AcknowledgesNoLess, AcknowledgesTold, FindsAcknowledged}, GoingOn.{BeginsAlone, GoesOnElsewhere, IsWhole, StreamsBeginAlone, StreamsGoOnElsewhere}, Receipts.{SitsWithin, TakesWithin}, Sittings.{LearnsNoLess, LearnsApplied}, Streams.AreOneStream, Takeover.{TakesOver, FreshTakesOver}}, Server.{Askings.AsksLines, Sittings.TakesLines}};
+ghost use Rattle.pf_session.specs.{Laws.{Acknowledged.{AcknowledgesNoLess, AcknowledgesTold, FindsAcknowledged}, GoingOn.{BeginsAlone, GoesOnElsewhere, GoesOnHere, IsWhole, StreamsBeginAlone, StreamsGoOnElsewhere}, Receipts.{SitsWithin, TakesWithin}, Sittings.{LearnsNoLess, LearnsApplied}, Streams.AreOneStream, Takeover.{TakesOver, FreshTakesOver}}, Server.{Askings.AsksLines, Sittings.TakesLines}};
 
 use crate::server::Gate;
 use pf_disk::Disk;
@@ -50,12 +50,16 @@ pub fn pieces_are_one_stream()
 ///
 /// What each opening gave is what the one before kept, and has all that the session's seer saw and learnt before, and all that was
 /// acknowledged at its last reply there. So a `judge` behind a pause is answered by no less than one before it.
+///
+/// A session that pauses and goes on in the same opening, as one does that judges while its opening ends, is as if it hadn't paused.
 pub fn sessions_go_on<G: Gate>()
     ensures alone { (gate : G) (session : ℕ) → BeginsAlone (TakesLines (G.passed gate session)) }
     ensures on { (gate : G) (session : ℕ) → GoesOnElsewhere (TakesLines (G.passed gate session)) }
+    ensures here { (gate : G) (session : ℕ) → GoesOnHere (TakesLines (G.passed gate session)) }
     ensures whole { (gate : G) (session : ℕ) → IsWhole (TakesLines (G.passed gate session)) }
     ensures asking_alone { (gate : G) (session : ℕ) → BeginsAlone (AsksLines (G.passed gate session)) }
     ensures asking_on { (gate : G) (session : ℕ) → GoesOnElsewhere (AsksLines (G.passed gate session)) }
+    ensures asking_here { (gate : G) (session : ℕ) → GoesOnHere (AsksLines (G.passed gate session)) }
     ensures asking_whole { (gate : G) (session : ℕ) → IsWhole (AsksLines (G.passed gate session)) }
 {}
 

@@ -16,7 +16,8 @@
 //! Proved: a session's bytes are the replies to its lines in order, and the Book gets the calls that they mean, however the session ends
 //! (`serve_alone`, `serve_from`, `serve_peer_from`); and a session that may only ask leaves the Book as it was (`serve_asking`). A session
 //! may pause in one opening and go on in the next, and so it is over all of them (`go_on`, `laws::sessions_go_on`); what the next opening
-//! gives is what was acknowledged before (`renew`).
+//! gives is what was acknowledged before (`renew`). In between it may have its questions about packets answered alone (`go_on_judging`,
+//! `reopen`).
 //! Only tests of other crates show that memory runs out only if a growth was refused, that the writer is flushed before each read, and
 //! that no other calls are made.
 //!
@@ -32,9 +33,9 @@ mod telling;
 
 pub use engine::serve_alone;
 pub use line_engine::{EngineFault, LeftOff, NoPause, Pause};
-pub use renewing::renew;
+pub use renewing::{cover_all, renew, reopen};
 pub use server::{
     AskBook, CallBook, Caller, Gate, Inquiry, LineSession, OpenGate, PeerStream, deny, go_on,
-    go_on_asking, go_on_asking_by, go_on_by, go_on_peer, go_on_peer_by, serve, serve_asking,
-    serve_from, serve_peer, serve_peer_from,
+    go_on_asking, go_on_asking_by, go_on_by, go_on_judging, go_on_peer, go_on_peer_by, serve,
+    serve_asking, serve_from, serve_peer, serve_peer_from,
 };

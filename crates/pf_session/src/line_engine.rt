@@ -8,9 +8,11 @@ mod intake;
 pub mod laws;
 mod left_off;
 mod pieces;
+mod some;
 
 pub use answer_line::{AnswerLine, LOOKED_AT};
 pub use engine::{go_on, serve};
 pub use fault::EngineFault;
 pub use intake::Intake;
 pub use left_off::{LeftOff, NoPause, Pause};
+pub use some::{AnswerSome, go_on_some};

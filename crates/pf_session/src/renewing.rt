@@ -1,10 +1,11 @@
 //! One opening after the other.
-ghost use Rattle.std.specs.Prelude.{◌++◌, ◌∷◌, [], ℕ, All, List, IfOk};
+ghost use Rattle.std.specs.Prelude.{◌≡◌, ◌++◌, ◌∷◌, [], ℕ, All, List, IfOk};
+ghost use mathlib.Core.List.{IsPrefix};
 ghost use Rattle.pf_core.specs.{Durable.Changes.{PlainChange, PlainDurable}, WorldBooks.{IsAt, IsFolded, StandsFor, WorldBook}, Worlds.{Event, Setting, begun, crashed, idle, opened}};
 ghost use Rattle.pf_book.specs.Books.{world_book};
 ghost use Rattle.pf_session.specs.Renewing.{KnowsWithin, RenewsBook};
 
-use pf_book::book::Book;
+use pf_book::book::{Book, Closed};
 use pf_book::{Chapter, Disk, OpenFault, Opening, Publisher, Seer};
 use std::alloc::Global;
 
@@ -37,4 +38,34 @@ pub fn renew<D: Disk + Drop, J: Chapter, S: Publisher<J> + Drop>(
         return Err((OpenFault::Fault, book.into_disk()));
     }
     Opening::open(alloc, book.into_disk())
+}
+
+/// Opens the device of a Book again, as [`renew`] does, with its errors, while the Book's seers go on judging: they do until the second value
+/// is dropped. What is opened has all that was acknowledged in the Book.
+pub fn reopen<D: Disk + Drop, J: Chapter, S: Publisher<J> + Drop>(
+    alloc: Global,
+    book: Book<D, J, S>,
+) -> (Result<Opening<D>, (OpenFault, D)>, Closed<J, S>)
+    ensures renews { IfOk result.0 (λ o. (front : List PlainChange) × RenewsBook (world_book book) front o.given × IsPrefix result.1 front) }
+    ensures worlds { IfOk result.0 (λ o. (first : PlainDurable) (world : List Event) (setting : Setting) (next : WorldBook)
+        → StandsFor first (world_book book) world → IsAt (begun setting o.given) next → IsFolded next
+        → (n : ℕ) × StandsFor first next ((world ++ crashed idle n ∷ []) ++ opened setting ∷ [])) }
+{
+    book.between_calls();
+    let (disk, closed) = book.close();
+    if MOST_FAULTS <= disk.faults() {
+        return (Err((OpenFault::Fault, disk)), closed);
+    }
+    (Opening::open(alloc, disk), closed)
+}
+
+/// Whatever these seers of a closed Book saw and learnt by now was acknowledged in it, however long they judged: what [`reopen`] gave has all
+/// of it, so the seers of the next Book judge by no less than they did.
+pub fn cover_all<J: Chapter, S: Publisher<J> + Drop>(closed: &mut Closed<J, S>, seers: &[Seer<J>])
+    ensures knows { (front : List PlainChange) → IsPrefix closed.old front → All (KnowsWithin front) seers.now }
+    ensures same { closed.new ≡ closed.old }
+{
+    for seer in seers {
+        closed.covers(seer);
+    }
 }

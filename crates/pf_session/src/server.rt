@@ -8,6 +8,7 @@
 //! - `inquiry`: what may be asked and changes nothing.
 //! - `denial`: which lines are denied to a session that may only ask.
 //! - `asking`: such a session.
+//! - `judging`: a session of whose lines those are answered that ask what happens to a packet, and no others.
 //! - `stream`: a peer's messages in groups, by the Book.
 
 mod asking;
@@ -15,6 +16,7 @@ mod caller;
 mod denial;
 mod gate;
 mod inquiry;
+mod judging;
 mod line_session;
 mod run;
 mod session;
@@ -25,6 +27,7 @@ pub use caller::{AskBook, CallBook, Caller};
 pub use denial::deny;
 pub use gate::{Gate, OpenGate};
 pub use inquiry::Inquiry;
+pub use judging::go_on_judging;
 pub use line_session::LineSession;
 pub use session::{go_on, go_on_by, serve, serve_from};
 pub use stream::{PeerStream, go_on_peer, go_on_peer_by, serve_peer, serve_peer_from};

@@ -2,7 +2,7 @@
 use Rattle.std.proofs.{Common.{◌≡◌, ℕ, ◌≤◌, nat_lt, false, List, [], length, All, arith}, lemmas.Bool.Decides.nat_tests, lemmas.List.Elements.{All-nil, All-from_recursion, recursion_from_All}}
 use Rattle.pf_addr.specs.Address.{IsNetwork}
 use Rattle.pf_table.specs.declared.limits.TheConstants.{TABLE_LIMIT}
-use Rattle.pf_table.specs.{Entries.PlainEntry, Tables.IsTable, Searches.NoneShorter, Edits.{added, deleted, replaced}, Laws.Edits.{sorted_added, sorted_deleted, added_all, deleted_all, deleted_fewer}}
+use Rattle.pf_table.specs.{Entries.PlainEntry, Tables.IsTable, Edits.{added, deleted, replaced}, Laws.Edits.{sorted_added, sorted_deleted, added_all, deleted_all, deleted_fewer}}
 
 pub few_of : (n : ℕ) → nat_lt TABLE_LIMIT n ≡ false → n ≤ TABLE_LIMIT
 few_of n is = grind (arith, nat_tests)
@@ -32,18 +32,3 @@ delete_leaves_table es xs after table is = record {
   networks = rw is (All-from_recursion _ _ (deleted_all IsNetwork es xs (recursion_from_All _ es table.networks)));
   few = let fewer = deleted_fewer es xs in let most = table.few in rw is (still_few _ _ _ fewer most);
 }
-
--- ---- how short networks are
-
-pub shorter_bound : (m n : ℕ) (es : List PlainEntry) → m ≤ n → NoneShorter n es → NoneShorter m es
-shorter_bound m n es le all = λ k d lt. let low = all k d lt in omega (arith, le, low)
-
-pub add_leaves_shortest : (es xs after : List PlainEntry) (n : ℕ) → NoneShorter n es → NoneShorter n xs → after ≡ added es xs → NoneShorter n after
-add_leaves_shortest es xs after n old new is =
-    rw is (All-from_recursion _ _ (added_all (λ net. n ≤ net.len) es xs (recursion_from_All _ es old) (recursion_from_All _ xs new)))
-
-pub replace_leaves_shortest : (xs after : List PlainEntry) (n : ℕ) → NoneShorter n xs → after ≡ replaced xs → NoneShorter n after
-replace_leaves_shortest xs after n new = add_leaves_shortest [] xs after n (All-nil (λ e. n ≤ e.0.len)) new
-
-pub delete_leaves_shortest : (es xs after : List PlainEntry) (n : ℕ) → NoneShorter n es → after ≡ deleted es xs → NoneShorter n after
-delete_leaves_shortest es xs after n old is = rw is (All-from_recursion _ _ (deleted_all (λ net. n ≤ net.len) es xs (recursion_from_All _ es old)))

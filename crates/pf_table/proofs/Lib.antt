@@ -1,8 +1,9 @@
 pub mod Sorted
 pub mod TableRows
 pub mod Batches
-pub mod Prefixes
 pub mod Lookups
+pub mod TrieSigns
+pub mod AnswersAt
 pub mod Edits
 pub mod TableLaws
 pub mod Written

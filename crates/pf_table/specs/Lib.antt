@@ -1,11 +1,9 @@
 pub mod Entries
-pub mod PageColumns
 pub mod EntryForms
 pub mod Tables
 pub mod Edits
 pub mod Noted
-pub mod Shared
-pub mod Searches
+pub mod Indexed
 pub mod Laws
 -- what public clauses cite of the crates below
 pub use Rattle.pf_addr.specs.Address

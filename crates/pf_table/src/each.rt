@@ -1,7 +1,6 @@
 //! Going over a table.
 ghost use Rattle.std.specs.{Prelude.{◌≡◌}, Iterator.{item_count, YieldsFirstBy}};
 
-use crate::columns::TablePage;
 use crate::entry::Entry;
 use pf_addr::Net;
 use pf_map::Entries;
@@ -11,7 +10,7 @@ use std::marker::Model;
 ///
 /// It has no type parameters, so that a proof that loops over a table or drops this says nothing of pages.
 pub struct EachEntry<'a> {
-    entries: Entries<'a, Net, bool, Entry, TablePage>,
+    entries: Entries<'a, Net, bool, Entry>,
 }
 
 impl<'a> Drop for EachEntry<'a> {
@@ -31,7 +30,7 @@ impl<'a> Model for EachEntry<'a> {
 
 impl<'a> EachEntry<'a> {
     /// These entries.
-    pub(crate) fn of(entries: Entries<'a, Net, bool, Entry, TablePage>) -> EachEntry<'a>
+    pub(crate) fn of(entries: Entries<'a, Net, bool, Entry>) -> EachEntry<'a>
         ensures { result ≡ entries.entry }
     {
         EachEntry { entries }

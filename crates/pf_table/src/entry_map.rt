@@ -1,10 +1,9 @@
-//! The map of a table's entries.
-ghost use Rattle.std.specs.{Prelude.{◌≡◌, T, [], length, nat_lt, Some, None, IfOk, MatchOption}, Option.option_map};
+//! Entries in order.
+ghost use Rattle.std.specs.{Prelude.{◌≡◌, T, [], length, nat_lt, Some, None, IfOk}, Option.option_map};
 ghost use Rattle.std.specs.FinMap.{find, is_sorted};
 ghost use Rattle.pf_addr.specs.NetOrder.{net_order};
-ghost use Rattle.pf_map.specs.{Maps.{with_value, without, entry_at, at_or_before}, MapParts.IsUpTo};
+ghost use Rattle.pf_map.specs.Maps.{with_value, without, entry_at};
 
-use crate::columns::TablePage;
 use crate::each::EachEntry;
 use crate::entry::Entry;
 use pf_addr::Net;
@@ -16,7 +15,7 @@ use std::marker::Model;
 ///
 /// It has no type parameters, so that the proofs of edits say nothing of pages.
 pub(crate) struct EntryMap {
-    tree: TreeMap<Net, bool, Entry, TablePage>,
+    tree: TreeMap<Net, bool, Entry>,
 }
 
 impl Drop for EntryMap {
@@ -73,13 +72,6 @@ impl EntryMap {
         ensures { option_map (λ e. e.now) result ≡ entry_at net_order net.now self.now }
     {
         self.tree.get(net)
-    }
-
-    /// The page with the last entry that isn't behind a network; None where all entries are.
-    pub(crate) fn page_up_to(&self, net: &Net) -> Option<&TablePage>
-        ensures { MatchOption result (at_or_before net_order net.now self.now ≡ None) (λ p. IsUpTo net_order net.now p.now self.now) }
-    {
-        self.tree.page_up_to(net)
     }
 
     /// The same entries, shared and not copied. `AllocError`: they can't have another owner.

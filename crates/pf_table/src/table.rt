@@ -1,63 +1,63 @@
 //! Tables.
-ghost use Rattle.std.specs.Prelude.{◌≡◌, ◌==◌, false, [], cond, length, is_ok, All, Contains, IfOk, IfSome, None};
-ghost use Rattle.pf_addr.specs.{Refusing.Refuses, Address.{contains, IsNetwork}};
+ghost use Rattle.std.specs.Prelude.{◌≡◌, ◌==◌, false, [], cond, length, is_ok, Contains, IfOk, IfSome, None};
+ghost use Rattle.pf_addr.specs.{Refusing.Refuses, Address.contains};
 ghost use Rattle.pf_table.specs.declared.refusal.TableRefusal.TheVariants.{Memory};
-ghost use Rattle.pf_table.specs.{Entries.PlainEntry, Tables.{AreEntries, IsTable, Decides, deciding, table_holds}, Searches.NoneShorter};
+ghost use Rattle.pf_table.specs.{Entries.PlainEntry, Tables.{AreEntries, IsTable, Decides, deciding, table_holds}};
 ghost use Rattle.pf_table.specs.Edits.{added, additions, deleted, deletions, replaced, conflict_refusal, edit_refusal};
 
 use crate::answer::{Addition, Deletion};
 use crate::batch::gather;
 use crate::change::{add_all, delete_all};
+use crate::columns::{Columns, columns_of_few};
 use crate::each::EachEntry;
 use crate::entry::Entry;
 use crate::entry_map::EntryMap;
 use crate::limits::TABLE_LIMIT;
-use crate::lookup::decider;
 use crate::refusal::TableRefusal;
+use crate::table_entries::TableEntries;
 use pf_addr::Addr;
 use std::alloc::{AllocError, Global};
 use std::marker::Model;
+use std::sync::Arc;
 
 /// At most 65,536 networks, none of them twice, each plain or negated. Contracts see the list of its entries in order: IPv4 before IPv6,
 /// then by the first address, then the shorter prefix before the longer.
 pub struct Table {
-    entries: EntryMap,
-    /// No entry's network has fewer bits.
-    shortest: u8,
+    entries: TableEntries,
+    /// What a table of few entries has until an edit, and all copies share.
+    columns: Option<Arc<Columns>>,
 }
 
 impl Drop for Table {
     fn drop(self) {
         let Table {
             entries: _,
-            shortest: _,
+            columns: _,
         } = self;
     }
 }
 
 impl Model for Table {
-    ghost use Rattle.std.specs.Prelude.{List};
+    ghost use Rattle.std.specs.{Prelude.{◌≡◌, List, IfSome}, Arc.arc_value};
     ghost use Rattle.pf_table.specs.Entries.{PlainEntry};
     ghost use Rattle.pf_table.specs.Tables.{IsTable};
-    ghost use Rattle.pf_table.specs.Searches.{NoneShorter};
 
     ghost Value = { List PlainEntry };
 
     ghost view = { λ t. t.entries };
 
-    ghost invariant = { λ t. IsTable t.entries × NoneShorter t.shortest t.entries };
+    ghost invariant = { λ t. IsTable t.entries × IfSome t.columns (λ c. arc_value c ≡ t.entries) };
 }
 
-// The shortest prefix length of these entries. The contract of `net` says that each has a network.
-fn shortest_of(entries: &[Entry]) -> u8
-    ensures networks { All (λ e. IsNetwork e.0) entries.now }
-    ensures shortest { NoneShorter result entries.now }
+// The entries of a map in a list.
+fn listed(alloc: Global, map: &EntryMap) -> Result<Vec<Entry>, AllocError>
+    ensures { IfOk result (λ v. v.items ≡ map.now) }
 {
-    let mut shortest = u8::MAX;
-    for entry in entries {
-        shortest = shortest.min(entry.net().prefix_len());
+    let mut list = Vec::with_capacity(alloc, map.len())?;
+    for entry in map.entries() {
+        list.push(*entry)?;
     }
-    shortest
+    Ok(list)
 }
 
 impl Table {
@@ -66,8 +66,8 @@ impl Table {
         ensures { result ≡ [] }
     {
         Table {
-            entries: EntryMap::empty(),
-            shortest: u8::MAX,
+            entries: TableEntries::empty(),
+            columns: None,
         }
     }
 
@@ -76,10 +76,19 @@ impl Table {
         requires { AreEntries entries.now }
         ensures { IfOk result (λ t. t ≡ entries.now) }
     {
-        let shortest = shortest_of(entries);
+        Table::holding(alloc, EntryMap::of(alloc, entries)?, entries)
+    }
+
+    // The table of a map's entries, which this list has too. `AllocError`: nothing is left of the map.
+    fn holding(alloc: Global, map: EntryMap, entries: &[Entry]) -> Result<Table, AllocError>
+        requires entries { AreEntries entries.now }
+        requires same { map ≡ entries.now }
+        ensures { IfOk result (λ t. t ≡ entries.now) }
+    {
+        let columns = columns_of_few(alloc, entries)?;
         Ok(Table {
-            entries: EntryMap::of(alloc, entries)?,
-            shortest,
+            entries: TableEntries::of(alloc, map, entries)?,
+            columns,
         })
     }
 
@@ -87,9 +96,13 @@ impl Table {
     pub fn shared(&self) -> Result<Table, AllocError>
         ensures { IfOk result (λ t. t ≡ self.now) }
     {
+        let columns = match &self.columns {
+            Some(columns) => Some(Arc::try_clone(columns)?),
+            None => None,
+        };
         Ok(Table {
             entries: self.entries.shared()?,
-            shortest: self.shortest,
+            columns,
         })
     }
 
@@ -97,14 +110,14 @@ impl Table {
     pub fn len(&self) -> usize
         ensures { result ≡ length self.now }
     {
-        self.entries.len()
+        self.entries.map().len()
     }
 
     /// Whether it has no entries.
     pub fn is_empty(&self) -> bool
         ensures { result ≡ (length self.now == 0) }
     {
-        self.entries.len() == 0
+        self.entries.map().len() == 0
     }
 
     /// The entries in order. It takes no memory.
@@ -113,7 +126,7 @@ impl Table {
         // the invariant of tables
         ensures table { IsTable self.now }
     {
-        self.entries.entries()
+        self.entries.map().entries()
     }
 
     /// The entry that decides about an address: of those that contain it the one with the longest prefix. It takes no memory.
@@ -122,7 +135,18 @@ impl Table {
         ensures decides { IfSome result (λ e. Decides self.now addr e) }
         ensures none { result ≡ None → (e : PlainEntry) → Contains self.now e → contains e.0 addr ≡ false }
     {
-        decider(&self.entries, self.shortest, addr)
+        self.decider(addr)
+    }
+
+    // The same, by columns where the table has some. The contract says too that it is one.
+    fn decider(&self, addr: Addr) -> Option<Entry>
+        ensures value { result ≡ deciding self.now addr }
+        ensures table { IsTable self.now }
+    {
+        match &self.columns {
+            Some(columns) => columns.decider(addr),
+            None => self.entries.decider(addr),
+        }
     }
 
     /// Whether the table matches an address: an entry decides about it and isn't negated. It takes no memory.
@@ -145,13 +169,13 @@ impl Table {
         ensures answers { IfOk result (λ v. v.items ≡ additions self.old entries.now) }
         ensures after { self.new ≡ cond (is_ok result) (added self.old entries.now) self.old }
     {
-        let (after, answers) = add_all(alloc, &self.entries, entries)?;
+        let (after, answers) = add_all(alloc, self.entries.map(), entries)?;
         if after.is_more_than(TABLE_LIMIT) {
             return Err(TableRefusal::TableFull);
         }
         *self = Table {
-            entries: after,
-            shortest: self.shortest.min(shortest_of(entries)),
+            entries: self.entries.with_added(alloc, after, entries, &answers)?,
+            columns: None,
         };
         Ok(answers)
     }
@@ -169,10 +193,12 @@ impl Table {
         ensures after { self.new ≡ cond (is_ok result) (deleted self.old entries.now) self.old }
     {
         gather(alloc, entries)?;
-        let (after, answers) = delete_all(alloc, self.entries.shared()?, entries)?;
+        let (after, answers) = delete_all(alloc, self.entries.map().shared()?, entries)?;
         *self = Table {
-            entries: after,
-            shortest: self.shortest,
+            entries: self
+                .entries
+                .without_deleted(alloc, after, entries, &answers)?,
+            columns: None,
         };
         Ok(answers)
     }
@@ -186,10 +212,8 @@ impl Table {
         if named.is_more_than(TABLE_LIMIT) {
             return Err(TableRefusal::TableFull);
         }
-        *self = Table {
-            entries: named,
-            shortest: shortest_of(entries),
-        };
+        let list = listed(alloc, &named)?;
+        *self = Table::holding(alloc, named, &list)?;
         Ok(())
     }
 }

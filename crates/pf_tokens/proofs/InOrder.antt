@@ -8,7 +8,7 @@ use Rattle.pf_tokens.specs.declared.fault.Mistake.TheVariants.{CommentInValue, M
 use Rattle.pf_tokens.specs.declared.lexing.Source.TheVariants as sources
 use Rattle.pf_tokens.specs.declared.lexing.Run.TheVariants as runs
 use Rattle.pf_tokens.specs.{Stops.faulty, Counting.counted_some, Laws.{HasInOrder, bytes_of}}
-use Rattle.pf_tokens.specs.Lexing.{front, lex, token_of, skipped, comment, named_macro, macro_use, unjoined, word, a_quoted, a_symbol, symbol_more, quoted, word_checked, run_of, is_quote, is_letter}
+use Rattle.pf_tokens.specs.Lexing.{front, lex, token_of, skipped, comment, named_macro, a_macro, macro_use, modifier_more, word, a_quoted, a_symbol, symbol_more, quoted, word_checked, run_of, is_quote, is_letter}
 use Rattle.pf_tokens.proofs.{Binds.{then_all, or_else, ok_all, err_all}, Runs.take_run}
 
 none : (text : List Placed) → HasInOrder text []
@@ -66,11 +66,12 @@ symbol-in_front c cs f is =
 macro-in_front : (c : Placed) (cs : List Placed) (f : Front) → named_macro c (run_of runs.Letters cs) cs ≡ Ok f → InFront c cs f
 macro-in_front c cs f is =
     let name : List Placed = run_of runs.Letters cs in
-    let made : Front = token_of Macro c name (length name) in
-    let P : List Placed → Type 0 = λ bs. HasInOrder (c ∷ bs) name in
-    let has : HasInOrder (c ∷ take (length name) cs) name = subst P (sym (take_run runs.Letters cs)) (later c name name (all_of name)) in
     or_else (InFront c cs) (length name == 0) f (err_all (InFront c cs) (faulty c.place NoMacroName) f)
-    (then_all (InFront c cs) (unjoined (run_of runs.Word (drop (length name) cs))) (λ _. Ok made) f (λ u free. ok_all (InFront c cs) made f (one_token Macro c cs name (length name) has))) is
+    (then_all (InFront c cs) (modifier_more (run_of runs.Word (drop (length name) cs))) (λ n. Ok (a_macro c cs (length name + n))) f
+    (λ n more.
+    let text : List Placed = take (length name + n) cs in
+    ok_all (InFront c cs) (a_macro c cs (length name + n)) f
+    (one_token Macro c cs text (length name + n) (later c text text (all_of text))))) is
 
 use-in_front : (s : Source) (c : Placed) (cs : List Placed) (f : Front) → macro_use s c cs ≡ Ok f → InFront c cs f
 use-in_front sources.File c cs f is = macro-in_front c cs f is

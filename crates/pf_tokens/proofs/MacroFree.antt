@@ -9,11 +9,11 @@ use Rattle.pf_tokens.specs.declared.fault.Mistake.TheVariants.{CommentInValue, M
 use Rattle.pf_tokens.specs.declared.fault.Mistake.TheVariants as mistakes
 use Rattle.pf_tokens.specs.declared.lexing.Source.TheVariants as sources
 use Rattle.pf_tokens.specs.declared.lexing.Run.TheVariants as runs
-use Rattle.pf_tokens.specs.{Places.{start_of, used_at, text_of}, Counting.counted_some, Stops.faulty, Words.{moved, is_newline, is_macro, same_kind}, Placed.placed, Laws.HasNoMacro}
+use Rattle.pf_tokens.specs.{Places.{start_of, used_at, text_of}, Counting.counted_some, Stops.faulty, Words.{is_newline, is_macro, same_kind}, Placed.placed, Laws.HasNoMacro}
 use Rattle.pf_tokens.specs.Lexing.{front, lex, token_of, skipped, word, a_quoted, a_symbol, symbol_more, quoted, word_checked, run_of, is_quote, is_letter}
 use Rattle.pf_tokens.specs.Files.{text_of_file}
 use Rattle.pf_tokens.proofs.Binds.{then_all, or_else, ok_all, err_all}
-use Rattle.pf_tokens.specs.{Latest.{latest, value_of}, Flat.{State, parts_of, value_at, replaced, Left, put, put_each, put_line, braces, tokens_of_value, joined, short, defined, defined_by, defining, name_checked, first_place, file_name, leaving, Including, Line, longer, lines, define, counted_uses, begun, with_left, with_words, read_counted, read_line, read_lines, read_text, including, read_file, all_closed, is_closed, is_definition, is_include}}
+use Rattle.pf_tokens.specs.{Latest.{latest, value_of, is_word_at}, Flat.{name_of, modifier_of, modifier_checked, used, State, parts_of, value_at, replaced, Left, put, put_each, put_line, braces, text_of_value, is_one_word, macro_of, defined, defined_by, defining, name_checked, first_place, file_name, leaving, Including, Line, longer, lines, define, counted_uses, begun, with_left, with_words, read_counted, read_line, read_lines, read_text, including, read_file, all_closed, is_closed, is_definition, is_include}}
 
 abbrev Free : List Token → Type 0
 Free ts = list_any is_macro ts ≡ false
@@ -80,9 +80,10 @@ lex-free n zero (c ∷ cs) ts is =
 abbrev Values : List Macro → Type 0
 Values ms = list_any (λ (m : Macro). list_any is_macro m.value) ms ≡ false
 
-moved-free : (p : Place) (ts : List Token) → Free ts → Free (map (moved p) ts)
-moved-free p [] is = refl
-moved-free p (t ∷ ts) is = free-cons (moved p t) (map (moved p) ts) (free-head t ts is) (moved-free p ts (free-tail t ts is))
+used-free : (p : Place) (modifier : List Placed) (ts : List Token) → Free ts → Free (map (used p modifier) ts)
+used-free p modifier [] is = refl
+used-free p modifier (t ∷ ts) is = free-cons (used p modifier t) (map (used p modifier) ts) (free-head t ts is)
+    (used-free p modifier ts (free-tail t ts is))
 
 values-head : (m : Macro) (ms : List Macro) → Values (m ∷ ms) → Free m.value
 values-head m ms is = or-false_left (list_any is_macro m.value) (list_any (λ (n : Macro). list_any is_macro n.value) ms) is
@@ -96,13 +97,16 @@ value_of-free (m ∷ ms) zero is = values-head m ms is
 value_of-free (m ∷ ms) (suc n) is = value_of-free ms n (values-tail m ms is)
 
 value_at-free : (t : Token) (ms : List Macro) (o : Option ℕ) (ps : List Token) → Values ms → value_at t ms o ≡ Ok ps → Free ps
-value_at-free t ms None ps values is = err_all Free (faulty t.place (mistakes.Undefined (text_of t.text))) ps is
+value_at-free t ms None ps values is = err_all Free (faulty t.place (mistakes.Undefined (text_of (name_of t)))) ps is
 value_at-free t ms (Some n) ps values is =
     let there : Place = used_at t.place n in
-    ok_all Free (map (moved there) (value_of ms n)) ps (moved-free there (value_of ms n) (value_of-free ms n values)) is
+    let made : List Token = map (used there (modifier_of t)) (value_of ms n) in
+    then_all Free (modifier_checked (is_word_at ms n) (modifier_of t)) (λ _. Ok made) ps
+    (λ u checked. ok_all Free made ps (used-free there (modifier_of t) (value_of ms n) (value_of-free ms n values))) is
 
-parts-free_by : (b : Bool) (ms : List Macro) (t : Token) (ps : List Token) → is_macro t ≡ b → Values ms → (if b then value_at t ms (latest (text_of t.text) ms) else Ok (t ∷ [])) ≡ Ok ps → Free ps
-parts-free_by true ms t ps is values here = value_at-free t ms (latest (text_of t.text) ms) ps values here
+parts-free_by : (b : Bool) (ms : List Macro) (t : Token) (ps : List Token) → is_macro t ≡ b → Values ms
+    → (if b then value_at t ms (latest (text_of (name_of t)) ms) else Ok (t ∷ [])) ≡ Ok ps → Free ps
+parts-free_by true ms t ps is values here = value_at-free t ms (latest (text_of (name_of t)) ms) ps values here
 parts-free_by false ms t ps is values here = ok_all Free (t ∷ []) ps (free-cons t [] is refl) here
 
 parts_of-free : (ms : List Macro) (t : Token) (ps : List Token) → Values ms → parts_of ms t ≡ Ok ps → Free ps
@@ -140,25 +144,21 @@ put_line-free ms (t ∷ ts) x y values free is =
 abbrev MacroFree : Macro → Type 0
 MacroFree m = Free m.value
 
-value_read-free : (n : ℕ) (first : Place) (ps value : List Token) → (joined ps >>= short first >>= lex sources.Value n 0) ≡ Ok value → Free value
-value_read-free n first ps value is = then_all Free (joined ps >>= short first) (lex sources.Value n 0) value (λ cs text here. lex-free n 0 cs value here) is
-
-tokens_of_value-free : (n : ℕ) (first end_place : Place) (ps value : List Token) → tokens_of_value n first end_place ps ≡ Ok value → Free value
-tokens_of_value-free n first end_place ps value is = or_else Free (length ps == 0) value (err_all Free (faulty end_place mistakes.NoValue) value) (value_read-free n first ps value) is
-
-defined_value-free : (n : ℕ) (ms : List Macro) (behind : List Token) (p : Place) (value : List Token) → (replaced ms behind >>= tokens_of_value n (first_place behind p) p) ≡ Ok value → Free value
-defined_value-free n ms behind p value is = then_all Free (replaced ms behind) (tokens_of_value n (first_place behind p) p) value (λ ps parts here. tokens_of_value-free n (first_place behind p) p ps value here) is
-
-defined_macro-free : (n : ℕ) (ms : List Macro) (behind : List Token) (text : List ℕ) (p : Place) (m : Macro) → (replaced ms behind >>= tokens_of_value n (first_place behind p) p >>= λ value. Ok (record { name = text; value = value })) ≡ Ok m → MacroFree m
-defined_macro-free n ms behind text p m is =
-    then_all MacroFree (replaced ms behind >>= tokens_of_value n (first_place behind p) p) (λ (value : List Token). Ok (record { name = text; value = value })) m
-    (λ value read here. ok_all MacroFree (record { name = text; value = value }) m (defined_value-free n ms behind p value read) here) is
+macro_of-free : (n : ℕ) (name : List ℕ) (text : List Placed) (m : Macro) → macro_of n name text ≡ Ok m → MacroFree m
+macro_of-free n name text m is =
+    then_all MacroFree (lex sources.Value n 0 text)
+    (λ (value : List Token). Ok (record { name = name; is_word = is_one_word text value; value = value })) m
+    (λ value read here. ok_all MacroFree (record { name = name; is_word = is_one_word text value; value = value }) m
+    (lex-free n 0 text value read) here) is
 
 defined-free : (n : ℕ) (ms : List Macro) (name : Token) (behind : List Token) (p : Place) (m : Macro) → defined n ms name behind p ≡ Ok m → MacroFree m
 unfolding defined
 defined-free n ms name behind p m is =
-    then_all MacroFree (name_checked name) (λ _. replaced ms behind >>= tokens_of_value n (first_place behind p) p >>= λ value. Ok (record { name = text_of name.text; value = value })) m
-    (λ u checked whole. defined_macro-free n ms behind (text_of name.text) p m whole) is
+    then_all MacroFree (name_checked name) (λ _. replaced ms behind >>= text_of_value (first_place behind p) p
+    >>= macro_of n (text_of name.text)) m
+    (λ u checked whole. then_all MacroFree (replaced ms behind >>= text_of_value (first_place behind p) p)
+    (macro_of n (text_of name.text)) m
+    (λ text read here. macro_of-free n (text_of name.text) text m here) whole) is
 
 defined_by-free : (n : ℕ) (ms : List Macro) (line : List Token) (p : Place) (m : Macro) → defined_by n ms line p ≡ Ok m → MacroFree m
 defined_by-free n ms [] p m is = err_all MacroFree (faulty p mistakes.NoValue) m is

@@ -14,6 +14,9 @@ take_item {X} xs i x in_list here = take_more xs i x in_list ∙ ap (λ (y : X).
 pub map_item : {X Y : Type 0} → (f : X → Y) (xs : List X) (i : ℕ) (x : X) → i < length xs → x ≡ get_or xs i x → map f (take (i + 1) xs) ≡ map f (take i xs) ++ f x ∷ []
 map_item {X} f xs i x in_list here = ap (λ (ys : List X). map f ys) (take_item xs i x in_list here) ∙ map-append f (take i xs) (x ∷ [])
 
+pub map_both : {X Y : Type 0} → (f : X → Y) (xs ys : List X) → map f (xs ++ ys) ≡ map f xs ++ map f ys
+map_both {X} f xs ys = map-append f xs ys
+
 -- two texts, from a place on
 pub texts_step : (text : List Placed) (bytes : List ℕ) (i : ℕ) (c : Placed) → i < length text → i < length bytes → c ≡ get_or text i c → bytes_eq (text_of (drop i text)) (drop i bytes) ≡ ((c.byte == get_or bytes i 0) && bytes_eq (text_of (drop (i + 1) text)) (drop (i + 1) bytes))
 texts_step text bytes i c in_text in_bytes here =

@@ -1,5 +1,5 @@
 -- How macros, values and lines go on behind the first tokens.
-use Rattle.std.proofs.Common.{◌≡◌, ℕ, zero, suc, ◌+◌, ◌-◌, ◌==◌, ◌<◌, ◌≤◌, Bool, true, false, Option, Some, None, List, [], ◌∷◌, ◌++◌, map, Result, Ok, Err, length, get_or, take, drop, refl, sym, ap, subst, ◌∙◌, append_assoc, arith, if◌then◌else◌}
+use Rattle.std.proofs.Common.{◌≡◌, ℕ, zero, suc, ◌+◌, ◌-◌, ◌==◌, ◌<◌, ◌≤◌, Bool, true, false, Option, Some, None, List, [], ◌∷◌, ◌++◌, Result, Ok, Err, length, get_or, take, drop, refl, sym, ap, subst, ◌∙◌, append_assoc, arith, if◌then◌else◌}
 use Rattle.std.specs.{Prelude.IfSome, Option.{option_or}, Str.{bytes_eq}, List.{flat_map}}
 use Rattle.std.proofs.lemmas.List.Concat.{flat_map-append}
 use Rattle.std.proofs.lemmas.{List.append-nil, Bool.ne_eqb}
@@ -7,9 +7,9 @@ use Rattle.std.specs.{BTreeMap.{BTreeMap, Updates, is_at}, declared.vec.Vec.Vec,
 use Rattle.std.proofs.lemmas.Map.Text.{is_eq-slice_cmp}
 use Rattle.pf_form.specs.Form.Forms.{◌>>=◌}
 use Rattle.pf_tokens.specs.declared.{place.Place.Place, place.Placed.Placed, token.Token.Token, flat.Macro.Macro, fault.Stop.Stop}
-use Rattle.pf_tokens.specs.declared.fault.Mistake.TheVariants.{Undefined, OpenBrace}
-use Rattle.pf_tokens.specs.{Places.{used_at, text_of}, Stops.faulty, Words.{is_macro, moved}}
-use Rattle.pf_tokens.specs.{Latest.{latest, latest_from, value_of, number_at}, Flat.{parts_of, with_parts, replaced, part_checked, parts_checked, spaced, has_bytes, value_text, with_part, Left, put, put_each, put_line, last_of, all_closed}}
+use Rattle.pf_tokens.specs.declared.fault.Mistake.TheVariants.{OpenBrace}
+use Rattle.pf_tokens.specs.{Stops.faulty}
+use Rattle.pf_tokens.specs.{Latest.{latest, latest_from, number_at}, Flat.{parts_of, with_parts, replaced, part_checked, parts_checked, spaced, has_bytes, value_text, with_part, Left, put, put_each, put_line, last_of, all_closed}}
 use Rattle.pf_tokens.proofs.Steps.{drop_item, take_item}
 
 -- ---- the latest definition
@@ -82,25 +82,6 @@ replaced-cons ms t ts = refl
 pub replaced-end : (ms : List Macro) → replaced ms [] ≡ Ok []
 unfolding replaced
 replaced-end ms = refl
-
--- a definition by its number
-value_at_number : (ms : List Macro) (n : ℕ) (m : Macro) → n < length ms → m ≡ get_or ms n m → value_of ms n ≡ m.value
-value_at_number [] n m in_list here = absurd (omega arith)
-value_at_number (x ∷ ms) zero m in_list here = ap (λ (y : Macro). y.value) (sym here)
-value_at_number (x ∷ ms) (suc n) m in_list here = value_at_number ms n m (omega arith) here
-
-pub with_use : (ms : List Macro) (t : Token) (n : ℕ) (m : Macro) (p : Place) (out out' : List Token) → is_macro t ≡ true → latest (text_of t.text) ms ≡ Some n → n < length ms → m ≡ get_or ms n m → p ≡ used_at t.place n → out' ≡ out ++ map (moved p) m.value → with_parts ms t out ≡ Ok out'
-unfolding with_parts parts_of
-with_use ms t n m p out out' is defined in_list here place is_out =
-    rw (is, defined, value_at_number ms n m in_list here) (ap (λ (q : Place). Ok (out ++ map (moved q) m.value)) (sym place) ∙ ap (λ (ts : List Token). Ok ts) (sym is_out))
-
-pub with_undefined : (ms : List Macro) (t : Token) (out : List Token) → is_macro t ≡ true → latest (text_of t.text) ms ≡ None → with_parts ms t out ≡ Err (faulty t.place (Undefined (text_of t.text)))
-unfolding with_parts parts_of
-with_undefined ms t out is none = rw (is, none) refl
-
-pub with_itself : (ms : List Macro) (t : Token) (out out' : List Token) → is_macro t ≡ false → out' ≡ out ++ t ∷ [] → with_parts ms t out ≡ Ok out'
-unfolding with_parts parts_of
-with_itself ms t out out' is is_out = rw is (ap (λ (ts : List Token). Ok ts) (sym is_out))
 
 -- a token's parts behind none
 pub with_parts_first : (ms : List Macro) (t : Token) → with_parts ms t [] ≡ parts_of ms t

@@ -1,22 +1,40 @@
 -- Macros and includes (pf.conf(5), MACROS, and "include" in GRAMMAR): the tokens that are left of a file and of those that it includes.
-use Rattle.std.specs.Prelude.{◌≡◌, ◌==◌, ℕ, zero, suc, ◌+◌, ◌-◌, nat_lt, nat_le, ◌&&◌, ◌||◌, not, Bool, true, false, List, [], ◌∷◌, ◌++◌, map, length, take, codes, Option, Some, None, Result, Ok, Err, if◌then◌else◌}
+use Rattle.std.specs.Prelude.{◌≡◌, ◌==◌, ℕ, zero, suc, ◌+◌, ◌-◌, nat_lt, nat_le, ◌&&◌, ◌||◌, not, Bool, true, false, List, [], ◌∷◌, ◌++◌, map, length, take, drop, codes, Option, Some, None, Result, Ok, Err, if◌then◌else◌}
 use Rattle.std.specs.List.{list_all, flat_map}
 use Rattle.pf_form.specs.Form.Forms.{◌>>=◌}
 use Rattle.pf_tokens.specs.declared.{place.Place.Place, place.Placed.Placed, token.Token.Token, flat.Macro.Macro, flat.Flat.Flat, counting.TheConstants.TOKEN_LIMIT, flat.TheConstants.VALUE_LIMIT, files.File.File, fault.Stop.Stop, fault.Stop.TheVariants.{Faulty, Needs, Memory}}
 use Rattle.pf_tokens.specs.declared.token.Kind.TheVariants as kinds
 use Rattle.pf_tokens.specs.declared.fault.Mistake.TheVariants as mistakes
 use Rattle.pf_tokens.specs.declared.lexing.Source.TheVariants as sources
-use Rattle.pf_tokens.specs.{Places.{start_of, used_at, at, text_of}, Stops.faulty, Words.{same_kind, is_word, is_symbol, is_newline, is_macro, is_keyword_word, is_number, is_string, moved}, Counting.{words_in, counted_at}, Files.text_of_file, Latest.{latest, value_of}, Placed.placed, Lexing.{is_letter, lex}}
+use Rattle.pf_tokens.specs.declared.lexing.Run.TheVariants as runs
+use Rattle.pf_tokens.specs.{Places.{start_of, used_at, at, text_of}, Stops.faulty, Words.{same_kind, is_word, is_symbol, is_newline, is_macro, is_keyword_word, is_number, is_string, moved}, Counting.{words_in, counted_at}, Files.text_of_file, Latest.{latest, value_of, is_word_at}, Placed.placed, Lexing.{is_letter, run_of, lex}}
 
 -- ---- what a macro's use stands for
 
+-- The name of a macro that is used, and the modifier that stands directly behind it, as in "$int_if:network".
+abbrev pub name_of : Token → List Placed
+name_of t = run_of runs.Letters t.text
+
+abbrev pub modifier_of : Token → List Placed
+modifier_of t = drop (length (name_of t)) t.text
+
+-- A modifier goes on with the value's word (pf.conf(5), MACROS: a macro's value stands in place of its name), so the value has to be one.
+abbrev pub modifier_checked : Bool → List Placed → Result (Unit {0}) Stop
+modifier_checked is_word [] = Ok tt
+modifier_checked is_word (c ∷ cs) = if is_word then Ok tt else Err (faulty c.place (mistakes.InterfaceAddress (text_of (c ∷ cs))))
+
+-- a word of a value, with a modifier, at the place of the macro's use
+abbrev pub used : Place → List Placed → Token → Token
+used p modifier t = moved p (record t { text = t.text ++ modifier })
+
 abbrev pub value_at : Token → List Macro → Option ℕ → Result (List Token) Stop
-value_at t ms None = Err (faulty t.place (mistakes.Undefined (text_of t.text)))
-value_at t ms (Some n) = Ok (map (moved (used_at t.place n)) (value_of ms n))
+value_at t ms None = Err (faulty t.place (mistakes.Undefined (text_of (name_of t))))
+value_at t ms (Some n) =
+    modifier_checked (is_word_at ms n) (modifier_of t) >>= λ _. Ok (map (used (used_at t.place n) (modifier_of t)) (value_of ms n))
 
 -- what a token stands for: itself, unless it is the use of a macro
 unfoldable pub parts_of : List Macro → Token → Result (List Token) Stop
-parts_of ms t = if is_macro t then value_at t ms (latest (text_of t.text) ms) else Ok (t ∷ [])
+parts_of ms t = if is_macro t then value_at t ms (latest (text_of (name_of t)) ms) else Ok (t ∷ [])
 
 -- these tokens, and behind them what a token stands for
 unfoldable pub with_parts : List Macro → Token → List Token → Result (List Token) Stop
@@ -28,7 +46,7 @@ counted_value n t ms None = Ok n
 counted_value n t ms (Some k) = counted_at (used_at t.place k) n (value_of ms k)
 
 unfoldable pub counted_use : List Macro → ℕ → Token → Result ℕ Stop
-counted_use ms n t = if is_macro t then counted_value n t ms (latest (text_of t.text) ms) else Ok n
+counted_use ms n t = if is_macro t then counted_value n t ms (latest (text_of (name_of t)) ms) else Ok n
 
 -- the same of a line's tokens
 unfoldable pub counted_uses : List Macro → ℕ → List Token → Result ℕ Stop
@@ -88,10 +106,21 @@ joined ts = parts_checked ts >>= λ _. Ok (value_text ts)
 abbrev pub short : Place → List Placed → Result (List Placed) Stop
 short first value = if nat_le (length value) VALUE_LIMIT then Ok value else Err (faulty first mistakes.LongValue)
 
--- the tokens of a value, given how many words were read, its parts, where what stands behind "=" begins, and where the line ends
-abbrev pub tokens_of_value : ℕ → Place → Place → List Token → Result (List Token) Stop
-tokens_of_value n first end_place parts =
-    if length parts == 0 then Err (faulty end_place mistakes.NoValue) else (joined parts >>= short first >>= lex sources.Value n 0)
+-- the text of a value, given its parts, where what stands behind "=" begins, and where the line ends
+abbrev pub text_of_value : Place → Place → List Token → Result (List Placed) Stop
+text_of_value first end_place parts =
+    if length parts == 0 then Err (faulty end_place mistakes.NoValue) else (joined parts >>= short first)
+
+-- whether a value's text is one word, without a blank before or behind it
+abbrev pub is_one_word : List Placed → List Token → Bool
+is_one_word text [] = false
+is_one_word text (t ∷ []) = same_kind t.kind kinds.Word && (length t.text == length text)
+is_one_word text (t ∷ u ∷ ts) = false
+
+-- the macro of this name with this value, given how many words were read before
+abbrev pub macro_of : ℕ → List ℕ → List Placed → Result Macro Stop
+macro_of n name text =
+    lex sources.Value n 0 text >>= λ value. Ok (record { name = name; is_word = is_one_word text value; value = value })
 
 -- where the first of these stands, or else the line's end
 abbrev pub first_place : List Token → Place → Place
@@ -101,8 +130,8 @@ first_place (t ∷ ts) end_place = t.place
 -- what a macro is defined as, by its name and what stands behind "="
 unfoldable pub defined : ℕ → List Macro → Token → List Token → Place → Result Macro Stop
 defined n ms name behind end_place =
-    name_checked name >>= λ _. replaced ms behind >>= tokens_of_value n (first_place behind end_place) end_place
-    >>= λ value. Ok (record { name = text_of name.text; value = value })
+    name_checked name >>= λ _. replaced ms behind >>= text_of_value (first_place behind end_place) end_place
+    >>= macro_of n (text_of name.text)
 
 -- the same, by the line's tokens
 abbrev pub defined_by : ℕ → List Macro → List Token → Place → Result Macro Stop

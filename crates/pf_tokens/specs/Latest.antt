@@ -1,5 +1,5 @@
 -- The macros that are defined (pf.conf(5), MACROS): a name means its latest definition.
-use Rattle.std.specs.Prelude.{ℕ, ◌+◌, List, [], ◌∷◌, Option, Some, None, if◌then◌else◌}
+use Rattle.std.specs.Prelude.{ℕ, ◌+◌, Bool, false, List, [], ◌∷◌, Option, Some, None, if◌then◌else◌}
 use Rattle.std.specs.{List.slice_get, Str.bytes_eq, Option.{option_map_or, option_or}, BTreeMap.{BTreeMap, get_by}, Ordering.nat_cmp, Cmp.Lexicographic.slice_cmp, declared.vec.Vec.Vec}
 use Rattle.pf_tokens.specs.declared.{token.Token.Token, flat.Macro.Macro}
 
@@ -13,6 +13,9 @@ latest name ms = latest_from 0 name ms
 
 abbrev pub value_of : List Macro → ℕ → List Token
 value_of ms n = option_map_or (λ (m : Macro). m.value) (slice_get ms n) []
+
+abbrev pub is_word_at : List Macro → ℕ → Bool
+is_word_at ms n = option_map_or (λ (m : Macro). m.is_word) (slice_get ms n) false
 
 -- the number that is kept by a name
 abbrev pub number_at : {A : Type 0} → BTreeMap (Vec ℕ A) ℕ → List ℕ → Option ℕ

@@ -3,7 +3,7 @@ use Rattle.std.specs.Prelude.{ℕ, zero, suc, ◌+◌, ◌==◌, nat_le, nat_lt,
 use Rattle.std.specs.{List.list_any, Str.bytes_eq, Char.is_ascii_alphanumeric, Option.option_to_list}
 use Rattle.pf_form.specs.Form.Forms.{◌>>=◌}
 use Rattle.pf_tokens.specs.declared.{place.Placed.Placed, token.Token.Token, token.Kind.Kind, token.Kind.TheVariants.{Word, Quoted, Symbol, Macro, Newline}, lexing.Source.Source, lexing.Run.Run, lexing.Front.Front, fault.Stop.Stop}
-use Rattle.pf_tokens.specs.declared.fault.Mistake.TheVariants.{Byte, Character, Backslash, OpenQuote, QuoteInWord, DollarInWord, NoMacroName, InterfaceAddress, Joined, MacroInValue, CommentInValue}
+use Rattle.pf_tokens.specs.declared.fault.Mistake.TheVariants.{Byte, Character, Backslash, OpenQuote, QuoteInWord, DollarInWord, NoMacroName, Joined, MacroInValue, CommentInValue}
 use Rattle.pf_tokens.specs.declared.lexing.Source.TheVariants as sources
 use Rattle.pf_tokens.specs.declared.lexing.Run.TheVariants as runs
 use Rattle.pf_tokens.specs.{Places.text_of, Stops.faulty, Counting.counted_some}
@@ -61,17 +61,16 @@ word_checked (c ∷ cs) =
     else if c.byte == 92 then Err (faulty c.place Backslash)
     else word_checked cs
 
--- addresses of an interface, behind its name
-abbrev pub is_of_interface : List ℕ → Bool
-is_of_interface text =
+-- what can be asked of an interface, behind its name (pf.conf(5), PARAMETERS, "from": modifiers of interfaces)
+abbrev pub is_modifier : List ℕ → Bool
+is_modifier text =
     bytes_eq text (codes ":network") || bytes_eq text (codes ":broadcast") || bytes_eq text (codes ":peer") || bytes_eq text (codes ":0")
 
--- given the run of word bytes directly behind a macro
-abbrev pub unjoined : List Placed → Result (Unit {0}) Stop
-unjoined [] = Ok tt
-unjoined (c ∷ cs) =
-    if is_of_interface (text_of (c ∷ cs)) then Err (faulty c.place InterfaceAddress)
-    else Err (faulty c.place (Joined (text_of (c ∷ cs))))
+-- how many bytes directly behind a macro's name belong to its use, given the run of word bytes there: those of a modifier
+abbrev pub modifier_more : List Placed → Result ℕ Stop
+modifier_more [] = Ok 0
+modifier_more (c ∷ cs) =
+    if is_modifier (text_of (c ∷ cs)) then Ok (length (c ∷ cs)) else Err (faulty c.place (Joined (text_of (c ∷ cs))))
 
 -- two bytes that are one symbol: <> >< ->
 abbrev pub is_pair : ℕ → ℕ → Bool
@@ -103,11 +102,15 @@ abbrev pub comment : Source → Placed → List Placed → Result Front Stop
 comment sources.File c cs = Ok (skipped (length (run_of runs.Line cs)))
 comment sources.Value c cs = Err (faulty c.place CommentInValue)
 
+-- the use of a macro, with so many bytes behind the "$"
+abbrev pub a_macro : Placed → List Placed → ℕ → Front
+a_macro c cs more = token_of Macro c (take more cs) more
+
 -- given the letters behind the "$"
 abbrev pub named_macro : Placed → List Placed → List Placed → Result Front Stop
 named_macro c name cs =
     if length name == 0 then Err (faulty c.place NoMacroName)
-    else (unjoined (run_of runs.Word (drop (length name) cs)) >>= λ _. Ok (token_of Macro c name (length name)))
+    else (modifier_more (run_of runs.Word (drop (length name) cs)) >>= λ n. Ok (a_macro c cs (length name + n)))
 
 abbrev pub macro_use : Source → Placed → List Placed → Result Front Stop
 macro_use sources.File c cs = named_macro c (run_of runs.Letters cs) cs

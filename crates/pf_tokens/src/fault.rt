@@ -31,8 +31,8 @@ pub enum Mistake {
     DollarInWord,
     #[error("a macro's name has to stand behind '$'")]
     NoMacroName,
-    #[error("addresses of interfaces aren't known here: write them")]
-    InterfaceAddress,
+    #[error("'{0}' is joined to a macro whose value isn't one word")]
+    InterfaceAddress(Bytes),
     #[error("'{0}' is joined to a macro: a macro is a whole word")]
     Joined(Bytes),
     #[error("macros aren't replaced within quotes")]

@@ -1,15 +1,16 @@
 //! Tokens without macros, definitions of macros and includes.
-ghost use Rattle.std.specs.Prelude.{◌≡◌, ◌≤◌, ◌<◌, ◌+◌, ◌∷◌, ◌++◌, [], drop, length, Some, Err, Ok, IfOk, IfSome, IsTrue, MatchOption, OnErr, OnOk};
-ghost use Rattle.pf_tokens.specs.{declared.place.Place.Place, Places.{start_of, text_of}, Stops.{Gives, Leaves}, Words.{is_newline}, Counting.words_in, Latest.latest, Placed.placed, Lexing.lex};
-ghost use Rattle.pf_tokens.specs.Flat.{with_parts, replaced, is_definition, has_letters_alone, name_checked, part_checked, with_part, joined, tokens_of_value, first_place, defined, counted_value, counted_use, counted_uses, is_include, only_string, file_name, defining, lines, braces, put, put_each, put_line, all_closed, Reaches, ReachesLine, including, read_counted, read_line, read_file};
+ghost use Rattle.std.specs.Prelude.{◌≡◌, ◌≤◌, ◌<◌, ◌+◌, ◌∷◌, ◌++◌, [], drop, map, length, Some, Err, Ok, IfOk, IfSome, IsTrue, MatchOption, OnErr, OnOk};
+ghost use Rattle.pf_tokens.specs.{declared.place.{Place.Place, Placed.Placed}, Places.{start_of, at, text_of}, Stops.{Gives, Leaves}, Words.{is_newline}, Counting.words_in, Latest.latest, Placed.placed, Lexing.lex};
+ghost use Rattle.pf_tokens.specs.Flat.{name_of, modifier_of, modifier_checked, used, with_parts, replaced, is_definition, has_letters_alone, name_checked, part_checked, with_part, joined, text_of_value, is_one_word, macro_of, first_place, defined, counted_value, counted_use, counted_uses, is_include, only_string, file_name, defining, lines, braces, put, put_each, put_line, all_closed, Reaches, ReachesLine, including, read_counted, read_line, read_file};
 
 use crate::counting::{TOKEN_LIMIT, count_at};
 use crate::fault::{Mistake, Stop, refusal};
 use crate::files::{FILE_LIMIT, Files, READING_LIMIT, text_of_file};
 use crate::items::{Bytes, Items, PlacedText};
-use crate::lexing::{Source, is_letter, lex};
+use crate::lexing::{Source, is_letter, lex, name_in};
 use crate::place::{Place, Placed};
 use crate::placing::placed;
+use crate::texts::bytes_of;
 use crate::token::{Kind, Token};
 use std::alloc::{AllocError, Global};
 use std::collections::BTreeMap;
@@ -24,6 +25,8 @@ pub const VALUE_LIMIT: usize = 4_096;
 #[derive(Debug, Drop)]
 pub struct Macro {
     pub name: Bytes,
+    /// Whether its value's text is one word, so that a modifier can go on with it.
+    pub is_word: bool,
     /// Its value's tokens.
     pub value: Items<Token>,
 }
@@ -105,6 +108,58 @@ pub struct Flat {
     pub tokens: Items<Token>,
 }
 
+/// The name of a macro that is used.
+fn name_of(token: &Token) -> &[Placed]
+    ensures name { result.now ≡ name_of token.now }
+    ensures bound { length result.now ≤ length token.now.text }
+{
+    name_in(token.text.as_slice())
+}
+
+/// The modifier behind the name.
+fn modifier_of(token: &Token) -> &[Placed]
+    ensures { result.now ≡ modifier_of token.now }
+{
+    &token.text.as_slice()[name_of(token).len()..]
+}
+
+/// Checks that a modifier, if there is one, stands behind a value that is one word.
+fn check_modifier(alloc: Global, is_word: bool, modifier: &[Placed]) -> Result<(), Stop>
+    ensures { Gives result (modifier_checked is_word modifier.now) }
+{
+    match modifier {
+        [first, ..] if !is_word => Err(refusal(
+            first.place,
+            Mistake::InterfaceAddress(bytes_of(alloc, modifier)?),
+        )),
+        _ => Ok(()),
+    }
+}
+
+/// Appends these bytes, all at this place.
+#[tactic(auto, using(crate::proofs::Steps::map_item))]
+fn push_moved(place: Place, bytes: &[Placed], text: &mut PlacedText) -> Result<(), AllocError>
+    ensures { OnOk result (text.new ≡ text.old ++ map (λ (c : Placed). at c.byte place) bytes.now) }
+{
+    for placed in bytes {
+        let byte = placed.byte;
+        text.push(Placed { byte, place })?;
+    }
+    Ok(())
+}
+
+/// A word of a value, with a modifier, at the place of the macro's use.
+#[tactic(auto, using(crate::proofs::Steps::map_both))]
+fn used(alloc: Global, place: Place, modifier: &[Placed], word: &Token) -> Result<Token, AllocError>
+    ensures { IfOk result (λ t. t ≡ used place modifier.now word.now) }
+{
+    let mut text = Items::new(alloc);
+    push_moved(place, word.text.as_slice(), &mut text)?;
+    push_moved(place, modifier, &mut text)?;
+    let kind = word.kind;
+    Ok(Token { kind, place, text })
+}
+
 /// Appends what a token stands for: the value of a macro, at the place of its use; of any other token, itself.
 #[tactic(auto, using(crate::proofs::Steps::map_item), unfolding(crate::specs::Flat::with_parts, crate::specs::Flat::parts_of))]
 fn replace(
@@ -119,13 +174,16 @@ fn replace(
         out.push(token.copied(alloc)?)?;
         return Ok(());
     }
-    let name = token.bytes(alloc)?;
+    let name = bytes_of(alloc, name_of(token))?;
     let Some(number) = macros.latest(name.as_slice()) else {
         return Err(refusal(token.place, Mistake::Undefined(name)));
     };
+    let modifier = modifier_of(token);
+    let definition = &macros.as_slice()[number];
+    check_modifier(alloc, definition.is_word, modifier)?;
     let place = token.place.used(number);
-    for part in macros.as_slice()[number].value.as_slice() {
-        out.push(part.moved(alloc, place)?)?;
+    for part in definition.value.as_slice() {
+        out.push(used(alloc, place, modifier, part)?)?;
     }
     Ok(())
 }
@@ -137,9 +195,10 @@ fn count_value(
     words_read: &mut usize,
     token: &Token,
 ) -> Result<(), Stop>
-    ensures { Leaves result words_read.new (counted_value words_read.old token.now macros.now (latest (text_of token.now.text) macros.now)) }
+    ensures { Leaves result words_read.new
+        (counted_value words_read.old token.now macros.now (latest (text_of (name_of token.now)) macros.now)) }
 {
-    let name = token.bytes(alloc)?;
+    let name = bytes_of(alloc, name_of(token))?;
     let Some(number) = macros.latest(name.as_slice()) else {
         return Ok(());
     };
@@ -278,16 +337,14 @@ fn joined(alloc: Global, parts: &[Token]) -> Result<PlacedText, Stop>
     Ok(value)
 }
 
-/// The tokens of a value, which are counted, given its parts, where what stands behind `=` begins, and where the line ends.
-fn tokens_of_value(
+/// The text of a value, given its parts, where what stands behind `=` begins, and where the line ends.
+fn text_of_value(
     alloc: Global,
-    words_read: &mut usize,
     parts: &[Token],
     first: Place,
     line_end: Place,
-) -> Result<Items<Token>, Stop>
-    ensures value { Gives result (tokens_of_value words_read.old first line_end parts.now) }
-    ensures counted { IfOk result (λ ts. words_read.new ≡ words_read.old + words_in ts) }
+) -> Result<PlacedText, Stop>
+    ensures { Gives result (text_of_value first line_end parts.now) }
 {
     if parts.is_empty() {
         return Err(refusal(line_end, Mistake::NoValue));
@@ -296,7 +353,37 @@ fn tokens_of_value(
     if value.len() > VALUE_LIMIT {
         return Err(refusal(first, Mistake::LongValue));
     }
-    lex(alloc, Source::Value, words_read, &value)
+    Ok(value)
+}
+
+/// Whether a value's text is one word, without a blank before or behind it.
+fn is_one_word(text: &PlacedText, value: &[Token]) -> bool
+    ensures { result ≡ is_one_word text.now value.now }
+{
+    match value {
+        [word] => word.kind == Kind::Word && word.text.len() == text.len(),
+        _ => false,
+    }
+}
+
+/// The macro of this name with this value, whose words are counted.
+fn macro_of(
+    alloc: Global,
+    words_read: &mut usize,
+    name: &Token,
+    text: &PlacedText,
+) -> Result<Macro, Stop>
+    ensures definition { Gives result (macro_of words_read.old (text_of name.now.text) text.now) }
+    ensures counted { IfOk result (λ m. words_read.new ≡ words_read.old + words_in m.value) }
+{
+    let value = lex(alloc, Source::Value, words_read, text)?;
+    let is_word = is_one_word(text, value.as_slice());
+    let name = name.bytes(alloc)?;
+    Ok(Macro {
+        name,
+        is_word,
+        value,
+    })
 }
 
 /// Where the first of these tokens stands, or else the line's end.
@@ -325,9 +412,8 @@ fn definition(
     check_name(alloc, name)?;
     let parts = replaced(alloc, macros, behind)?;
     let first = first_place(behind, line_end);
-    let value = tokens_of_value(alloc, words_read, parts.as_slice(), first, line_end)?;
-    let name = name.bytes(alloc)?;
-    Ok(Macro { name, value })
+    let text = text_of_value(alloc, parts.as_slice(), first, line_end)?;
+    macro_of(alloc, words_read, name, &text)
 }
 
 /// The one token, which is a string, that names a file.

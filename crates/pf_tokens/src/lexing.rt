@@ -1,7 +1,7 @@
 //! Tokens of placed bytes.
 ghost use Rattle.std.specs.Prelude.{◌≡◌, ◌≤◌, ◌<◌, ◌+◌, ◌∷◌, ◌++◌, length, take, drop, IfOk, OnOk};
 ghost use Rattle.std.specs.Option.{option_to_list};
-ghost use Rattle.pf_tokens.specs.{Stops.{Gives, Leaves}, Places.text_of, Counting.{words_in, counted_some}, Lexing.{is_letter, is_word_byte, goes_on, run_of, is_text, is_quote, is_pair, pairs, is_symbol_byte, is_printable, quoted, word_checked, is_of_interface, unjoined, symbol_more, a_quoted, a_symbol, comment, named_macro, macro_use, word, front, lex}};
+ghost use Rattle.pf_tokens.specs.{Stops.{Gives, Leaves}, Places.text_of, Counting.{words_in, counted_some}, Lexing.{is_letter, is_word_byte, goes_on, run_of, is_text, is_quote, is_pair, pairs, is_symbol_byte, is_printable, quoted, word_checked, is_modifier, modifier_more, symbol_more, a_quoted, a_symbol, comment, named_macro, macro_use, word, front, lex}};
 
 use crate::counting::count;
 use crate::fault::{Mistake, Stop, refusal};
@@ -88,6 +88,14 @@ fn run_of(run: Run, bytes: &[Placed]) -> &[Placed]
     &bytes[..length_of(run, bytes)]
 }
 
+/// The macro's name at the front of these bytes.
+pub(crate) fn name_in(bytes: &[Placed]) -> &[Placed]
+    ensures run { result.now ≡ run_of Run.Letters bytes.now }
+    ensures bound { length result.now ≤ length bytes.now }
+{
+    run_of(Run::Letters, bytes)
+}
+
 /// Whether a byte can stand in quotes.
 fn is_text(byte: u8) -> bool
     ensures { result ≡ is_text byte }
@@ -143,23 +151,24 @@ fn check_word(word: &[Placed]) -> Result<(), Stop>
     Ok(())
 }
 
-/// Checks that no byte of a word stands directly behind a macro.
-fn check_behind(alloc: Global, bytes: &[Placed]) -> Result<(), Stop>
-    ensures { Gives result (unjoined (run_of Run.Word bytes.now)) }
+/// How many bytes directly behind a macro's name belong to its use: those of a modifier. No other byte of a word can stand there.
+fn modifier(alloc: Global, bytes: &[Placed]) -> Result<usize, Stop>
+    ensures count { Gives result (modifier_more (run_of Run.Word bytes.now)) }
+    ensures bound { IfOk result (λ n. n ≤ length bytes.now) }
 {
     let joined = run_of(Run::Word, bytes);
     let [first, ..] = joined else {
-        return Ok(());
+        return Ok(0);
     };
-    if is_of_interface(joined) {
-        return Err(refusal(first.place, Mistake::InterfaceAddress));
+    if is_modifier(joined) {
+        return Ok(joined.len());
     }
     Err(refusal(first.place, Mistake::Joined(bytes_of(alloc, joined)?)))
 }
 
-/// Whether these bytes behind an interface's name are its addresses.
-fn is_of_interface(bytes: &[Placed]) -> bool
-    ensures { result ≡ is_of_interface (text_of bytes.now) }
+/// Whether these bytes can be asked of an interface, behind its name.
+fn is_modifier(bytes: &[Placed]) -> bool
+    ensures { result ≡ is_modifier (text_of bytes.now) }
 {
     same_bytes(bytes, b":network")
         || same_bytes(bytes, b":broadcast")
@@ -236,13 +245,12 @@ fn named_macro(alloc: Global, first: Placed, behind: &[Placed]) -> Result<Front,
     ensures named { Gives result (named_macro first (run_of Run.Letters behind.now) behind.now) }
     ensures bound { IfOk result (λ f. f.more ≤ length behind.now) }
 {
-    let name = run_of(Run::Letters, behind);
-    let more = name.len();
-    if more == 0 {
+    let name = name_in(behind).len();
+    if name == 0 {
         return Err(refusal(first.place, Mistake::NoMacroName));
     }
-    check_behind(alloc, &behind[more..])?;
-    let token = token(alloc, Kind::Macro, first, name)?;
+    let more = name + modifier(alloc, &behind[name..])?;
+    let token = token(alloc, Kind::Macro, first, &behind[..more])?;
     Ok(Front { token, more })
 }
 

@@ -1,9 +1,9 @@
 //! Tokens.
 ghost use Rattle.std.specs.{Prelude.{◌≡◌, IfOk}, Str.bytes_eq};
-ghost use Rattle.pf_tokens.specs.{Places.text_of, Words.{is_word, is_symbol, is_newline, is_macro, is_number, is_keyword_word, is_string, moved}};
+ghost use Rattle.pf_tokens.specs.{Places.text_of, Words.{is_word, is_symbol, is_newline, is_macro, is_number, is_keyword_word, is_string}};
 
 use crate::items::{Bytes, Items, PlacedText};
-use crate::place::{Place, Placed};
+use crate::place::Place;
 use crate::reserved::is_keyword;
 use crate::texts::{bytes_of, has_digits_alone, same_bytes};
 use std::alloc::{AllocError, Global};
@@ -17,7 +17,7 @@ pub enum Kind {
     Quoted,
     /// A brace, an operator and their like.
     Symbol,
-    /// The use of a macro, by its name.
+    /// The use of a macro, by its name and a modifier, as `$int_if:network`.
     Macro,
     /// The end of a line.
     Newline,
@@ -94,20 +94,6 @@ impl Token {
     {
         self.kind == Kind::Quoted
             || (self.kind == Kind::Word && !self.is_keyword() && !self.is_number())
-    }
-
-    /// The same token, at this place with all its bytes.
-    #[tactic(auto, using(crate::proofs::Steps::map_item))]
-    pub(crate) fn moved(&self, alloc: Global, place: Place) -> Result<Token, AllocError>
-        ensures { IfOk result (λ t. t ≡ moved place self.now) }
-    {
-        let mut text = Items::new(alloc);
-        for placed in self.text.as_slice() {
-            let byte = placed.byte;
-            text.push(Placed { byte, place })?;
-        }
-        let kind = self.kind;
-        Ok(Token { kind, place, text })
     }
 
     /// A copy of the token.

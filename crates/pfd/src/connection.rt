@@ -2,7 +2,7 @@
 ghost use Rattle.std.specs.Prelude.{◌≡◌, IfOk};
 ghost use Rattle.pf_addr.specs.Writing.{Writes};
 ghost use Rattle.pf_session.specs.Server.Askings.{denied_text};
-ghost use Rattle.pfd.specs.Connections.{BeginsAs, IsServedFrom};
+ghost use Rattle.pfd.specs.Connections.{BeginsAs, IsJudgedFrom, IsServedFrom};
 
 use crate::admitting::{Way, way_of};
 use crate::patience::Patience;
@@ -10,7 +10,7 @@ use crate::stream::{Arrival, Incoming, Outgoing, Received, Unsent};
 use pf_book::{Chapter, Seer};
 use pf_session::{
     AskBook, CallBook, EngineFault, Gate, LeftOff, LineSession, Pause, PeerStream, deny,
-    go_on_asking_by, go_on_by, go_on_peer_by,
+    go_on_asking_by, go_on_by, go_on_judging, go_on_peer_by,
 };
 use std::alloc::{AllocError, Global};
 use std::io::{self, ErrorKind, Read, Write};
@@ -95,6 +95,60 @@ impl Connection {
             return Ok(LeftOff::Paused);
         }
         self.end(pause)
+    }
+
+    /// Answers what it asks of packets, by the seer alone, if it is a session: from where it is, until a pause, a line of another kind or
+    /// its end. Whatever else it sends stays. Reads look up more often meanwhile.
+    pub(crate) fn judge<J: Chapter, G: Gate, P: Pause>(
+        &mut self,
+        alloc: Global,
+        seer: &mut Seer<J>,
+        gate: &G,
+        pause: &P,
+    ) -> Result<LeftOff, EngineFault> {
+        if self.send_rest(pause)? == LeftOff::Paused {
+            return Ok(LeftOff::Paused);
+        }
+        let brief = Patience::brief();
+        if self.arrival.stream.limit_reads(brief.span()).is_err() {
+            return Ok(LeftOff::Paused);
+        }
+        let left = self.judge_on(alloc, brief, seer, gate, pause);
+        match self
+            .arrival
+            .stream
+            .limit_reads(self.arrival.patience.span())
+        {
+            Ok(()) => left,
+            Err(_) => Err(EngineFault::Read),
+        }
+    }
+
+    // The same, where reads look up so often.
+    fn judge_on<J: Chapter, G: Gate, P: Pause>(
+        &mut self,
+        alloc: Global,
+        brief: Patience,
+        seer: &mut Seer<J>,
+        gate: &G,
+        pause: &P,
+    ) -> Result<LeftOff, EngineFault> {
+        let mut reader = Incoming {
+            stream: &self.arrival.stream,
+            received: self.received,
+            patience: brief,
+            pause,
+        };
+        let mut writer = Outgoing {
+            stream: &self.arrival.stream,
+            unsent: mem::replace(&mut self.unsent, Unsent::without_room(alloc)),
+            patience: self.arrival.patience,
+            pause,
+        };
+        let left = judge_stage(&mut self.stage, &mut reader, &mut writer, seer, gate, pause);
+        self.received = reader.received;
+        self.unsent = writer.into_unsent();
+        left
     }
 
     // Waits for its first byte, which says what it is.
@@ -298,6 +352,25 @@ fn serve_stage<C: CallBook<J> + AskBook<J>, J: Chapter, G: Gate, P: Pause, R: Re
         ),
         Stage::Peer(stream) => go_on_peer_by(alloc, stream, reader, writer, book, pause, &mut last),
         Stage::Silent | Stage::Leaving(_) | Stage::Over => Ok(LeftOff::Ended),
+    }
+}
+
+// Answers what a session asks of packets, by the seer alone, from where it is.
+fn judge_stage<J: Chapter, G: Gate, P: Pause, R: Read, O: Write>(
+    stage: &mut Stage,
+    reader: &mut R,
+    writer: &mut O,
+    seer: &mut Seer<J>,
+    gate: &G,
+    pause: &P,
+) -> Result<LeftOff, EngineFault>
+    ensures { IsJudgedFrom stage.old stage.new (G.passed gate.now) J.base J.setting result (R.remaining reader.old) (R.remaining reader.new)
+        seer.old seer.new (O.contents writer.old) (O.contents writer.new) }
+{
+    match stage {
+        Stage::Session(session) => go_on_judging(session, reader, writer, seer, gate, pause),
+        Stage::Asking(session) => go_on_judging(session, reader, writer, seer, gate, pause),
+        Stage::Silent | Stage::Peer(_) | Stage::Leaving(_) | Stage::Over => Ok(LeftOff::Paused),
     }
 }
 

@@ -5,6 +5,7 @@ use crate::accepting::{Accept, Acceptor};
 use crate::connection::Connection;
 use crate::log::logged::Logged;
 use crate::log::{KeepLog, NoLog};
+use crate::renewal::Callers;
 use crate::stream::Arrival;
 use pf_book::shared::Shared;
 use pf_book::{Chapter, Disk, Numbering, Publisher, Seer};
@@ -28,13 +29,15 @@ impl Accept for TcpListener {
     }
 }
 
-/// What goes from one opening to the next: how many connections were accepted, how many of them are open, and those that paused.
+/// What goes from one opening to the next: how many connections were accepted, how many of them are open, those that paused, and how many
+/// workers may call the Book.
 #[derive(Drop)]
 pub(crate) struct Reception {
     acceptor: Mutex<Acceptor>,
     open: AtomicU32,
     // with room for one of each worker
     paused: Mutex<VecDeque<Connection>>,
+    callers: Callers,
 }
 
 impl Reception {
@@ -48,6 +51,7 @@ impl Reception {
             acceptor: Mutex::new(Acceptor::new(sessions)),
             open: AtomicU32::new(0),
             paused: Mutex::new(VecDeque::with_capacity(alloc, workers)?),
+            callers: Callers::new(),
         })
     }
 
@@ -69,7 +73,7 @@ impl Reception {
         listener: &A,
         pause: &P,
     ) -> Option<Connection> {
-        if let Some(connection) = self.paused.lock(rt).pop_front() {
+        if let Some(connection) = self.next_paused(rt) {
             return Some(connection);
         }
         for _ in rt.forever() {
@@ -84,6 +88,11 @@ impl Reception {
             }
         }
         unreachable!()
+    }
+
+    // The next connection that paused, if there is one.
+    fn next_paused<W: Wait>(&self, rt: &W) -> Option<Connection> {
+        self.paused.lock(rt).pop_front()
     }
 
     // Keeps a connection that paused.
@@ -116,6 +125,41 @@ trait ServeConnection<J: Chapter> {
         connection: &mut Connection,
         seer: &mut Seer<J>,
     ) -> Result<LeftOff, EngineFault>;
+}
+
+/// What answers what connections ask of packets, where no Book is, in the opening `J`.
+trait JudgeConnection<J: Chapter> {
+    /// Answers what a connection asks of packets, from where it is, until a pause, a line of another kind or its end.
+    fn judge_connection<P: Pause>(
+        &self,
+        alloc: Global,
+        connection: &mut Connection,
+        seer: &mut Seer<J>,
+        pause: &P,
+    ) -> Result<LeftOff, EngineFault>;
+}
+
+/// What judges behind a gate, and notes faults.
+#[derive(Clone, Copy)]
+struct Judge<'a, G: Gate, L: KeepLog> {
+    gate: &'a G,
+    log: &'a L,
+}
+
+impl<J: Chapter, G: Gate, L: KeepLog> JudgeConnection<J> for Judge<'_, G, L> {
+    fn judge_connection<P: Pause>(
+        &self,
+        alloc: Global,
+        connection: &mut Connection,
+        seer: &mut Seer<J>,
+        pause: &P,
+    ) -> Result<LeftOff, EngineFault> {
+        let judged = connection.judge(alloc, seer, self.gate, pause);
+        if let Err(fault) = &judged {
+            self.log.note_fault(connection.number(), *fault);
+        }
+        judged
+    }
 }
 
 /// What serves connections by one Book. Workers needn't name a device, nor what waits.
@@ -163,38 +207,98 @@ impl<
     }
 }
 
-// Serves one connection after the other, with one seer, until a pause or until there are no more. It gives the seer back.
-fn work<W: Wait, A: Accept<Connection = Arrival>, J: Chapter, S: ServeConnection<J>, P: Pause>(
+// Serves one connection after the other, with one seer, until a pause or until there are no more. One that paused is returned.
+fn serve_each<
+    W: Wait,
+    A: Accept<Connection = Arrival>,
+    J: Chapter,
+    S: ServeConnection<J>,
+    P: Pause,
+>(
     rt: &W,
     alloc: Global,
     listener: &A,
     reception: &Reception,
     server: &S,
     pause: &P,
-    mut seer: Seer<J>,
-) -> Seer<J> {
+    seer: &mut Seer<J>,
+) -> Option<Connection> {
     for _ in rt.forever() {
         if pause.is_due() {
-            return seer;
+            return None;
         }
-        let Some(mut connection) = reception.next(rt, alloc, listener, pause) else {
-            return seer;
-        };
+        let mut connection = reception.next(rt, alloc, listener, pause)?;
         // a fault of a connection ends it alone
-        match server.serve_connection(alloc, &mut connection, &mut seer) {
-            Ok(LeftOff::Paused) => reception.keep(rt, connection),
-            _ => {
-                listener.release(connection.arrival());
-                reception.leave();
-            }
+        match server.serve_connection(alloc, &mut connection, seer) {
+            Ok(LeftOff::Paused) => return Some(connection),
+            _ => end_connection(listener, reception, &connection),
         }
     }
     unreachable!()
 }
 
+// Takes note that a connection has ended.
+fn end_connection<A: Accept<Connection = Arrival>>(
+    listener: &A,
+    reception: &Reception,
+    connection: &Connection,
+) {
+    listener.release(connection.arrival());
+    reception.leave();
+}
+
+// Has a connection that paused judge on, with one seer, until a pause. It is kept then.
+fn judge_on<W: Wait, A: Accept<Connection = Arrival>, J: Chapter, S: JudgeConnection<J>, P: Pause>(
+    rt: &W,
+    alloc: Global,
+    listener: &A,
+    reception: &Reception,
+    judge: &S,
+    pause: &P,
+    mut connection: Connection,
+    seer: &mut Seer<J>,
+) {
+    match judge.judge_connection(alloc, &mut connection, seer, pause) {
+        Ok(_) => reception.keep(rt, connection),
+        // a fault of a connection ends it alone
+        Err(_) => end_connection(listener, reception, &connection),
+    }
+}
+
+// Serves one connection after the other, with one seer, until a pause or until there are no more. One that paused judges on until no worker
+// calls the Book any more. It gives the seer back.
+fn work<
+    W: Wait,
+    A: Accept<Connection = Arrival>,
+    J: Chapter,
+    S: ServeConnection<J>,
+    T: JudgeConnection<J>,
+    P: Pause,
+>(
+    rt: &W,
+    alloc: Global,
+    listener: &A,
+    reception: &Reception,
+    server: &S,
+    judge: &T,
+    pause: &P,
+    mut seer: Seer<J>,
+) -> Seer<J> {
+    let callers = &reception.callers;
+    callers.come();
+    let paused = serve_each(rt, alloc, listener, reception, server, pause, &mut seer);
+    callers.leave();
+    if let Some(connection) = paused {
+        judge_on(
+            rt, alloc, listener, reception, judge, callers, connection, &mut seer,
+        );
+    }
+    seer
+}
+
 /// Serves the connections of a listener by one worker for each seer, until a pause is due, or until no more connections are accepted and
-/// those that were have ended. It gives the seers back. Connections that paused before go on first, and those that pause then are kept in
-/// the reception.
+/// those that were have ended. It gives the seers back. Connections that paused before go on first, and those that pause then judge on until
+/// no worker calls the Book any more, and are kept in the reception.
 ///
 /// Each worker has a thread, if the system gives it one; workers without one begin when others have ended. `Err(Memory)`: out of memory for
 /// the threads.
@@ -227,7 +331,10 @@ pub(crate) fn serve_until<
         pause,
         log,
     };
-    work_all(rt, alloc, listener, reception, &server, pause, seers)
+    let judge = Judge { gate, log };
+    work_all(
+        rt, alloc, listener, reception, &server, &judge, pause, seers,
+    )
 }
 
 // Has each of these seers work in a thread.
@@ -236,6 +343,7 @@ fn work_all<
     A: Accept<Connection = Arrival> + Sync,
     J: Chapter + Send + Sync,
     S: ServeConnection<J> + Sync,
+    T: JudgeConnection<J> + Sync,
     P: Pause + Sync,
 >(
     rt: &M,
@@ -243,6 +351,7 @@ fn work_all<
     listener: &A,
     reception: &Reception,
     server: &S,
+    judge: &T,
     pause: &P,
     seers: Vec<Seer<J>>,
 ) -> Result<Vec<Seer<J>>, EngineFault>
@@ -251,12 +360,86 @@ fn work_all<
     let served = thread::map_vec(
         rt,
         seers,
-        &|seer| { work(rt, alloc, listener, reception, server, pause, seer) },
+        &|seer| { work(rt, alloc, listener, reception, server, judge, pause, seer) },
     );
     match served {
         Ok(seers) => Ok(seers),
         Err(_) => Err(EngineFault::Memory),
     }
+}
+
+/// Has each connection that paused judge on by one of these seers, in a thread of its own, until a pause is due. They are kept in the
+/// reception again. It gives the seers back, or none if out of memory for the threads.
+pub(crate) fn judge_until<
+    M: Wait + Threads + Sync,
+    A: Accept<Connection = Arrival> + Sync,
+    J: Chapter + Send + Sync,
+    G: Gate + Sync,
+    P: Pause + Sync,
+    L: KeepLog + Sync,
+>(
+    rt: &M,
+    alloc: Global,
+    listener: &A,
+    reception: &Reception,
+    seers: Vec<Seer<J>>,
+    gate: &G,
+    pause: &P,
+    log: &L,
+) -> Vec<Seer<J>> {
+    let judge = Judge { gate, log };
+    judge_all(rt, alloc, listener, reception, &judge, pause, seers)
+}
+
+// The same, by whatever judges. There are no more connections than seers, and the first come first, so each judges.
+fn judge_all<
+    M: Wait + Threads + Sync,
+    A: Accept<Connection = Arrival> + Sync,
+    J: Chapter + Send + Sync,
+    S: JudgeConnection<J> + Sync,
+    P: Pause + Sync,
+>(
+    rt: &M,
+    alloc: Global,
+    listener: &A,
+    reception: &Reception,
+    judge: &S,
+    pause: &P,
+    seers: Vec<Seer<J>>,
+) -> Vec<Seer<J>> {
+    let judged = thread::map_vec(
+        rt,
+        seers,
+        &|seer| { judge_next(rt, alloc, listener, reception, judge, pause, seer) },
+    );
+    match judged {
+        Ok(seers) => seers,
+        Err(_) => Vec::new(alloc),
+    }
+}
+
+// Has the next connection that paused judge on, with one seer, until a pause. It gives the seer back.
+fn judge_next<
+    W: Wait,
+    A: Accept<Connection = Arrival>,
+    J: Chapter,
+    S: JudgeConnection<J>,
+    P: Pause,
+>(
+    rt: &W,
+    alloc: Global,
+    listener: &A,
+    reception: &Reception,
+    judge: &S,
+    pause: &P,
+    mut seer: Seer<J>,
+) -> Seer<J> {
+    if let Some(connection) = reception.next_paused(rt) {
+        judge_on(
+            rt, alloc, listener, reception, judge, pause, connection, &mut seer,
+        );
+    }
+    seer
 }
 
 /// Serves the connections of a listener by one worker for each seer, and returns once `sessions` connections were accepted and have

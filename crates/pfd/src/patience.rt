@@ -36,9 +36,26 @@ impl Patience {
         }
     }
 
+    /// Without end, where reads look up after a fiftieth of a second.
+    pub(crate) fn brief() -> Patience {
+        Patience {
+            span: Some(Duration::from_millis(20)),
+            spans: 0,
+        }
+    }
+
     /// How long one read or write waits.
     pub(crate) fn span(&self) -> Option<Duration> {
         self.span
+    }
+
+    /// For how many spans it was silent, with one more. They aren't counted where it may be silent without end.
+    pub(crate) fn count(&self, silent: u64) -> u64 {
+        if self.spans == 0 {
+            silent
+        } else {
+            silent.saturating_add(1)
+        }
     }
 
     /// Whether it was silent for too long, if it was for so many spans.

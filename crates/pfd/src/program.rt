@@ -228,17 +228,17 @@ fn explain<W: Write, F: Write>(error: &Error, writer: &mut W, faults: &mut F) ->
 /// the disk on the file holds, and leaves the file as it is.
 ///
 /// `pfd serve --listen ADDR --disk FILE --size N [--workers N] [--history N] [--sessions N] [--renew N] [--renew-bytes N] [--idle SECONDS]
-/// [--mode MODE] [--ask ADDR] [--ask-mode MODE] [--peers ADDR] [--peers-mode MODE] [--log]` opens the disk on the file, whose length has to be
-/// the size, listens on the addresses, of which each word may say several, and writes `listening ADDR` for each, with the address that it got,
-/// once clients can connect. An address with a slash is the path of a Unix socket, whose file gets the mode of its kind of address, 0600 if
-/// the words don't say; the file of a socket at which nobody answers is replaced, and any other that is there is a fault. At the end the
-/// files that it made are removed. It serves so many connections at once, 4 if the words don't say, each as in `serve_listener`, and ends
-/// once so many have ended, or never. Sessions at the addresses of `--ask` may ask and change nothing; those of `--peers` take peers'
-/// streams alone, and if there are any, no other address takes one. Without `--history` it renews its history after so many changes, 65,536
-/// if the words don't say, or so many bytes of them, 268,435,456 if they don't: it opens its disk again, and goes on with each connection
-/// where it was. A connection on which nothing came for so many seconds is closed behind its last reply, and so is one that took nothing of
-/// its replies for so long; with 0, or without the word, none is. With `--log` the faults get a line for each change, before its reply, for
-/// each opening, and for each connection that a fault ended.
+/// [--mode MODE] [--ask ADDR] [--ask-mode MODE] [--peers ADDR] [--peers-mode MODE] [--log]` opens the disk on the file, whose length has to
+/// be the size, listens on the addresses, of which each word may say several, and writes `listening ADDR` for each, with the address that
+/// it got, once clients can connect. An address with a slash is the path of a Unix socket, whose file gets the mode of its kind of address,
+/// 0600 if the words don't say; the file of a socket at which nobody answers is replaced, and any other that is there is a fault. At the
+/// end the files that it made are removed. It serves so many connections at once, 4 if the words don't say, each as in `serve_listener`,
+/// and ends once so many have ended, or never. Sessions at the addresses of `--ask` may ask and change nothing; those of `--peers` take
+/// peers' streams alone, and if there are any, no other address takes one. Without `--history` it renews its history after so many changes,
+/// 65,536 if the words don't say, or so many bytes of them, 268,435,456 if they don't: it opens its disk again, and goes on with each
+/// connection where it was. A connection on which nothing came for so many seconds is closed behind its last reply, and so is one that took
+/// nothing of its replies for so long; with 0, or without the word, none is. With `--log` the faults get a line for each change, before its
+/// reply, for each opening, and for each connection that a fault ended.
 /// `pfd connect ADDR` sends what the reader gives to such a server, and writes what it answers.
 ///
 /// `pfd check FILE [--lenient] [--anchor PATH]` writes what the pf.conf in the file means: the rules of each ruleset and the tables that are

@@ -325,7 +325,7 @@ impl<P: Pause> Incoming<'_, P> {
                     if !has_waited(&error) {
                         return Err(error);
                     }
-                    self.received.silent = self.received.silent.saturating_add(1);
+                    self.received.silent = self.patience.count(self.received.silent);
                     if self.patience.is_over(self.received.silent) {
                         return Err(error);
                     }

@@ -1,5 +1,5 @@
 -- Interfaces as they are given, one after another.
-use Rattle.std.proofs.{Common.{◌≡◌, ℕ, suc, ◌+◌, ◌<◌, ◌≤◌, List, [], ◌∷◌, length, get_or, drop, map, Result, Ok, Err, refl, sym, ap, ◌∙◌, add-one}, Math.Seq.drop-cons, lemmas.List.drop_all}
+use Rattle.std.proofs.{Common.{◌≡◌, ℕ, ◌+◌, ◌<◌, ◌≤◌, List, [], length, get_or, drop, map, Result, Ok, Err, refl, ap, ◌∙◌}, lemmas.List.{drop_all, drop_more}}
 use denote.Ref.{Bor}
 use Rattle.pf_parse.specs.Reading.{Word}
 use Rattle.pf_interfaces.specs.declared.interface.Interface.{Interface}
@@ -14,20 +14,24 @@ bytes_of = map (λ (t : Bor Word). t.now)
 abbrev All : Type 0
 All = Result (List Interface) Word
 
-drop_item : (texts : List (Bor Word)) (i : ℕ) (d : Bor Word) → i < length texts → drop i texts ≡ get_or texts i d ∷ drop (i + 1) texts
-drop_item texts i d within = drop-cons texts i d within ∙ ap (λ (n : ℕ). get_or texts i d ∷ drop n texts) (sym (add-one i))
-
-pub given_on : (texts : List (Bor Word)) (i : ℕ) (d : Bor Word) (is more : List Interface) (whole : All) → whole ≡ interfaces_given is (bytes_of (drop i texts)) → i < length texts → with_given is (get_or texts i d).now (interface_of (get_or texts i d).now) ≡ Ok more → whole ≡ interfaces_given more (bytes_of (drop (i + 1) texts))
+pub given_on : (texts : List (Bor Word)) (i : ℕ) (d : Bor Word) (is more : List Interface) (whole : All) →
+    whole ≡ interfaces_given is (bytes_of (drop i texts)) → i < length texts →
+    with_given is (get_or texts i d).now (interface_of (get_or texts i d).now) ≡ Ok more →
+    whole ≡ interfaces_given more (bytes_of (drop (i + 1) texts))
 unfolding interfaces_given
 given_on texts i d is more whole known within done =
-    known ∙ ap (λ (ts : List (Bor Word)). interfaces_given is (bytes_of ts)) (drop_item texts i d within) ∙ rw done refl
+    known ∙ ap (λ (ts : List (Bor Word)). interfaces_given is (bytes_of ts)) (drop_more texts i d within) ∙ rw done refl
 
-given_fails : (texts : List (Bor Word)) (i : ℕ) (d : Bor Word) (is : List Interface) (wrong : Word) (whole : All) → whole ≡ interfaces_given is (bytes_of (drop i texts)) → i < length texts → with_given is (get_or texts i d).now (interface_of (get_or texts i d).now) ≡ Err wrong → whole ≡ Err wrong
+given_fails : (texts : List (Bor Word)) (i : ℕ) (d : Bor Word) (is : List Interface) (wrong : Word) (whole : All) →
+    whole ≡ interfaces_given is (bytes_of (drop i texts)) → i < length texts →
+    with_given is (get_or texts i d).now (interface_of (get_or texts i d).now) ≡ Err wrong → whole ≡ Err wrong
 unfolding interfaces_given
 given_fails texts i d is wrong whole known within done =
-    known ∙ ap (λ (ts : List (Bor Word)). interfaces_given is (bytes_of ts)) (drop_item texts i d within) ∙ rw done refl
+    known ∙ ap (λ (ts : List (Bor Word)). interfaces_given is (bytes_of ts)) (drop_more texts i d within) ∙ rw done refl
 
-pub given_stops : (texts : List (Bor Word)) (i : ℕ) (d : Bor Word) (is : List Interface) (f : Fault) (whole : All) → whole ≡ interfaces_given is (bytes_of (drop i texts)) → i < length texts → AreGiven (with_given is (get_or texts i d).now (interface_of (get_or texts i d).now)) (Err f) → AreGiven whole (Err f)
+pub given_stops : (texts : List (Bor Word)) (i : ℕ) (d : Bor Word) (is : List Interface) (f : Fault) (whole : All) →
+    whole ≡ interfaces_given is (bytes_of (drop i texts)) → i < length texts →
+    AreGiven (with_given is (get_or texts i d).now (interface_of (get_or texts i d).now)) (Err f) → AreGiven whole (Err f)
 given_stops texts i d is (faults.Interface wrong) whole known within done = given_fails texts i d is wrong whole known within done
 given_stops texts i d is faults.Memory whole known within done = tt
 given_stops texts i d is (faults.Conf x) whole known within done = absurd done
@@ -39,6 +43,7 @@ given_stops texts i d is (faults.Anchor x) whole known within done = absurd done
 given_stops texts i d is (faults.Unwritten x) whole known within done = absurd done
 given_stops texts i d is faults.Output whole known within done = absurd done
 
-pub given_end : (texts : List (Bor Word)) (i : ℕ) (is : List Interface) (whole : All) → whole ≡ interfaces_given is (bytes_of (drop i texts)) → length texts ≤ i → whole ≡ Ok is
+pub given_end : (texts : List (Bor Word)) (i : ℕ) (is : List Interface) (whole : All) →
+    whole ≡ interfaces_given is (bytes_of (drop i texts)) → length texts ≤ i → whole ≡ Ok is
 unfolding interfaces_given
 given_end texts i is whole known past = known ∙ ap (λ (ts : List (Bor Word)). interfaces_given is (bytes_of ts)) (drop_all i texts past)

@@ -6,3 +6,4 @@ pub mod Covered
 pub mod Points
 pub mod Rules
 pub mod Explained
+pub mod CaseWords

@@ -17,11 +17,14 @@ of_file [] = refl
 of_file (o ∷ os) =
     let here : cond (same true o.holds) 1 0 + cond (same false o.holds) 1 0 ≡ 1 = one o.holds in
     let rest : count_by (has true) os + count_by (has false) os ≡ length os = of_file os in
-    let holding : count_by (has true) (o ∷ os) ≡ cond (same true o.holds) 1 0 + count_by (has true) os = sum_by-cons (λ (p : Outcome). cond (has true p) 1 0) o os in
-    let failing : count_by (has false) (o ∷ os) ≡ cond (same false o.holds) 1 0 + count_by (has false) os = sum_by-cons (λ (p : Outcome). cond (has false p) 1 0) o os in
+    let holding : count_by (has true) (o ∷ os) ≡ cond (same true o.holds) 1 0 + count_by (has true) os =
+    sum_by-cons (λ (p : Outcome). cond (has true p) 1 0) o os in
+    let failing : count_by (has false) (o ∷ os) ≡ cond (same false o.holds) 1 0 + count_by (has false) os =
+    sum_by-cons (λ (p : Outcome). cond (has false p) 1 0) o os in
     omega (arith, here, rest, holding, failing)
 
-of_files : (ts : List Tried) → sum_by (λ (t : Tried). count_by (has true) t.outcomes) ts + sum_by (λ (t : Tried). count_by (has false) t.outcomes) ts ≡ case_count ts
+of_files : (ts : List Tried) →
+    sum_by (λ (t : Tried). count_by (has true) t.outcomes) ts + sum_by (λ (t : Tried). count_by (has false) t.outcomes) ts ≡ case_count ts
 of_files [] = refl
 of_files (t ∷ ts) =
     let here : count_by (has true) t.outcomes + count_by (has false) t.outcomes ≡ length t.outcomes = of_file t.outcomes in

@@ -29,6 +29,11 @@ lines_of text = slice_split (λ b. b == 10) text
 
 -- ---- a line
 
+-- a word, unless it is empty
+abbrev pub if_some : Word → List Word
+if_some [] = []
+if_some (b ∷ bs) = (b ∷ bs) ∷ []
+
 abbrev pub is_comment : Word → Bool
 is_comment [] = false
 is_comment (b ∷ bs) = b == 35

@@ -82,7 +82,8 @@ IsRefused known f = ⊥
 
 -- What a file means is written; or it isn't taken, and nothing is; or writing failed, behind a front of it.
 abbrev pub IsChecked : Reads → List Interface → Mode → Word → Word → Result (Unit {0}) Fault → Option (List ℕ) → Option (List ℕ) → Type 0
-IsChecked reads interfaces mode base name (Ok u) old new = (conf : Conf) × IsTaken reads interfaces mode base name conf × Appends old new (shown conf)
+IsChecked reads interfaces mode base name (Ok u) old new =
+    (conf : Conf) × IsTaken reads interfaces mode base name conf × Appends old new (shown conf)
 IsChecked reads interfaces mode base name (Err faults.Output) old new =
     (conf : Conf) × IsTaken reads interfaces mode base name conf × WritesFront old new (shown conf)
 IsChecked reads interfaces mode base name (Err f) old new = Refuses reads interfaces mode base name f × Keeps old new

@@ -1,14 +1,14 @@
 //! What cases come to.
 ghost use Rattle.std.specs.{Prelude.{◌≡◌, ◌++◌, [], Ok, IfOk, IfErr, OnOk}, List.slice_get, Option.option_to_list};
-ghost use Rattle.pf_form.specs.Form.Words.{texts};
+ghost use Rattle.pf_form.specs.Form.Words.{texts, words_of};
 ghost use Rattle.pf_rule.specs.Refusals.{reading};
 ghost use Rattle.pf_case.specs.Cases.{case};
-ghost use Rattle.pfd_conf.specs.Outcomes.{Gives, lines_of, line_of, is_left_out, word_mistake, mistake_at, mistake_of, outcome_of, outcome_or, outcome_at, outcomes_from, outcomes_of, RefusesCases, AreTried};
+ghost use Rattle.pfd_conf.specs.Outcomes.{Gives, lines_of, line_of, if_some, is_left_out, word_mistake, mistake_at, mistake_of, outcome_of, outcome_or, outcome_at, outcomes_from, outcomes_of, RefusesCases, AreTried};
 
 use crate::fault::{CaseMistake, Fault};
 use crate::firewall::{Decided, Firewall};
 use pf_case::{Case, passes, read_case};
-use pf_form::form::{Kind, Words, words};
+use pf_form::form::{Kind, Words, is_blank};
 use pf_rule::TextFault;
 use pf_tokens::{Bytes, Items};
 use std::alloc::{AllocError, Global};
@@ -64,6 +64,31 @@ fn lines_of<'a>(alloc: Global, text: &'a [u8]) -> Result<Vec<&'a [u8]>, AllocErr
     ensures { IfOk result (λ v. texts v.items ≡ lines_of text.now) }
 {
     text.split(|byte| *byte == b'\n').collect(alloc)
+}
+
+/// Appends a word to others, unless it is empty.
+fn push_word<'a>(words: &mut Vec<&'a [u8]>, word: &'a [u8]) -> Result<(), AllocError>
+    ensures { OnOk result (texts words.new.items ≡ texts words.old.items ++ if_some word.now) }
+{
+    if !word.is_empty() {
+        words.push(word)?;
+    }
+    Ok(())
+}
+
+/// Puts the words of a line in the place of others, which saves an allocation for each line.
+fn put_words<'a>(words: &mut Vec<&'a [u8]>, line: &'a [u8]) -> Result<(), AllocError>
+    ensures { OnOk result (texts words.new.items ≡ words_of line.now) }
+{
+    words.clear();
+    let mut start = 0;
+    for at in 0..line.len() {
+        if is_blank(line[at]) {
+            push_word(words, &line[start..at])?;
+            start = at + 1;
+        }
+    }
+    push_word(words, &line[start..])
 }
 
 /// Whether a line with these words has no case: it is blank, or a comment.
@@ -154,21 +179,24 @@ impl Firewall {
     }
 
     /// What the case on a line comes to, if it has one; `Fault::Case` if it is neither a case nor left out.
+    /// Its words take the place of those of the line before.
     #[tactic(auto, unfolding(crate::specs::Outcomes::outcome_at))]
-    fn outcome_at(
+    fn outcome_at<'a>(
         &self,
         alloc: Global,
         file: &[u8],
         line: usize,
-        text: &[u8],
+        text: &'a [u8],
+        words: &mut Vec<&'a [u8]>,
     ) -> Result<Option<Outcome>, Fault>
         ensures { Gives result (outcome_at self.now file.now line text.now) }
     {
-        let words = words(alloc, text)?;
-        if is_left_out(&words) {
+        put_words(words, text)?;
+        let words = words.as_slice();
+        if is_left_out(words) {
             return Ok(None);
         }
-        self.outcome_or(alloc, file, line, &words)
+        self.outcome_or(alloc, file, line, words)
     }
 
     /// What the cases on the lines of a file come to, in order.
@@ -181,8 +209,9 @@ impl Firewall {
         ensures { Gives result (outcomes_from self.now file.now [] 1 (texts lines.now)) }
     {
         let mut outcomes = Items::new(alloc);
+        let mut words = Vec::new(alloc);
         for (index, text) in lines.iter().enumerate() {
-            let outcome = self.outcome_at(alloc, file, index + 1, text)?;
+            let outcome = self.outcome_at(alloc, file, index + 1, text, &mut words)?;
             push_some(&mut outcomes, outcome)?;
         }
         Ok(outcomes)

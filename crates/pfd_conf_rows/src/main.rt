@@ -10,9 +10,12 @@ mod rows;
 use crate::rows::{Row, bytes_of};
 use pf_addr::path::Path;
 use pf_tokens::{Bytes, Contents, Items};
-use pfd_conf::{Cases, Fault, Firewall, Mode, check, take};
+use pfd_conf::{Cases, Fault, Firewall, Mode, check, given_interfaces, take};
 use std::alloc::{AllocError, Global};
 use std::io::{self, BufWriter, Write};
+
+/// The interfaces that are given, with their addresses.
+const INTERFACES: [&str; 2] = ["em0=192.0.2.1/24,2001:db8::1/64", "em1=10.0.0.1/8"];
 
 fn main(rt: HostRuntime) -> io::Result<()> {
     let alloc = rt.alloc();
@@ -50,10 +53,11 @@ fn contents(alloc: Global, files: &[Row<'_>], name: &[u8]) -> Result<Contents, A
 
 fn firewall(alloc: Global, files: &[Row<'_>], name: &str) -> Result<Firewall, Fault> {
     let read = |name: &[u8]| contents(alloc, files, name);
+    let interfaces = given_interfaces(alloc, &INTERFACES)?;
     let taken = take(
         alloc,
         &read,
-        &[],
+        interfaces.as_slice(),
         Mode::Strict,
         &Path::main(),
         name.as_bytes(),
@@ -85,8 +89,17 @@ fn answer(
     if row.kind == "check" {
         let read = |name: &[u8]| contents(alloc, files, name);
         let mut notes = Vec::new(alloc);
-        let (mode, base) = (Mode::Strict, Path::main());
-        return check(alloc, &read, &[], mode, &base, row.name, told, &mut notes);
+        let interfaces = given_interfaces(alloc, &INTERFACES)?;
+        return check(
+            alloc,
+            &read,
+            interfaces.as_slice(),
+            Mode::Strict,
+            &Path::main(),
+            row.name,
+            told,
+            &mut notes,
+        );
     }
     let firewall = firewall(alloc, files, row.name)?;
     if row.kind == "explain" {

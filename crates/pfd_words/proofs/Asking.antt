@@ -73,7 +73,9 @@ none_refused name id kind (inr wrong) = absurd wrong.1
 run_refused : (kind : ErrorKind) → IsRefused (Some (codes "run", [])) kind → kind ≡ OutOfMemory
 run_refused kind (inl mode) = none_refused (codes "run") (codes "mode") kind mode
 run_refused kind (inr (inl mode)) = none_refused (codes "run") (codes "ask-mode") kind mode
-run_refused kind (inr (inr mode)) = none_refused (codes "run") (codes "peers-mode") kind mode
+run_refused kind (inr (inr (inl mode))) = none_refused (codes "run") (codes "peers-mode") kind mode
+run_refused kind (inr (inr (inr (inl memory)))) = memory
+run_refused kind (inr (inr (inr (inr server)))) = absurd (cc (server.1))
 
 pub by_memory : (words : List Text) (kind : ErrorKind) → IsPlainRun words → IsRefused (subcommand_of program_words words) kind → kind ≡ OutOfMemory
 by_memory words kind is why =

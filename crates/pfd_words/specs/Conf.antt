@@ -1,7 +1,8 @@
 -- The subcommands that ask something of a pf.conf, as clap reads them, and what they ask.
-use Rattle.std.specs.Prelude.{◌≡◌, true, List, [], ◌∷◌, Option, Some, None, codes, map, option_and_then, option_map, unwrap_or}
+use Rattle.std.specs.Prelude.{◌≡◌, ◌⊎◌, true, false, List, [], ◌∷◌, Option, Some, None, IsSome, codes, map, option_and_then, option_map, unwrap_or}
 use Rattle.clap.specs.Words.{App, Row, Rule, Text, all_of, new_app, new_rule, with_rule}
 use Rattle.clap.specs.declared.builder.action.ArgAction.TheVariants.{SetTrue, Append}
+use Rattle.clap.specs.declared.error.kind.ErrorKind.{ErrorKind, TheVariants.{ArgumentConflict, OutOfMemory}}
 use Rattle.pfd_words.specs.declared.conf.{ConfTask.ConfTask, ServerTask.ServerTask, Question.Question, Question.TheVariants.{Meaning, Outcomes, Coverage, Matches}}
 use Rattle.pfd_words.specs.Options.{text_in, SaysText, MaySayText, SaysTexts, SaysFlag}
 
@@ -75,9 +76,26 @@ pub record AsksConf (met : Option (Text × List Row)) (task : ConfTask) : Type 0
   pub interfaces : SaysTexts (codes "interface") met (map (λ s. s.now) task.interfaces.items)
   pub question : AsksQuestion met task.question
 
--- what `explain` asks of a server. There is no file, so the first word is the packet's
+-- Some option is there that only a file has a use for; or none is.
+abbrev pub SaysFileOption : Option (Text × List Row) → Type 0
+SaysFileOption met = SaysFlag (codes "lenient") met true ⊎ IsSome (text_in (codes "interface") met)
+
+pub record SaysNoFileOption (met : Option (Text × List Row)) : Type 0 where
+  pub lenient : SaysFlag (codes "lenient") met false
+  pub interface : text_in (codes "interface") met ≡ None
+
+-- There is no file, so the first word is the packet's.
+abbrev pub SaysPacket : Option (Text × List Row) → List Text → Type 0
+SaysPacket met packet =
+    packet ≡ unwrap_or (text_in (codes "file") met) [] ∷ unwrap_or (option_and_then (λ m. all_of (codes "packet") m.1) met) []
+
+-- what `explain` asks of a server
 pub record AsksServer (met : Option (Text × List Row)) (task : ServerTask) : Type 0 where
   pub word : IsWord (codes "explain") met
   pub from : text_in (codes "from") met ≡ Some task.from.now
-  pub packet : map (λ s. s.now) task.packet.items
-      ≡ unwrap_or (text_in (codes "file") met) [] ∷ unwrap_or (option_and_then (λ m. all_of (codes "packet") m.1) met) []
+  pub alone : SaysNoFileOption met
+  pub packet : SaysPacket met (map (λ s. s.now) task.packet.items)
+
+-- A question of a server is refused: memory ran out, or beside the server's address an option is there that only a file has a use for.
+abbrev pub IsRefusedServer : Option (Text × List Row) → ErrorKind → Type 0
+IsRefusedServer met kind = (kind ≡ OutOfMemory) ⊎ ((kind ≡ ArgumentConflict) × IsSome (text_in (codes "from") met) × SaysFileOption met)

@@ -4,7 +4,7 @@ use Rattle.clap.specs.{Simple.on_top, Words.{App, Row, Rule, Text, new_app, new_
 use Rattle.clap.specs.declared.builder.action.ArgAction.TheVariants.{Append}
 use Rattle.clap.specs.declared.builder.value_parser.ValueParser.TheVariants.{Signed}
 use Rattle.clap.specs.declared.error.kind.ErrorKind.{ErrorKind, TheVariants.{OutOfMemory, ValueValidation}}
-use Rattle.pfd_words.specs.{Options.{text_in, SaysText, MaySayText, SaysTexts, SaysFlag}, Conf.{IsWord, AsksConf, AsksServer, flag_rule, text_rule, conf_words, check_words, test_words, cover_words, explain_words}}
+use Rattle.pfd_words.specs.{Options.{text_in, SaysText, MaySayText, SaysTexts, SaysFlag}, Conf.{IsWord, AsksConf, AsksServer, IsRefusedServer, flag_rule, text_rule, conf_words, check_words, test_words, cover_words, explain_words}}
 use Rattle.pfd_words.specs.declared.words.{Limits.Limits, Service.Service, Task.Task, LoadTask.LoadTask, Task.TheVariants.{Run, RunOn, Format, Show, Serve, Connect, Conf, Explain, Load, Status}, TheConstants.{MEMORY_SIZE, HISTORY_LIMIT, MOST_HISTORY, MOST_RENEWAL, RENEWAL, RENEWAL_BYTES, WORKERS, MOST_WORKERS, OWNER_MODE, MOST_MODE}}
 
 -- ---- the subcommands and their options
@@ -194,9 +194,11 @@ SaysMode id met mode = MatchOption (text_in id met) (mode ≡ OWNER_MODE) (λ te
 abbrev pub IsRefusedMode : Text → Option (Text × List Row) → ErrorKind → Type 0
 IsRefusedMode id met kind = (kind ≡ OutOfMemory) ⊎ ((kind ≡ ValueValidation) × IsSomeAnd (text_in id met) IsNoMode)
 
--- what clap took is refused, by one of the modes
+-- what clap took is refused, by one of the modes, or by what stands beside a server's address
 abbrev pub IsRefused : Option (Text × List Row) → ErrorKind → Type 0
-IsRefused met kind = IsRefusedMode (codes "mode") met kind ⊎ IsRefusedMode (codes "ask-mode") met kind ⊎ IsRefusedMode (codes "peers-mode") met kind
+IsRefused met kind =
+    IsRefusedMode (codes "mode") met kind ⊎ IsRefusedMode (codes "ask-mode") met kind ⊎ IsRefusedMode (codes "peers-mode") met kind
+    ⊎ IsRefusedServer met kind
 
 -- what `serve` asks for
 pub record AsksService (met : Option (Text × List Row)) (service : Service) : Type 0 where

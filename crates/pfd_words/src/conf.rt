@@ -1,11 +1,12 @@
 //! The subcommands that ask something of a pf.conf, as clap's commands, and what they ask.
-ghost use Rattle.std.specs.Prelude.{◌≡◌, ℕ, IfOk, List, Some, None, codes, map, false};
-ghost use Rattle.clap.specs.Words.{app_of, first_of, found_of, rows_of, rule_of};
+ghost use Rattle.std.specs.Prelude.{◌≡◌, ℕ, IfErr, IfNone, IfOk, IsSome, List, Some, None, codes, map, false};
+ghost use Rattle.clap.specs.Words.{app_of, first_of, found_of, kind_of, rows_of, rule_of};
 ghost use Rattle.clap.specs.declared.builder.command.Command.TheViews.{out-Command};
-ghost use Rattle.pfd_words.specs.{Conf.{file_rule, lenient_rule, interface_rule, cases_rule, flag_rule, text_rule, file_words, conf_words, case_words, check_words, test_words, cover_words, explain_words, AsksConf, AsksServer}, Options.{SaysText, SaysTexts, SaysFlag}};
+ghost use Rattle.pfd_words.specs.{Conf.{file_rule, lenient_rule, interface_rule, cases_rule, flag_rule, text_rule, file_words, conf_words, case_words, check_words, test_words, cover_words, explain_words, AsksConf, AsksServer, IsRefusedServer, SaysFileOption, SaysNoFileOption, SaysPacket}, Options.{SaysText, SaysTexts, SaysFlag}};
 
 use crate::options::{is_said, text_if_any, text_in, texts_in};
-use clap::{Arg, ArgAction, ArgMatches, Command};
+use clap::error::ErrorKind;
+use clap::{Arg, ArgAction, ArgMatches, Command, Error};
 use std::alloc::{AllocError, Global};
 
 /// What is asked of a pf.conf.
@@ -205,8 +206,10 @@ fn asked<'a>(
     found: &ArgMatches<'a>,
     question: Question<'a>,
 ) -> Result<ConfTask<'a>, AllocError>
-    ensures path { (name : List ℕ) → IfOk result (λ task. SaysText (codes "file") (Some (name, rows_of (found_of found.now))) task.path.now) }
-    ensures lenient { (name : List ℕ) → IfOk result (λ task. SaysFlag (codes "lenient") (Some (name, rows_of (found_of found.now))) task.is_lenient) }
+    ensures path { (name : List ℕ) → IfOk result (λ task.
+        SaysText (codes "file") (Some (name, rows_of (found_of found.now))) task.path.now) }
+    ensures lenient { (name : List ℕ) → IfOk result (λ task.
+        SaysFlag (codes "lenient") (Some (name, rows_of (found_of found.now))) task.is_lenient) }
     ensures interfaces { (name : List ℕ) → IfOk result (λ task.
         SaysTexts (codes "interface") (Some (name, rows_of (found_of found.now))) (map (λ s. s.now) task.interfaces.items)) }
     ensures question { IfOk result (λ task. task.question ≡ question.entry) }
@@ -267,16 +270,52 @@ pub(crate) fn matches_in<'a>(
     asked(alloc, found, Question::Matches { packet })
 }
 
-/// The task of `explain` with `--from` and this address. There is no file, so the first word is the packet's.
+/// What only a file has a use for, if it is said.
+fn file_option(found: &ArgMatches<'_>) -> Option<&'static str>
+    ensures said { (name : List ℕ) → IsSome result → SaysFileOption (Some (name, rows_of (found_of found.now))) }
+    ensures unsaid { (name : List ℕ) → IfNone result (SaysNoFileOption (Some (name, rows_of (found_of found.now)))) }
+{
+    if is_said(found, "lenient") {
+        return Some("--lenient");
+    }
+    if text_if_any(found, "interface").is_some() {
+        return Some("--interface");
+    }
+    None
+}
+
+/// The error for an option that only a file has a use for, beside a server's address.
+fn without_file(alloc: Global, option: &str) -> Result<Error, AllocError>
+    ensures { IfOk result (λ e. kind_of e ≡ ErrorKind.ArgumentConflict) }
+{
+    let message = format!(in alloc; "the argument '{option}' cannot be used with '--from <ADDR>'")?;
+    let mut command = explain_words(alloc)?.bin_name("pfd explain")?;
+    command.error(ErrorKind::ArgumentConflict, message.as_str())
+}
+
+/// The packet's words where there is no file: the first one stands in the file's place.
+fn packet_in<'a>(alloc: Global, found: &ArgMatches<'a>) -> Result<Vec<&'a str>, AllocError>
+    ensures { (name : List ℕ) → IfOk result (λ packet.
+        SaysPacket (Some (name, rows_of (found_of found.now))) (map (λ s. s.now) packet.items)) }
+{
+    let mut packet = texts_in(alloc, found, "packet")?;
+    packet.insert(0, text_in(found, "file"))?;
+    Ok(packet)
+}
+
+/// The task of `explain` with `--from` and this address. What only a file has a use for is refused.
 pub(crate) fn server_matches_in<'a>(
     alloc: Global,
     found: &ArgMatches<'a>,
     from: &'a str,
-) -> Result<ServerTask<'a>, AllocError>
+) -> Result<ServerTask<'a>, Error>
     requires { first_of (codes "from") (rows_of (found_of found.now)) ≡ Some from.now }
-    ensures { IfOk result (AsksServer (Some (codes "explain", rows_of (found_of found.now)))) }
+    ensures asked { IfOk result (AsksServer (Some (codes "explain", rows_of (found_of found.now)))) }
+    ensures refused { IfErr result (λ e. IsRefusedServer (Some (codes "explain", rows_of (found_of found.now))) (kind_of e)) }
 {
-    let mut packet = texts_in(alloc, found, "packet")?;
-    packet.insert(0, text_in(found, "file"))?;
+    if let Some(option) = file_option(found) {
+        return Err(without_file(alloc, option)?);
+    }
+    let packet = packet_in(alloc, found)?;
     Ok(ServerTask { from, packet })
 }

@@ -5,8 +5,8 @@
 //!
 //! - `options`: what the options of a subcommand say.
 //! - `conf`: the subcommands `check`, `test`, `cover` and `explain`, which ask something of a pf.conf or of a server, and what they ask.
-//! - `words`: the subcommands `run`, `format`, `show`, `serve`, `connect`, `load` and `status`, and [`read_words`], which reads a command line into a
-//!   [`Task`].
+//! - `words`: the subcommands `run`, `format`, `show`, `serve`, `connect`, `load` and `status`, and [`read_words`], which reads a command line
+//!   into a [`Task`].
 //!
 //! Read `specs/Words.antt` first: it has the subcommands with their options, and `IsAsked`, what a command line asks for by clap's own
 //! rules; `specs/Conf.antt` has those of a pf.conf. Proved, by the contracts of [`read_words`]: the task is what the words ask for (`asked`);

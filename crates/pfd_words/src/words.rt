@@ -510,7 +510,7 @@ fn program_words<'a>(alloc: Global) -> Result<Command<'a>, AllocError>
 
 /// Reads a command line, which begins with the program's own name. The error has the text for the user: help, the version, what is wrong
 /// with the words, or that memory ran out. The word `run` alone is refused only when out of memory; words that clap takes are refused at a
-/// mode, too, that isn't octal digits or is above 0777.
+/// mode, too, that isn't octal digits or is above 0777, and at `explain --from` with an option that only a file has a use for.
 pub fn read_words<'a>(alloc: Global, words: &'a [String]) -> Result<Task<'a>, Error>
     ensures asked { IfOk result (λ task. IsAsked (subcommand_of program_words (map string_bytes words.entry.now)) task) }
     ensures history { IfOk result HasHistory }
@@ -546,7 +546,7 @@ fn task_of<'a>(alloc: Global, matches: &ArgMatches<'a>) -> Result<Task<'a>, Erro
         Some(("check", found)) => Ok(Task::Conf(meaning_in(alloc, found)?)),
         Some(("test", found)) => Ok(Task::Conf(outcomes_in(alloc, found)?)),
         Some(("cover", found)) => Ok(Task::Conf(coverage_in(alloc, found)?)),
-        Some(("explain", found)) => Ok(explained_in(alloc, found)?),
+        Some(("explain", found)) => explained_in(alloc, found),
         Some(("load", found)) => Ok(Task::Load(load_in(alloc, found)?)),
         Some(("status", found)) => Ok(Task::Status {
             address: address_in(found, "address"),
@@ -629,9 +629,10 @@ fn limits_in(found: &ArgMatches<'_>) -> (usize, Option<Limits>)
 }
 
 // The task of `explain`: of a server if one is named, else of a file.
-fn explained_in<'a>(alloc: Global, found: &ArgMatches<'a>) -> Result<Task<'a>, AllocError>
+fn explained_in<'a>(alloc: Global, found: &ArgMatches<'a>) -> Result<Task<'a>, Error>
     ensures asked { IfOk result (λ task. IsAsked (Some (codes "explain", rows_of (found_of found.now))) task) }
     ensures history { IfOk result HasHistory }
+    ensures refused { IfErr result (λ e. IsRefused (Some (codes "explain", rows_of (found_of found.now))) (kind_of e)) }
 {
     match text_if_any(found, "from") {
         Some(from) => Ok(Task::Explain(server_matches_in(alloc, found, from)?)),

@@ -8,7 +8,7 @@ use Rattle.pf_session.specs.{LineEngine.Lines.seen, Laws.Seeing.seen-told, Serve
 seen-seen : (line : List ℕ) → seen (seen line) ≡ seen line
 seen-seen line = let few : length (seen line) ≤ 4097 = omega (arith, length-take 4097 line) in take_all 4097 (seen line) few
 
-seen-denied : (line : List ℕ) → is_denied (seen line) ≡ is_denied line
+pub seen-denied : (line : List ℕ) → is_denied (seen line) ≡ is_denied line
 seen-denied line = ap (λ (l : List ℕ). denies (first_word l)) (seen-seen line)
 
 seen-heard : (denied : Bool) (base : PlainDurable) (setting : Setting) (line : List ℕ) (old new : Sitting) (text : List ℕ)

@@ -21,6 +21,14 @@ GoesOnElsewhere Lines = (base : PlainDurable) (setting : Setting) (result : Resu
     → ((line : List ℕ) → HasBegun between line → IsPart (TakesAlong Lines Resumes) result (line ++ between.ahead) intake mid_unread still_unread begun new shown held')
     → IsPart (TakesAlong Lines Resumes) result text intake unread still_unread (within base setting old) new held held'
 
+-- A session paused, and went on in the same opening: both together are one part of a session.
+abbrev pub GoesOnHere : (PlainDurable → Setting → Sitting → Sitting → List (List ℕ) → List ℕ → Type 0) → Type 0
+GoesOnHere Lines = (base : PlainDurable) (setting : Setting) (result : Result LeftOff EngineFault) (text : List ℕ) (between intake : PlainIntake)
+    (unread mid_unread still_unread : Option (List ℕ)) (old left : Sitting) (new : Within Sitting) (held shown held' : Option (List ℕ))
+    → IsPart (Lines base setting) (Ok Paused) text between unread mid_unread old left held shown
+    → ((line : List ℕ) → HasBegun between line → IsPart (TakesAlong Lines Resumes) result (line ++ between.ahead) intake mid_unread still_unread (within base setting left) new shown held')
+    → IsPart (TakesAlong Lines Resumes) result text intake unread still_unread (within base setting old) new held held'
+
 -- A session that had read nothing before, and came to its reader's end: its text is the replies to the lines of all that it read.
 abbrev pub IsWhole : (PlainDurable → Setting → Sitting → Sitting → List (List ℕ) → List ℕ → Type 0) → Type 0
 IsWhole Lines = (intake : PlainIntake) (unread still_unread : Option (List ℕ)) (old new : Within Sitting) (held held' : Option (List ℕ))

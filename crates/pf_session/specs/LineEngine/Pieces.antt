@@ -1,5 +1,6 @@
 -- What the parts of the engine do, wherever a session has come to.
-use Rattle.std.specs.Prelude.{◌≡◌, ℕ, List, ◌++◌, Option, Result, Ok, Err}
+use Rattle.std.specs.{Prelude.{◌≡◌, ℕ, Bool, true, false, List, ◌++◌, Option, Result, Ok, Err}, Io.KnownBytes.{Appends, Keeps}}
+use Rattle.pf_addr.specs.Writing.{WritesFront}
 use Rattle.pf_session.specs.{LineEngine.Lines.{IsCut, seen}, LineEngine.Sessions.{Answered, CutOff}}
 
 -- the lines were answered, or a failed write cut them off
@@ -39,3 +40,9 @@ pub record Failed {S : Type 0} (Serves : S → S → List (List ℕ) → List �
   pub rest : List ℕ
   pub cut : IsCut input lines rest
   pub cut_off : CutOff Serves lines old new held held'
+
+-- A line was answered, or a failed write cut its reply off; or it wasn't, and nothing was done.
+abbrev pub MayAnswer : {S E : Type 0} → (List ℕ → S → S → List ℕ → Type 0) → Result Bool E → List ℕ → S → S → Option (List ℕ) → Option (List ℕ) → Type 0
+MayAnswer Takes (Ok true) line old new held held' = (text : List ℕ) × Takes line old new text × Appends held held' text
+MayAnswer Takes (Ok false) line old new held held' = (new ≡ old) × Keeps held held'
+MayAnswer Takes (Err e) line old new held held' = (text : List ℕ) × Takes line old new text × WritesFront held held' text

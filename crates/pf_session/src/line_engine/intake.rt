@@ -3,6 +3,8 @@ ghost use Rattle.std.specs.Prelude.{◌≡◌, ◌≤◌, ◌<◌, ◌++◌, ℕ
 ghost use Rattle.std.specs.Io.KnownBytes.{Consumes, IsAtEnd, Keeps};
 ghost use Rattle.pf_session.specs.{LineEngine.Chains.Chain, LineEngine.Intakes.{AnsweredSoFar, HasBegun, nothing_read}, LineEngine.Pieces.Failed};
 
+mod some;
+
 use crate::line_engine::answer_line::{AnswerLine, LOOKED_AT};
 use crate::line_engine::left_off::Pause;
 use crate::line_engine::pieces::{Reached, answer_piece};

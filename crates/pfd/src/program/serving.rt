@@ -10,18 +10,18 @@ use crate::door::{Doors, Listener};
 use crate::fullness::gauge::{Gauge, tell_fullness};
 use crate::fullness::notice::{Notice, SayFullness};
 use crate::fullness::watched::{Age, Watched};
-use crate::listener::{Reception, serve_until};
+use crate::listener::{Reception, judge_until, serve_until};
 use crate::log::KeepLog;
 use crate::log::saying::Log;
 use crate::program::ended::told;
-use crate::renewal::Renewal;
+use crate::renewal::{Renewal, Reopening};
 use crate::socket_file::{SocketFile, listen_at};
 use crate::stream::is_path;
 use pf_addr::write_more;
 use pf_book::book::Book;
 use pf_book::shared::Shared;
 use pf_book::{Chapter, Disk, NewCalls, Numbering, Opening, Publisher, Seer};
-use pf_session::{EngineFault, renew};
+use pf_session::{EngineFault, cover_all, reopen};
 use pf_view::{ViewFault, views};
 use pfd_files::{Fault, open_file};
 use pfd_words::Service;
@@ -216,16 +216,24 @@ fn serve_opening<
         &house.renewal,
         log,
     );
-    go_further(machine, alloc, shared, served, &house.reception)
+    go_further(machine, alloc, doors, shared, served, &house.reception, log)
 }
 
 // The next opening, if a connection paused or may come.
-fn go_further<J: Chapter + Numbering, D: Disk + Drop, S: Publisher<J> + Drop, M: Wait>(
+fn go_further<
+    J: Chapter + Numbering + Send + Sync,
+    D: Disk + Drop,
+    S: Publisher<J> + Drop,
+    M: Wait + Threads + Sync,
+    L: KeepLog + Sync,
+>(
     rt: &M,
     alloc: Global,
+    doors: &Doors,
     shared: Shared<D, J, S>,
     served: Result<Vec<Seer<J>>, EngineFault>,
     reception: &Reception,
+    log: &L,
 ) -> Result<Option<Opening<D>>, Fault> {
     let seers = match served {
         Ok(seers) => seers,
@@ -235,15 +243,50 @@ fn go_further<J: Chapter + Numbering, D: Disk + Drop, S: Publisher<J> + Drop, M:
         }
     };
     if reception.goes_on(rt) {
-        return match renew(alloc, shared.close(), &seers) {
-            Ok(opening) => Ok(Some(opening)),
-            Err((fault, _disk)) => Err(Fault::from(fault)),
-        };
+        let opening = open_again(rt, alloc, doors, shared.close(), seers, reception, log)?;
+        return Ok(Some(opening));
     }
     if reception.has_failed(rt) {
         return Err(Fault::Input);
     }
     Ok(None)
+}
+
+// Opens the disk of a Book again, while the connections that paused judge on by its copies.
+fn open_again<
+    J: Chapter + Send + Sync,
+    D: Disk + Drop,
+    S: Publisher<J> + Drop,
+    M: Wait + Threads + Sync,
+    L: KeepLog + Sync,
+>(
+    rt: &M,
+    alloc: Global,
+    doors: &Doors,
+    book: Book<D, J, S>,
+    seers: Vec<Seer<J>>,
+    reception: &Reception,
+    log: &L,
+) -> Result<Opening<D>, Fault> {
+    let reopening = Reopening::new();
+    let (seers, (opened, mut closed)) = thread::join(
+        rt,
+        || {
+            judge_until(
+                rt, alloc, doors, reception, seers, reception, &reopening, log,
+            )
+        },
+        || {
+            let opened = reopen(alloc, book);
+            reopening.end();
+            opened
+        },
+    );
+    cover_all(&mut closed, &seers);
+    match opened {
+        Ok(opening) => Ok(opening),
+        Err((fault, _disk)) => Err(Fault::from(fault)),
+    }
 }
 
 // A Book over what was opened, which leaves a notice of how full its disk gets and has a renewal come due, and its seers.

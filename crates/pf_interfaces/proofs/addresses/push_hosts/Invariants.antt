@@ -4,4 +4,5 @@ use Rattle.pf_interfaces.specs.Addresses.{host_at}
 use Rattle.pf_interfaces.proofs.addresses.push_hosts.Given as goal
 
 abbrev pub invariant-loop-text : goal.invariant-loop-text
-invariant-loop-text l = l.tokens ≡ l.initial.tokens ++ flat_map (host_at l.mention.place l.mention.is_negated) (take l.text-index l.mention.texts)
+invariant-loop-text l = l.tokens ≡ l.initial.tokens ++ flat_map (host_at l.mention.place l.mention.is_negated)
+    (take l.text-index l.mention.texts)

@@ -5,5 +5,6 @@ use Rattle.pf_interfaces.proofs.addresses.with_addresses.Given as goal
 abbrev pub invariant-loop-at : goal.invariant-loop-at
 invariant-loop-at l = record {
   deep : l.reading.context.deep ≤ l.at;
-  rest : l.known ++ known_from l.interfaces l.reading.more l.reading.context (drop l.at l.tokens) ≡ known_from l.interfaces 0 beginning l.tokens;
+  rest : l.known ++ known_from l.interfaces l.reading.more l.reading.context
+      (drop l.at l.tokens) ≡ known_from l.interfaces 0 beginning l.tokens;
 }

@@ -13,5 +13,6 @@ returns-in_err-ask g c =
 
 pub loop-number-preserved : goal.loop-number-preserved
 loop-number-preserved g c =
-    asks_then {A = Unit {0}} tt (Ok tt) (g.W.Write.contents c.args.server.now) (g.W.Write.contents c.loop-number.server) (g.W.Write.contents c.ask.new.server)
+    asks_then {A = Unit {0}} tt (Ok tt) (g.W.Write.contents c.args.server.now) (g.W.Write.contents c.loop-number.server)
+    (g.W.Write.contents c.ask.new.server)
     c.loop-number.invariant c.in_ok-ask.ensures

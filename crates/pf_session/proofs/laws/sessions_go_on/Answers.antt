@@ -1,5 +1,6 @@
-use Rattle.pf_session.specs.Server.{Askings.AsksLines, Sittings.TakesLines}
-use Rattle.pf_session.proofs.GoingOn.{begins-alone, goes-on-elsewhere, is-whole}
+use Rattle.pf_session.specs.Server.{Askings.{AsksLine, AsksLines}, Sittings.{TakesLine, TakesLines}}
+use Rattle.pf_session.proofs.Chains.{chain-then}
+use Rattle.pf_session.proofs.GoingOn.{begins-alone, goes-on-elsewhere, goes-on-here, is-whole}
 use Rattle.pf_session.proofs.laws.sessions_go_on.Goals as goal
 
 pub returns-clause-alone : goal.returns-clause-alone
@@ -19,3 +20,9 @@ returns-clause-asking_on g c = λ gate session. goes-on-elsewhere (AsksLines (g.
 
 pub returns-clause-asking_whole : goal.returns-clause-asking_whole
 returns-clause-asking_whole g c = λ gate session. is-whole (AsksLines (g.G.Gate.passed gate session))
+
+pub returns-clause-here : goal.returns-clause-here
+returns-clause-here g c = λ gate session. goes-on-here (TakesLines (g.G.Gate.passed gate session)) (λ base setting. chain-then (TakesLine (g.G.Gate.passed gate session) base setting))
+
+pub returns-clause-asking_here : goal.returns-clause-asking_here
+returns-clause-asking_here g c = λ gate session. goes-on-here (AsksLines (g.G.Gate.passed gate session)) (λ base setting. chain-then (AsksLine (g.G.Gate.passed gate session) base setting))

@@ -6,4 +6,5 @@ use Rattle.pfd_conf.proofs.taking.given_interfaces.Given as goal
 
 abbrev pub invariant-loop-text : goal.invariant-loop-text
 invariant-loop-text l =
-    interfaces_given [] (map (λ (t : Bor Word). t.now) l.texts) ≡ interfaces_given l.interfaces (map (λ (t : Bor Word). t.now) (drop l.text-index l.texts))
+    interfaces_given [] (map (λ (t : Bor Word). t.now) l.texts)
+    ≡ interfaces_given l.interfaces (map (λ (t : Bor Word). t.now) (drop l.text-index l.texts))

@@ -7,4 +7,6 @@ pub returns : goal.returns
 returns c =
     let name = codes "cover" in
     let asked = c.asked.ensures in
-    asks (Some (name, rows_of (found_of c.args.found.now))) _ c.asked.result (asked.path name) (asked.lenient name) (asked.interfaces name) asked.question (refl, c.in_ok-cases.ensures)
+    asks (Some (name, rows_of (found_of c.args.found.now))) _ c.asked.result
+    (asked.path name) (asked.lenient name) (asked.interfaces name) asked.question
+    (refl, c.in_ok-cases.ensures)

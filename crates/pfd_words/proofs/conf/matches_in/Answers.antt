@@ -7,4 +7,6 @@ pub returns : goal.returns
 returns c =
     let name = codes "explain" in
     let asked = c.asked.ensures in
-    asks (Some (name, rows_of (found_of c.args.found.now))) _ c.asked.result (asked.path name) (asked.lenient name) (asked.interfaces name) asked.question (refl, c.requires, c.in_ok-packet.ensures)
+    asks (Some (name, rows_of (found_of c.args.found.now))) _ c.asked.result
+    (asked.path name) (asked.lenient name) (asked.interfaces name) asked.question
+    (refl, c.requires, c.in_ok-packet.ensures)

@@ -7,4 +7,6 @@ pub returns : goal.returns
 returns c =
     let name = codes "test" in
     let asked = c.asked.ensures in
-    asks (Some (name, rows_of (found_of c.args.found.now))) _ c.asked.result (asked.path name) (asked.lenient name) (asked.interfaces name) asked.question (refl, c.in_ok-cases.ensures, c.is_said-tap.ensures, c.text_if_any-junit.ensures)
+    asks (Some (name, rows_of (found_of c.args.found.now))) _ c.asked.result
+    (asked.path name) (asked.lenient name) (asked.interfaces name) asked.question
+    (refl, c.in_ok-cases.ensures, c.is_said-tap.ensures, c.text_if_any-junit.ensures)

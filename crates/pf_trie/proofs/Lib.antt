@@ -1,0 +1,5 @@
+pub mod Bits
+pub mod Cuts
+pub mod RowLists
+pub mod ForkSlots
+pub mod Roots

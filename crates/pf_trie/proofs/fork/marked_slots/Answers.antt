@@ -1,0 +1,24 @@
+use Rattle.std.proofs.Common.{◌≡◌, ◌+◌, ◌*◌, ◌/◌, ◌^◌, ℕ, get_or, ap, sym, subst, arith}
+use Rattle.pf_trie.specs.declared.signs.Signs.{Signs}
+use Rattle.pf_trie.specs.{Prefixes.with_sign, Forks.IsSlot}
+use Rattle.pf_trie.proofs.ForkSlots.{one_slot_marked, all_slots_marked}
+use Rattle.pf_trie.proofs.fork.marked_slots.Goals as goal
+
+pub loop-place-preserved : goal.loop-place-preserved
+loop-place-preserved g c =
+    let at = c.args.at in
+    let front = c.args.prefix.address / 2 ^ at / 16 in
+    let place = c.loop-place.place in
+    let own : c.fronts_of-first.result + place ≡ front * 16 + place = ap (λ (n : ℕ). n + place) c.fronts_of-first.ensures in
+    let here : get_or c.loop-place.slots.items place c.index_mut.result.now ≡ c.replace-slot.result = cc in
+    one_slot_marked g.T.Level.holds c.args.prefix c.args.sign at front c.args.slots.items c.loop-place.slots.items place c.replace-slot.new.dest
+    c.marked.result c.loop-place.invariant (omega arith) (λ s lt is.
+    subst (λ (n : ℕ). IsSlot g.T.Level.holds (with_sign s c.args.prefix c.args.sign) at n c.marked.result) own (c.marked.ensures s lt
+    (subst (λ (n : ℕ). IsSlot g.T.Level.holds s at n c.replace-slot.result) (sym own)
+    (subst (λ (x : Signs × g.row.T.Denot). IsSlot g.T.Level.holds s at (front * 16 + place) x) here
+    (c.loop-place.invariant.rest s is place c.index_mut.result.now (omega arith) (omega arith))))))
+
+pub returns-clause-slots : goal.returns-clause-slots
+returns-clause-slots g c = λ s lt is.
+    all_slots_marked g.T.Level.holds c.args.prefix c.args.sign c.args.at (c.args.prefix.address / 2 ^ c.args.at / 16) c.args.slots.items
+    c.loop-place.slots.items c.loop-place.place c.loop-place.invariant (omega arith) s lt is

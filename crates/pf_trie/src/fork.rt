@@ -1,0 +1,176 @@
+//! Forks: signs that are divided by four bits of their addresses.
+ghost use Rattle.std.specs.Prelude.{◌≡◌, ℕ, ◌+◌, ◌*◌, ◌/◌, ◌%◌, ◌^◌, ◌<◌, ◌≤◌, length, IfOk};
+ghost use Rattle.pf_trie.specs.{Prefixes.{AllSigns, Finds, with_sign}, Rows.AreRows, Forks.{IsFork, SameFork}};
+
+use crate::found::Found;
+use crate::level::Level;
+use crate::prefix::Prefix;
+use crate::rows::Row;
+use crate::slot::{SLOT_BITS, SLOTS, Slot};
+use std::alloc::{AllocError, Global};
+use std::marker::Model;
+
+/// The slots of addresses that begin with one front, one for each digit behind it. Contracts see the list of them.
+pub struct Fork<T: Level> {
+    slots: Vec<Slot<T>>,
+}
+
+impl<T: Level> Drop for Fork<T> {
+    fn drop(self) {
+        let Fork { slots: _ } = self;
+    }
+}
+
+impl<T: Level> Model for Fork<T> {
+    ghost use Rattle.std.specs.Prelude.{◌≡◌, List, length};
+    ghost use Rattle.pf_trie.specs.declared.{signs.Signs.{Signs}, slot.TheConstants.SLOTS};
+
+    ghost Value = { List (Signs × T) };
+
+    ghost view = { λ f. f.slots.items };
+
+    ghost invariant = { λ f. length f.slots.items ≡ SLOTS };
+}
+
+// The slot of an address, by the digit above its last `at` bits.
+fn place_of(address: u128, at: u8) -> usize
+    requires { at < 128 }
+    ensures value { result ≡ address / 2 ^ at % SLOTS }
+    ensures within { result < SLOTS }
+{
+    ((address >> at) % SLOTS as u128) as usize
+}
+
+// The front of the slots of a fork before the first bit in which they differ, with that many zeros behind it.
+fn fronts_of(address: u128, at: u8) -> u128
+    requires { at < 128 }
+    ensures { result ≡ address / 2 ^ at / SLOTS * SLOTS }
+{
+    (address >> at) / SLOTS as u128 * SLOTS as u128
+}
+
+// The same slots, each with one owner more. `AllocError`: nothing is made.
+fn shared_slots<T: Level>(alloc: Global, slots: &[Slot<T>]) -> Result<Vec<Slot<T>>, AllocError>
+    ensures { IfOk result (λ v. SameFork T.holds slots.now v.items) }
+{
+    let mut shared = Vec::with_capacity(alloc, slots.len())?;
+    for slot in slots {
+        shared.push(slot.shared()?)?;
+    }
+    Ok(shared)
+}
+
+// The slots of rows, which are those of an address's region. `AllocError`: nothing is made.
+fn slots_of<T: Level>(
+    alloc: Global,
+    at: u8,
+    address: u128,
+    rows: &[Row],
+) -> Result<Vec<Slot<T>>, AllocError>
+    requires { at ≤ 124 }
+    ensures count { IfOk result (λ v. length v.items ≡ SLOTS) }
+    ensures slots { IfOk result (λ v. (s : AllSigns) → AreRows s (at + SLOT_BITS) (address / 2 ^ at / SLOTS) rows.now → IsFork T.holds s at (address / 2 ^ at / SLOTS) v.items) }
+{
+    let first = fronts_of(address, at);
+    let mut slots = Vec::with_capacity(alloc, SLOTS)?;
+    for place in 0..SLOTS {
+        slots.push(Slot::of(alloc, at, first + place as u128, rows)?)?;
+    }
+    Ok(slots)
+}
+
+// Slots with the sign at a prefix replaced, which leaves at least `at` bits free.
+fn marked_slots<T: Level>(
+    mut slots: Vec<Slot<T>>,
+    at: u8,
+    prefix: Prefix,
+    sign: Option<bool>,
+) -> Vec<Slot<T>>
+    requires at { at ≤ 124 }
+    requires count { length slots.items ≡ SLOTS }
+    requires free { prefix.free < 128 }
+    requires wide { at ≤ prefix.free }
+    ensures count { length result.items ≡ SLOTS }
+    ensures slots { (s : AllSigns) → prefix.free < at + SLOT_BITS → IsFork T.holds s at (prefix.address / 2 ^ at / SLOTS) slots.items → IsFork T.holds (with_sign s prefix sign) at (prefix.address / 2 ^ at / SLOTS) result.items }
+{
+    let first = fronts_of(prefix.address, at);
+    for place in 0..SLOTS {
+        let slot = std::mem::replace(&mut slots[place], Slot::none());
+        slots[place] = slot.marked(at, first + place as u128, prefix, sign);
+    }
+    slots
+}
+
+impl<T: Level> Fork<T> {
+    /// The fork of rows, which are those of an address's region. `AllocError`: nothing is made.
+    pub(crate) fn of(
+        alloc: Global,
+        at: u8,
+        address: u128,
+        rows: &[Row],
+    ) -> Result<Fork<T>, AllocError>
+        requires { at ≤ 124 }
+        ensures { IfOk result (λ f. (s : AllSigns) → AreRows s (at + SLOT_BITS) (address / 2 ^ at / SLOTS) rows.now → IsFork T.holds s at (address / 2 ^ at / SLOTS) f) }
+    {
+        Ok(Fork {
+            slots: slots_of(alloc, at, address, rows)?,
+        })
+    }
+
+    /// The same fork, for another owner. `AllocError`: nothing is made.
+    pub(crate) fn copied(&self, alloc: Global) -> Result<Fork<T>, AllocError>
+        ensures { IfOk result (λ f. SameFork T.holds self.now f) }
+    {
+        Ok(Fork {
+            slots: shared_slots(alloc, &self.slots)?,
+        })
+    }
+
+    /// The sign of the longest prefix that contains an address. It takes no memory.
+    pub(crate) fn longest(&self, at: u8, address: u128) -> Option<Found>
+        requires { at < 128 }
+        ensures { (s : AllSigns) → IsFork T.holds s at (address / 2 ^ at / SLOTS) self.now → Finds s 0 (at + SLOT_BITS) address result }
+    {
+        self.slots[place_of(address, at)].longest(at, address)
+    }
+
+    // With the sign at a prefix replaced that leaves fewer than `at` bits free. `AllocError`: nothing is left of it.
+    fn deeper(
+        self,
+        alloc: Global,
+        at: u8,
+        prefix: Prefix,
+        sign: Option<bool>,
+    ) -> Result<Fork<T>, AllocError>
+        requires at { at < 128 }
+        requires free { prefix.free < at }
+        ensures { IfOk result (λ f. (s : AllSigns) → IsFork T.holds s at (prefix.address / 2 ^ at / SLOTS) self → IsFork T.holds (with_sign s prefix sign) at (prefix.address / 2 ^ at / SLOTS) f) }
+    {
+        let Fork { mut slots } = self;
+        let place = place_of(prefix.address, at);
+        let slot = std::mem::replace(&mut slots[place], Slot::none());
+        slots[place] = slot.replaced(alloc, at, prefix, sign)?;
+        Ok(Fork { slots })
+    }
+
+    /// With the sign at a prefix replaced. `AllocError`: nothing is left of it.
+    pub(crate) fn replaced(
+        self,
+        alloc: Global,
+        at: u8,
+        prefix: Prefix,
+        sign: Option<bool>,
+    ) -> Result<Fork<T>, AllocError>
+        requires at { at ≤ 124 }
+        requires free { prefix.free < 128 }
+        ensures { IfOk result (λ f. (s : AllSigns) → prefix.free < at + SLOT_BITS → IsFork T.holds s at (prefix.address / 2 ^ at / SLOTS) self → IsFork T.holds (with_sign s prefix sign) at (prefix.address / 2 ^ at / SLOTS) f) }
+    {
+        if prefix.free < at {
+            return self.deeper(alloc, at, prefix, sign);
+        }
+        let Fork { slots } = self;
+        Ok(Fork {
+            slots: marked_slots(slots, at, prefix, sign),
+        })
+    }
+}

@@ -1,0 +1,110 @@
+//! Pages of rows.
+ghost use Rattle.std.specs.Prelude.{◌≡◌, ℕ, ◌/◌, ◌^◌, [], IfOk};
+ghost use Rattle.pf_trie.specs.{Prefixes.{AllSigns, Finds}, Rows.AreRows};
+ghost use Rattle.pf_trie.specs.Agreeing.{rows_agree};
+
+use crate::found::Found;
+use crate::level::Level;
+use crate::prefix::Prefix;
+use crate::rows::{Row, edited, signs_at};
+use std::alloc::{AllocError, Global};
+use std::marker::Model;
+use std::sync::Arc;
+
+/// Rows in order, which all tries share that hold the page. Contracts see the list of them.
+#[derive(Drop)]
+pub struct Page {
+    rows: Option<Arc<Vec<Row>>>,
+}
+
+impl Model for Page {
+    ghost use Rattle.std.specs.Prelude.{List};
+    ghost use Rattle.pf_trie.specs.declared.rows.Row.{Row};
+    ghost use Rattle.pf_trie.specs.Pages.{shared_items};
+
+    ghost Value = { List Row };
+
+    ghost view = { λ p. shared_items p.rows };
+}
+
+impl Page {
+    /// Its rows.
+    pub(crate) fn rows(&self) -> &[Row]
+        ensures { result.now ≡ self.now }
+    {
+        match &self.rows {
+            Some(rows) => rows.as_slice(),
+            None => &[],
+        }
+    }
+
+    /// No rows. It takes no memory.
+    pub(crate) fn none() -> Page
+        ensures { result ≡ [] }
+    {
+        Page { rows: None }
+    }
+
+    /// The page of these rows. `AllocError`: nothing is left of them.
+    pub(crate) fn of(alloc: Global, rows: Vec<Row>) -> Result<Page, AllocError>
+        ensures { IfOk result (λ p. p ≡ rows.items) }
+    {
+        if rows.is_empty() {
+            return Ok(Page::none());
+        }
+        Ok(Page {
+            rows: Some(Arc::new(alloc, rows)?),
+        })
+    }
+
+    /// The same rows, shared and not copied. `AllocError`: they can't have another owner.
+    pub(crate) fn another(&self) -> Result<Page, AllocError>
+        ensures { IfOk result (λ p. p ≡ self.now) }
+    {
+        match &self.rows {
+            Some(rows) => Ok(Page {
+                rows: Some(Arc::try_clone(rows)?),
+            }),
+            None => Ok(Page::none()),
+        }
+    }
+
+    /// The sign of the longest prefix that contains an address. It takes no memory.
+    pub(crate) fn found(&self, address: u128) -> Option<Found>
+        ensures { (s : AllSigns) (top front : ℕ) → AreRows s top front self.now → address / 2 ^ top ≡ front → Finds s 0 top address result }
+    {
+        signs_at(self.rows(), address).longest()
+    }
+}
+
+impl Level for Page {
+    ghost holds = { λ s top front p. AreRows s top front p };
+
+    fn empty() -> Page {
+        Page::none()
+    }
+
+    fn of_rows(alloc: Global, rows: Vec<Row>) -> Result<Page, AllocError> {
+        Page::of(alloc, rows)
+    }
+
+    fn shared(&self) -> Result<Page, AllocError> {
+        self.another()
+    }
+
+    fn longest(&self, _top: u8, address: u128) -> Option<Found> {
+        self.found(address)
+    }
+
+    fn replaced(
+        self,
+        alloc: Global,
+        _top: u8,
+        prefix: Prefix,
+        sign: Option<bool>,
+    ) -> Result<Page, AllocError> {
+        Page::of(alloc, edited(alloc, self.rows(), prefix, sign)?)
+    }
+
+    ghost agrees = { λ s t top front p. rows_agree s t top front p };
+}

@@ -1,0 +1,197 @@
+//! Rows: addresses with the signs of all their prefixes, in order.
+ghost use Rattle.std.specs.Prelude.{◌≡◌, ℕ, ◌/◌, ◌^◌, ◌<◌, ◌==◌, false, filter, map, Some, None, IfOk};
+ghost use Rattle.pf_trie.specs.Prefixes.{AllSigns, first_of, with_sign};
+ghost use Rattle.pf_trie.specs.Rows.{HasSigns, AreRows, AreRowsWith, IsUpTo, IsNoStart, Marks, MarksEach, cut_row};
+
+use crate::prefix::{Prefix, apart};
+use crate::signs::Signs;
+use std::alloc::{AllocError, Global};
+
+/// An address, and the signs of all its prefixes.
+#[derive(Clone, Copy)]
+pub struct Row {
+    /// The address.
+    pub first: u128,
+    /// The signs.
+    pub signs: Signs,
+}
+
+impl Row {
+    // The row once a prefix's sign was replaced.
+    fn marked(self, prefix: Prefix, sign: Option<bool>) -> Row
+        requires { prefix.free < 128 }
+        ensures { Marks prefix sign self result }
+    {
+        if !prefix.contains(self.first) {
+            return self;
+        }
+        Row {
+            first: self.first,
+            signs: self.signs.with(prefix.free, sign),
+        }
+    }
+
+    // The row with the signs of the prefixes that leave fewer bits free.
+    fn cut(self, most: u8) -> Row
+        requires { most < 128 }
+        ensures { result ≡ cut_row most self }
+    {
+        Row {
+            first: self.first,
+            signs: self.signs.below(most),
+        }
+    }
+
+    // Whether a prefix that has a sign begins at its address. If any does, the longest one that has a sign does.
+    fn is_start(self) -> bool
+        ensures { result ≡ false → IsNoStart self }
+    {
+        match self.signs.longest() {
+            Some(found) => {
+                let prefix = Prefix {
+                    address: self.first,
+                    free: found.free,
+                };
+                prefix.first() == self.first
+            }
+            None => false,
+        }
+    }
+}
+
+// How many rows are at an address or before it. What is left to look at is halved at each step.
+fn up_to(rows: &[Row], address: u128) -> usize
+    ensures { IsUpTo rows.now address result }
+{
+    let mut low = 0;
+    let mut high = rows.len();
+    'halving: while low < high {
+        let middle = low + (high - low) / 2;
+        if rows[middle].first <= address {
+            low = middle + 1;
+        } else {
+            high = middle;
+        }
+    }
+    low
+}
+
+// The signs of an address's prefixes, by the last row that isn't past it, of so many rows that aren't. Each prefix that has a sign and contains
+// the address contains the row's address too: it begins at a row, and no row lies between the two.
+fn signs_by(rows: &[Row], place: usize, address: u128) -> Signs
+    requires { IsUpTo rows.now address place }
+    ensures { (s : AllSigns) (top front : ℕ) → AreRows s top front rows.now → address / 2 ^ top ≡ front → HasSigns s 0 top address result }
+{
+    if place == 0 {
+        return Signs::none();
+    }
+    let row = rows[place - 1];
+    row.signs.from(apart(row.first, address))
+}
+
+/// The signs of an address's prefixes. It takes no memory.
+pub(crate) fn signs_at(rows: &[Row], address: u128) -> Signs
+    ensures { (s : AllSigns) (top front : ℕ) → AreRows s top front rows.now → address / 2 ^ top ≡ front → HasSigns s 0 top address result }
+{
+    signs_by(rows, up_to(rows, address), address)
+}
+
+// A copy of rows, with one at this address.
+fn with_row(alloc: Global, rows: &[Row], address: u128) -> Result<Vec<Row>, AllocError>
+    ensures { IfOk result (λ v. (s : AllSigns) (top front : ℕ) → AreRows s top front rows.now → address / 2 ^ top ≡ front → AreRowsWith s top front address v.items) }
+{
+    let place = up_to(rows, address);
+    let mut made = Vec::with_capacity(alloc, rows.len().saturating_add(1))?;
+    made.extend_from_slice(rows)?;
+    if place > 0 && rows[place - 1].first == address {
+        return Ok(made);
+    }
+    let row = Row {
+        first: address,
+        signs: signs_by(rows, place, address),
+    };
+    made.insert(place, row)?;
+    Ok(made)
+}
+
+// Replaces a prefix's sign in all rows.
+fn mark(rows: &mut [Row], prefix: Prefix, sign: Option<bool>)
+    requires { prefix.free < 128 }
+    ensures { MarksEach prefix sign rows.old rows.new }
+{
+    for row in rows.iter_mut() {
+        *row = row.marked(prefix, sign);
+    }
+}
+
+// Takes out the last row that isn't past an address, if no prefix that has a sign begins there.
+fn clear(rows: &mut Vec<Row>, address: u128)
+    ensures { (s : AllSigns) (top front : ℕ) → AreRows s top front rows.old.items → AreRows s top front rows.new.items }
+{
+    let place = up_to(rows, address);
+    if place > 0 && !rows[place - 1].is_start() {
+        rows.remove(place - 1);
+    }
+}
+
+// Rows with a sign at a prefix. `AllocError`: nothing is made.
+fn with_sign(
+    alloc: Global,
+    rows: &[Row],
+    prefix: Prefix,
+    sign: bool,
+) -> Result<Vec<Row>, AllocError>
+    requires { prefix.free < 128 }
+    ensures { IfOk result (λ v. (s : AllSigns) (top front : ℕ) → AreRows s top front rows.now → prefix.free < top → prefix.address / 2 ^ top ≡ front → AreRows (with_sign s prefix (Some sign)) top front v.items) }
+{
+    let mut made = with_row(alloc, rows, prefix.first())?;
+    mark(&mut made, prefix, Some(sign));
+    Ok(made)
+}
+
+// Rows with no sign at a prefix. `AllocError`: nothing is made.
+fn without_sign(alloc: Global, rows: &[Row], prefix: Prefix) -> Result<Vec<Row>, AllocError>
+    requires { prefix.free < 128 }
+    ensures { IfOk result (λ v. (s : AllSigns) (top front : ℕ) → AreRows s top front rows.now → prefix.free < top → prefix.address / 2 ^ top ≡ front → AreRows (with_sign s prefix None) top front v.items) }
+{
+    let mut made = Vec::from_slice(alloc, rows)?;
+    mark(&mut made, prefix, None);
+    clear(&mut made, prefix.first());
+    Ok(made)
+}
+
+/// The rows with the sign at a prefix replaced, or taken out. `AllocError`: nothing is made.
+pub(crate) fn edited(
+    alloc: Global,
+    rows: &[Row],
+    prefix: Prefix,
+    sign: Option<bool>,
+) -> Result<Vec<Row>, AllocError>
+    requires { prefix.free < 128 }
+    ensures { IfOk result (λ v. (s : AllSigns) (top front : ℕ) → AreRows s top front rows.now → prefix.free < top → prefix.address / 2 ^ top ≡ front → AreRows (with_sign s prefix sign) top front v.items) }
+{
+    match sign {
+        Some(sign) => with_sign(alloc, rows, prefix, sign),
+        None => without_sign(alloc, rows, prefix),
+    }
+}
+
+/// Of rows those whose addresses begin with `front` before the last `at` bits, with the signs of the prefixes that leave fewer bits free.
+/// `AllocError`: nothing is made.
+pub(crate) fn rows_within(
+    alloc: Global,
+    rows: &[Row],
+    at: u8,
+    front: u128,
+) -> Result<Vec<Row>, AllocError>
+    requires { at < 128 }
+    ensures { IfOk result (λ v. v.items ≡ map (cut_row at) (filter (λ r. r.first / 2 ^ at == front) rows.now)) }
+{
+    let mut within = Vec::new(alloc);
+    for row in rows {
+        if row.first >> at == front {
+            within.push(row.cut(at))?;
+        }
+    }
+    Ok(within)
+}
