@@ -9,7 +9,7 @@ use Rattle.pf_snap.specs.Banks as snap
 use Rattle.pf_snap.proofs.Holding.{one_content}
 use Rattle.pf_core.specs.{Durable.Changes.{PlainDurable}, Worlds.{last_epoch, raised}}
 use Rattle.pf_store.specs.declared.groups.recorded.Recorded.{Recorded}
-use Rattle.pf_store.specs.{Durables.IsDurable, Groups.{IsRecorded, IsRecordOf}, Lengths.snapshot_length, Openings.{HasRoomHere, HoldsAdded, HoldsBy, IsAsLongAs, IsFull, IsNoLaterThan, IsOfOpening, IsOfSave, LeavesRoom, gate_of, generation_of, version_of}, Snapshots.IsBankOf, Stores.{FollowInTurn, left_by_all, Holds, HoldsEither, IsRoomy, Makes}, StoreKept.{Stands, PlainStore, IsStore, HaveKept, store_with}}
+use Rattle.pf_store.specs.{Durables.IsDurable, Groups.{IsRecorded, IsRecordOf}, Lengths.snapshot_length, Openings.{FollowsOn, HasRoomHere, HoldsAdded, HoldsBy, IsAsLongAs, IsFull, IsNoLaterThan, IsOfOpening, IsOfSave, LeavesRoom, gate_of, generation_of, version_of}, Snapshots.IsBankOf, Stores.{FollowInTurn, left_by_all, Holds, HoldsEither, IsRoomy, Makes}, StoreKept.{Stands, PlainStore, IsStore, HaveKept, store_with}}
 use Rattle.pf_store.proofs.{Leading.{leads-push}, Refusing.{one_at, one_gate, one_held}, Sized.raised_roomy}
 
 not_greater : (a b : ℕ) → (a ≤ b → ⊥) → b < a
@@ -160,13 +160,13 @@ pub as_added : {seen : List ℕ} {g : ℕ} {IsAdded IsOther : List Recorded → 
     → HoldsBy seen g (HoldsAdded IsOther d) c
 as_added tells c it = record { long = it.long; generation = it.generation; holds = record { either = λ xs is follows. it.holds.either xs (tells xs is) follows } }
 
-module _ {D : Type 0} {seen : D → List ℕ} {unsynced : D → ℕ → Bool} {banks : Banks D} {d : PlainDurable} (k : HaveKept seen banks d) where
+module _ {D : Type 0} {seen : D → List ℕ} {banks : Banks D} {d : PlainDurable} (k : HaveKept seen banks d) where
   abbrev read : List ℕ
   read = seen banks.journal.disk
 
   -- no call was made
-  pub not_called : IsReady seen unsynced banks → (c : List ℕ) → IsImage read (unsynced banks.journal.disk) c → HoldsBy read (banks.generation + 1) (λ image. Holds image d) c
-  not_called ready c image =
+  pub not_called : {unsynced : D → ℕ → Bool} → IsReady seen unsynced banks → (c : List ℕ) → IsImage read (unsynced banks.journal.disk) c → HoldsBy read (banks.generation + 1) (λ image. Holds image d) c
+  not_called {unsynced = unsynced} ready c image =
       let here : snap.Holds read k.content = record { at = banks.at; other = banks.other; holds = k.keeps.holds } in
       record {
         long = image.same_length;
@@ -218,6 +218,16 @@ unsaved {D = D} {seen = seen} {unsynced = unsynced} {banks = banks} halted {d = 
       roomy = λ leaves. subst LeavesRoom (sym (only_read (seen banks.journal.disk) (unsynced banks.journal.disk) c s.ready.journal.synced image)) leaves;
     }) held
 
+-- what was held gets the next epoch
+follows_on : (seen : List ℕ) (g : ℕ) (d : PlainDurable) (held : Holds seen d) → g ≤ generation_of seen d held + 1 → (c : List ℕ) → HoldsBy seen g (HoldsEither d (raised d)) c → FollowsOn seen c
+follows_on seen g d held low c is = record {
+  kept = d;
+  held = held;
+  holds = is.holds;
+  generation = λ e there. let by : generation_of c e there ≤ g = is.generation e there in omega (arith, by, low);
+  roomy = λ room. let own = room d held in roomy_either seen d (raised d) own (raised_roomy (bank_size (length seen)) d own) c is.long is.holds;
+}
+
 -- ---- runs
 
 module _ {D : Type 0} {device : Ghosts D} where
@@ -236,15 +246,8 @@ module _ {D : Type 0} {device : Ghosts D} where
   -- a device is read, and what was read gets the next epoch
   pub opened : {old mid new : D} {failed : Bool} {g : ℕ} {d : PlainDurable} → WritesNothing device old mid 5 false → (held : Holds (device.seen old) d) → g ≤ generation_of (device.seen old) d held + 1
       → MayWrite device mid new 10 failed (HoldsBy (device.seen mid) g (HoldsEither d (raised d))) → MayWrite device old new 15 failed (IsOfOpening (device.seen old) (device.unsynced old))
-  opened {old = old} {mid = mid} {g = g} {d = d} first held low second =
+  opened {old = old} {g = g} {d = d} first held low second =
       let P = IsOfOpening (device.seen old) (device.unsynced old) in
+      let Q = HoldsEither d (raised d) in
       and_then {most = 15} (weakened {Q = P} first.run (λ c image. inl image))
-      (weakened {Q = P} second (λ c is. inr (record {
-        kept = d;
-        held = held;
-        holds = is.holds;
-        generation = λ e there. let by : generation_of c e there ≤ g = is.generation e there in omega (arith, by, low);
-        roomy = λ room.
-            let own = room d held in
-            roomy_either (device.seen old) d (raised d) own (raised_roomy (bank_size (length (device.seen old))) d own) c (is.long ∙ ap length first.seen) is.holds;
-      }))) (omega arith)
+      (weakened {Q = P} second (λ c is. inr (follows_on (device.seen old) g d held low c (subst (λ (l : List ℕ). HoldsBy l g Q c) first.seen is)))) (omega arith)

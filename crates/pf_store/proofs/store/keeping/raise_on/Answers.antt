@@ -45,8 +45,8 @@ returns-in-Ok-add-clause-writes g c =
     let k = c.args.durable.now in
     weakened c.in-Ok-add.ensures.writes (either_added (raised k) (opens (k.epoch + 1) ∷ []) c.in-Ok.ensures.made (refl, tt) refl)
 
-pub returns-clause-writes : goal.returns-clause-writes
-returns-clause-writes g c =
+pub returns-in-Err-add-clause-writes : goal.returns-in-Err-add-clause-writes
+returns-in-Err-add-clause-writes g c =
     let d = g.D.Disk in
     let b = c.args.banks in
     let old = b.journal.disk in
@@ -56,16 +56,16 @@ returns-clause-writes g c =
     (subst (λ x. MayWrite d old x 10 (is_add_fault {T = Unit {0}} (Err fault)) (HoldsBy (d.seen old) (b.generation + 1) (HoldsEither k (raised k)))) (sym c.into_disk-in-Err-add.ensures)
     (weakened c.in-Err-add.ensures.writes (either_added (raised k) (opens (k.epoch + 1) ∷ []) c.in-Ok.ensures.made (refl, tt) refl)))
 
-pub returns-clause-untouched : goal.returns-clause-untouched
-returns-clause-untouched g c none =
+pub returns-in-Err-add-clause-untouched : goal.returns-in-Err-add-clause-untouched
+returns-in-Err-add-clause-untouched g c none =
     let fault = c.in-Err-add.fault in
     c.into_disk-in-Err-add.ensures ∙ ap (λ b. b.journal.disk) (c.in-Err-add.ensures.refused (sym (ap is_fault c.into.ensures ∙ same_fault fault) ∙ none))
 
-pub returns-clause-not_size : goal.returns-clause-not_size
-returns-clause-not_size g c is = no_size c.in-Err-add.fault (sym c.into.ensures ∙ is)
+pub returns-in-Err-add-clause-not_size : goal.returns-in-Err-add-clause-not_size
+returns-in-Err-add-clause-not_size g c is = no_size c.in-Err-add.fault (sym c.into.ensures ∙ is)
 
-pub returns-clause-refused : goal.returns-clause-refused
-returns-clause-refused g c =
+pub returns-in-Err-add-clause-refused : goal.returns-in-Err-add-clause-refused
+returns-in-Err-add-clause-refused g c =
     let seen = g.D.Disk.seen c.args.banks.journal.disk in
     let k = c.requires.kept in
     let fault = c.in-Err-add.fault in
