@@ -5,7 +5,7 @@ ghost use Rattle.pf_disk.specs.{Disk.{EachMoment, IsImage}, Runs.MayWrite};
 ghost use Rattle.pf_core.specs.{Durable.Changes.PlainDurable, Laws.Durable.IsWithin, Worlds.{last_epoch, raised}};
 ghost use Rattle.pf_store.specs.declared.store.fault.OpenFault.TheVariants.{BadSize, Memory, Places};
 ghost use Rattle.pf_view.specs.Past.Pasts.{all_acked};
-ghost use Rattle.pf_store.specs.{Banks.bank_size, Stores.{Holds}, StoreFaults.{is_fault, is_opening_fault}, Openings.{IsFull, IsNoLaterThan, IsOfOpening, IsUnopened, generation_of}};
+ghost use Rattle.pf_store.specs.{Banks.bank_size, Stores.{Holds}, StoreKept.Stands, StoreFaults.{is_fault, is_opening_fault}, Openings.{IsFull, IsNoLaterThan, IsOfOpening, IsUnopened, generation_of}};
 ghost use Rattle.pf_book.specs.Books.{device_of};
 
 use pf_core::Durable;
@@ -68,6 +68,41 @@ impl<D: Disk> Opening<D> {
         ensures unchanged_at_bad_size { IfErr result (λ e. e.0 ≡ BadSize → e.1 ≡ disk) }
     {
         let (durable, store) = Store::open(alloc, disk)?;
+        match Arc::new(alloc, durable) {
+            Ok(durable) => Ok(Opening {
+                durable,
+                store,
+                history: NewHistory::open(),
+            }),
+            Err(_) => Err((OpenFault::Memory, store.into_disk())),
+        }
+    }
+
+    /// Opens the device of a store again: all that [`Opening::open`] says of a device holds of it, also why it isn't opened. Unless the store
+    /// is halted, it has to stand for `kept`, and then nothing is read back.
+    pub(crate) fn open_again(
+        alloc: Global,
+        before: Store<D>,
+        kept: &Durable,
+    ) -> Result<Opening<D>, (OpenFault, D)>
+        requires stands { before.halted ≡ false → Stands D.seen D.unsynced before kept.now }
+        requires few { D.fault_count before.disk < 2 ^ 63 }
+        ensures opened { IfOk result (λ o. (d : PlainDurable) × Holds (D.seen before.disk) d × (o.given ≡ raised d) × (d.epoch < last_epoch)) }
+        ensures images { IfOk result (λ o. (c : List ℕ) → IsImage (D.seen o.disk) (D.unsynced o.disk) c → Holds c o.given) }
+        ensures within { IfOk result (λ o. IsWithin o.given) }
+        ensures generation { IfOk result (λ o. (d : PlainDurable) × (held : Holds (D.seen before.disk) d)
+            × (o.generation ≤ generation_of (D.seen before.disk) d held + 1) × (generation_of (D.seen before.disk) d held < 2 ^ 63)) }
+        ensures generations { IfOk result (λ o. (c : List ℕ) → IsImage (D.seen o.disk) (D.unsynced o.disk) c → IsNoLaterThan o.generation c) }
+        ensures size { IfOk result (λ o. o.size ≡ bank_size (length (D.seen o.disk))) }
+        ensures room { IfOk result (λ o. (d : PlainDurable) → ¬ IsFull (D.seen before.disk) d) }
+        ensures writes { MayWrite D.Disk before.disk (device_of result) 15 (is_opening_fault result)
+            (IsOfOpening (D.seen before.disk) (D.unsynced before.disk)) }
+        ensures refused { IfErr result (λ e. IsUnopened e.0 (D.seen before.disk)) }
+        ensures untouched { IfErr result (λ e. is_fault e.0 ≡ false → (e.0 ≡ Memory → ⊥) → (D.seen e.1 ≡ D.seen before.disk)
+            × EachMoment D.moment D.left_since before.disk e.1 (IsImage (D.seen before.disk) (D.unsynced before.disk))) }
+        ensures unchanged_at_bad_size { IfErr result (λ e. e.0 ≡ BadSize → e.1 ≡ before.disk) }
+    {
+        let (durable, store) = before.open_again(alloc, kept)?;
         match Arc::new(alloc, durable) {
             Ok(durable) => Ok(Opening {
                 durable,

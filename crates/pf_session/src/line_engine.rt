@@ -11,8 +11,8 @@ mod pieces;
 mod some;
 
 pub use answer_line::{AnswerLine, LOOKED_AT};
-pub use engine::{go_on, serve};
+pub use engine::{go_on, go_on_some, serve};
 pub use fault::EngineFault;
 pub use intake::Intake;
 pub use left_off::{LeftOff, NoPause, Pause};
-pub use some::{AnswerSome, go_on_some};
+pub use some::AnswerSome;

@@ -41,7 +41,7 @@ pub fn renew<D: Disk + Drop, J: Chapter, S: Publisher<J> + Drop>(
 }
 
 /// Opens the device of a Book again, as [`renew`] does, with its errors, while the Book's seers go on judging: they do until the second value
-/// is dropped. What is opened has all that was acknowledged in the Book.
+/// is dropped. What is opened has all that was acknowledged in the Book. Unless the device failed in it, nothing is read back.
 pub fn reopen<D: Disk + Drop, J: Chapter, S: Publisher<J> + Drop>(
     alloc: Global,
     book: Book<D, J, S>,
@@ -52,11 +52,11 @@ pub fn reopen<D: Disk + Drop, J: Chapter, S: Publisher<J> + Drop>(
         → (n : ℕ) × StandsFor first next ((world ++ crashed idle n ∷ []) ++ opened setting ∷ [])) }
 {
     book.between_calls();
-    let (disk, closed) = book.close();
-    if MOST_FAULTS <= disk.faults() {
+    if MOST_FAULTS <= book.disk().faults() {
+        let (disk, closed) = book.close();
         return (Err((OpenFault::Fault, disk)), closed);
     }
-    (Opening::open(alloc, disk), closed)
+    book.open_again(alloc)
 }
 
 /// Whatever these seers of a closed Book saw and learnt by now was acknowledged in it, however long they judged: what [`reopen`] gave has all

@@ -2,7 +2,7 @@
 use Rattle.std.proofs.Common.{◌≡◌, inl, inr, ℕ, ◌+◌, ◌^◌, ◌<◌, ◌≤◌, Bool, false, List, length, refl, sym, ap, ◌∙◌, subst, arith}
 use Rattle.std.specs.Prelude.{Result, Ok, Err, IfOk}
 use Rattle.pf_disk.specs.{Disk.{IsImage, IsSynced}, Runs.{MayWrite, WritesNothing}, declared.disk.Disk.Ghosts}
-use Rattle.pf_disk.proofs.{Images.only_read, Writing.{and_then, weakened}}
+use Rattle.pf_disk.proofs.{Images.only_read, Writing.{and_then, at_most, weakened}}
 use Rattle.pf_journal.specs.{Journal.IsOf, declared.journal.Record.Record}
 use Rattle.pf_snap.specs.{Banks.{Content, with_payload, switched, bank_size}, Ready.{IsOfAppend, IsOfSwitch, IsReady, Keeps}, declared.{banks.Banks.Banks, header.TheConstants.{BANK_HEADER, NEWEST}, next_bank.NextBank.NextBank}}
 use Rattle.pf_snap.specs.Banks as snap
@@ -243,7 +243,13 @@ module _ {D : Type 0} {device : Ghosts D} where
       let then = either_added e xs is follows leads c it in
       record { by = then; roomy = λ leaves. roomy_either (device.seen banks.journal.disk) d e (leaves d there) fits c it.long then.holds })) held roomy
 
-  -- a device is read, and what was read gets the next epoch
+  -- what a device holds gets the next epoch
+  pub followed : {old new : D} {failed : Bool} {g : ℕ} {d : PlainDurable} → (held : Holds (device.seen old) d) → g ≤ generation_of (device.seen old) d held + 1
+      → MayWrite device old new 10 failed (HoldsBy (device.seen old) g (HoldsEither d (raised d))) → MayWrite device old new 15 failed (IsOfOpening (device.seen old) (device.unsynced old))
+  followed {old = old} {g = g} {d = d} held low run =
+      at_most {most = 15} (weakened {Q = IsOfOpening (device.seen old) (device.unsynced old)} run (λ c is. inr (follows_on (device.seen old) g d held low c is))) (omega arith)
+
+  -- and so does what was read on it before
   pub opened : {old mid new : D} {failed : Bool} {g : ℕ} {d : PlainDurable} → WritesNothing device old mid 5 false → (held : Holds (device.seen old) d) → g ≤ generation_of (device.seen old) d held + 1
       → MayWrite device mid new 10 failed (HoldsBy (device.seen mid) g (HoldsEither d (raised d))) → MayWrite device old new 15 failed (IsOfOpening (device.seen old) (device.unsynced old))
   opened {old = old} {g = g} {d = d} first held low second =

@@ -6,6 +6,7 @@
 //!
 //! - `keeping`: [`Store`], which saves changes, and [`Store::open`].
 //! - `adding`: adds a record, to the bank that counts or after a switch.
+//! - `reopening`: [`Store::open_again`], which needn't read what is kept in memory.
 //! - `finding`: [`Store::peek`], what a device holds.
 //! - `formatting`: [`format`], which makes a device hold nothing.
 //! - `replaying`: what a snapshot and payloads make.
@@ -21,6 +22,7 @@ mod formatting;
 mod keeping;
 mod laws;
 mod lengths;
+mod reopening;
 mod replaying;
 
 pub use fault::{OpenFault, SaveFault};

@@ -1,7 +1,6 @@
 -- Bits of the numbers that have an address's signs.
-use Rattle.std.proofs.{Common.{◌≡◌, ◌≢◌, ℕ, ◌+◌, ◌-◌, ◌*◌, ◌/◌, ◌%◌, ◌^◌, ◌<◌, ◌≤◌, ◌==◌, Bool, true, false, cond, nat_le, nat_lt, eqb, max, Option, Some, None, refl, sym, ap, ◌∙◌, subst, arith}, lemmas.{Bool.Decides.nat_tests, Nat.{shr-shr, shr_split, and_mask, one_shl, or_lt, and_le_l, le_or_l, le_or_r, mod_below, pow_pos}, Nat.Bits.{bit_at-zero, bit_at_or, bit_at-lt, bit_at_set_same, bit_at_set_other, bit_at_clear_same, bit_at_clear_other, bit_at_above, bit_at_cat_low, bit_at_cat_high, bit_at-trailing_zeros, shr_and_one}}, Math.Nat.div-mul-le_self}
+use Rattle.std.proofs.{Common.{◌≡◌, ◌≢◌, ℕ, ◌+◌, ◌-◌, ◌*◌, ◌/◌, ◌%◌, ◌^◌, ◌<◌, ◌≤◌, ◌==◌, Bool, true, false, cond, nat_le, nat_lt, eqb, max, Option, Some, None, refl, sym, ap, ◌∙◌, arith}, lemmas.{Bool.Decides.nat_tests, Nat.{shr-shr, shr_split, and_mask, one_shl, or_lt, and_le_l, le_or_l, le_or_r, mod_below, pow_pos}, Nat.Bits.{bit_at-zero, bit_at_or, bit_at-lt, bit_at_set_same, bit_at_set_other, bit_at_clear_same, bit_at_clear_other, bit_at_above, bit_at_cat_low, bit_at_cat_high, bit_at-trailing_zeros, shr_and_one}}, Math.Nat.div-mul-le_self}
 use Rattle.std.specs.{Prelude.{bit_and, bit_or}, Int.{bit_at, bit_not, w128, trailing_zeros}}
-use Rattle.pf_trie.specs.declared.{found.Found.{Found}, signs.Signs.{Signs}}
 use Rattle.pf_trie.specs.Signs.{is_set, sign_of, IsFirst}
 
 equal : (a b : ℕ) → (a == b) ≡ true → a ≡ b

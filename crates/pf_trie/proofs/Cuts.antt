@@ -1,5 +1,5 @@
 -- In how many last bits two numbers differ.
-use Rattle.std.proofs.{Common.{◌≡◌, ℕ, suc, ◌+◌, ◌-◌, ◌*◌, ◌/◌, ◌%◌, ◌^◌, ◌<◌, ◌≤◌, bit_xor, Bool, true, false, nat_lt, refl, sym, ap, ◌∙◌, subst, arith}, Math.Nat.{div-mul-le_self, div-eq_of_lt, pow-suc, le-mul_of_pos_right, mul_assoc, mul-le-mul_right}, lemmas.Bool.Decides.nat_tests, Math.Pow.shr_mono, lemmas.Nat.{mod_below, le-div, pow_pos, pow-add, shl-shr, shr-shr, shr_split, xor_shr, xor_lt, and_le_l, and_le_r, leading_length}}
+use Rattle.std.proofs.{Common.{◌≡◌, ℕ, suc, ◌+◌, ◌-◌, ◌*◌, ◌/◌, ◌%◌, ◌^◌, ◌<◌, ◌≤◌, bit_xor, Bool, true, false, nat_lt, refl, sym, ap, ◌∙◌, subst, arith}, Math.Nat.{div-eq_of_lt, pow-suc, le-mul_of_pos_right, mul_assoc}, lemmas.Bool.Decides.nat_tests, lemmas.Nat.{mod_below, pow_pos, pow-add, shr-shr, shr_split, xor_shr, xor_lt, and_le_l, and_le_r, leading_length}}
 use Rattle.pf_trie.specs.Prefixes.{IsApart}
 use Rattle.std.specs.Int.{Bits.{xor_self, xor_add_and}, Count.count_leading_zeros}
 

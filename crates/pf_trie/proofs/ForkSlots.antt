@@ -1,10 +1,10 @@
 -- Slots, forks and branches.
-use Rattle.std.proofs.{Common.{◌≡◌, ◌≢◌, ℕ, zero, suc, ◌+◌, ◌-◌, ◌*◌, ◌/◌, ◌%◌, ◌^◌, ◌<◌, ◌≤◌, ◌==◌, ◌&&◌, Bool, true, false, cond, nat_le, nat_lt, List, [], ◌∷◌, ◌++◌, length, get_or, set, take, filter, map, Option, Some, None, All, refl, sym, ap, ◌∙◌, subst, arith}, lemmas.{Bool.and_parts, Bool.Decides.nat_tests, Nat.{shr-shr, shl-shr, pow-add, pow_pos, shr_below, shl_whole}, List.{get_or_past, get_or_default, length-set, get_or-set_same, get_or-set_other, get_or-map, length-map, length-append, get_or_append_left, get_or-take, length-take-le}, List.Elements.{All-filter, filter_passes, All-map, All-weaker}, List.Kept.AllPairs-filter}, Math.{Nat.{div-mul-le_self, div-eq_of_lt}, Seq.get_or-append_seam}}
-use Rattle.std.specs.{List.{AllPairs, Any}, Arc.arc_value, declared.{sync.Arc.Arc}}
-use Rattle.pf_trie.specs.declared.{found.Found.{Found}, prefix.Prefix.{Prefix}, rows.Row.{Row}, signs.Signs.{Signs}, slot.TheConstants.{SLOT_BITS, SLOTS}}
-use Rattle.pf_trie.specs.{Prefixes.{AllSigns, Agree, front, first_of, with_sign, HasNone, Decides, Finds}, Signs.{sign_of, below_of, IsShortest}, Rows.{HasSigns, IsInOrder, IsAt, AreRows, cut_row}, Forks.{IsSlot, IsFork, IsForkOf, IsBranch, SameSlot, SameFork}}
-use Rattle.pf_trie.specs.Agreeing.{signs_agree, of_slot}
-use Rattle.pf_trie.proofs.{Cuts.share_fewer, RowLists.{finds, first_in_front}, Bits.cut_signs}
+use Rattle.std.proofs.{Common.{◌≡◌, ◌≢◌, ℕ, zero, suc, ◌+◌, ◌-◌, ◌*◌, ◌/◌, ◌%◌, ◌^◌, ◌<◌, ◌≤◌, ◌==◌, ◌&&◌, Bool, true, false, cond, nat_le, nat_lt, List, [], ◌∷◌, ◌++◌, length, get_or, set, take, filter, map, Option, Some, None, refl, sym, ap, ◌∙◌, subst, arith}, lemmas.{Bool.and_parts, Bool.Decides.nat_tests, Nat.{shr-shr, pow-add, shr_below, shl_whole}, List.{get_or_past, get_or_default, length-set, get_or-set_same, get_or-set_other, get_or-map, length-map, length-append, get_or_append_left, get_or-take, length-take-le}, List.Elements.{All-filter, filter_passes, All-map, All-weaker}, List.Kept.AllPairs-filter}, Math.{Seq.get_or-append_seam}}
+use Rattle.std.specs.{List.{Any}}
+use Rattle.pf_trie.specs.declared.{found.Found.{Found}, prefix.Prefix.{Prefix}, rows.Row.{Row}, signs.Signs.{Signs}}
+use Rattle.pf_trie.specs.{Prefixes.{AllSigns, Agree, front, with_sign, HasNone, Decides, Finds}, Signs.{sign_of, below_of}, Rows.{HasSigns, IsAt, AreRows, cut_row}, Forks.{IsSlot, IsFork, IsForkOf, SameSlot, SameFork}}
+use Rattle.pf_trie.specs.Agreeing.{of_slot}
+use Rattle.pf_trie.proofs.{Cuts.share_fewer, RowLists.{first_in_front}, Bits.cut_signs}
 
 -- ---- look-ups
 

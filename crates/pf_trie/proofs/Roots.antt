@@ -1,7 +1,7 @@
 -- Whole tries: the level of all addresses, and the prefix that contains them all.
-use Rattle.std.proofs.{Common.{◌≡◌, ℕ, ◌+◌, ◌*◌, ◌/◌, ◌^◌, ◌<◌, ◌≤◌, ◌==◌, ◌&&◌, Bool, true, false, cond, nat_lt, [], Option, Some, None, refl, sym, ap, ◌∙◌, subst, arith}, lemmas.Bool.Decides.nat_tests, Math.Nat.div-eq_of_lt}
+use Rattle.std.proofs.{Common.{◌≡◌, ℕ, ◌/◌, ◌^◌, ◌<◌, ◌≤◌, ◌==◌, ◌&&◌, Bool, true, false, cond, nat_lt, [], Option, Some, None, refl, sym, ap, ◌∙◌, subst, arith}, lemmas.Bool.Decides.nat_tests, Math.Nat.div-eq_of_lt}
 use Rattle.pf_trie.specs.declared.{found.Found.{Found}, prefix.Prefix.{Prefix}}
-use Rattle.pf_trie.specs.{Prefixes.{AllSigns, Agree, front, with_sign, HasNone, Decides, Finds}, Rows.AreRows, Tries.IsRooted}
+use Rattle.pf_trie.specs.{Prefixes.{AllSigns, Agree, front, with_sign, HasNone, Decides}, Rows.AreRows, Tries.IsRooted}
 use Rattle.pf_trie.proofs.ForkSlots.{elsewhere}
 
 -- no signs, no rows

@@ -1,8 +1,8 @@
 -- Rows: which is at an address or before it, and what edits leave.
-use Rattle.std.proofs.{Common.{◌≡◌, ◌≢◌, ℕ, zero, suc, ◌+◌, ◌-◌, ◌*◌, ◌/◌, ◌^◌, ◌<◌, ◌≤◌, ◌==◌, ◌&&◌, Bool, true, false, cond, nat_le, nat_lt, List, [], ◌∷◌, ◌++◌, length, get_or, set, take, drop, Option, Some, None, All, refl, sym, ap, ◌∙◌, subst, arith}, lemmas.{Bool.and_parts, Bool.Decides.nat_tests, Nat.shl-shr, List.{get_or_default, length-set, get_or-set_same, get_or-set_other}, List.Edits.{length-insert, get_or-insert_below, get_or-insert_at, get_or-insert_above, length-remove, get_or-remove_below, get_or-remove_above}, List.Elements.{All-append, All-take, All-drop, All-cons}}, Math.{Nat.div-mul-le_self, Seq.take-append_seam}}
+use Rattle.std.proofs.{Common.{◌≡◌, ◌≢◌, ℕ, suc, ◌+◌, ◌-◌, ◌*◌, ◌/◌, ◌^◌, ◌<◌, ◌≤◌, ◌==◌, ◌&&◌, Bool, true, false, cond, nat_le, nat_lt, List, ◌∷◌, ◌++◌, length, get_or, set, take, drop, Option, Some, None, All, refl, sym, ap, ◌∙◌, subst, arith}, lemmas.{Bool.and_parts, Bool.Decides.nat_tests, Nat.shl-shr, List.{get_or_default, length-set, get_or-set_same, get_or-set_other}, List.Edits.{length-insert, get_or-insert_below, get_or-insert_at, get_or-insert_above, length-remove, get_or-remove_below, get_or-remove_above}, List.Elements.{All-append, All-take, All-drop, All-cons}}, Math.{Nat.div-mul-le_self, Seq.take-append_seam}}
 use Rattle.std.specs.List.{AllPairs, AllWithin, Any, insert, remove}
 use Rattle.pf_trie.specs.declared.{found.Found.{Found}, prefix.Prefix.{Prefix}, rows.Row.{Row}, signs.Signs.{Signs}}
-use Rattle.pf_trie.specs.{Prefixes.{AllSigns, IsApart, front, first_of, with_sign, HasNone, Decides, Finds}, Signs.{sign_of, IsFirst, IsShortest}, Rows.{HasSigns, IsInOrder, IsAt, AreRows, AreRowsWith, IsUpTo, IsNoStart, Marks, MarksEach}}
+use Rattle.pf_trie.specs.{Prefixes.{AllSigns, IsApart, front, first_of, with_sign, Finds}, Signs.{sign_of, IsShortest}, Rows.{HasSigns, IsInOrder, IsAt, AreRows, AreRowsWith, IsUpTo, IsBetween, IsNoStart, Marks, MarksEach}}
 use Rattle.pf_trie.specs.Agreeing.{cut_off, cut_less, between}
 use Rattle.pf_trie.proofs.Cuts.{share_fewer}
 
@@ -14,12 +14,11 @@ higher j k t = grind (arith, nat_tests)
 
 -- ---- the halving
 
--- what is known of two places between which the end of the rows up to an address is
-pub record IsBetween (rows : List Row) (a low high : ℕ) : Type 0 where
-  pub ordered : low ≤ high
-  pub within : high ≤ length rows
-  pub before : IsInOrder rows → AllWithin (λ r. r.first ≤ a) rows 0 low
-  pub behind : IsInOrder rows → AllWithin (λ r. a < r.first) rows high (length rows)
+-- where rows end between two places, they end between these
+pub record Halves (rows : List Row) (a from to low high : ℕ) : Type 0 where
+  pub low_in : low ≤ length rows
+  pub high_in : high ≤ length rows
+  pub between : IsBetween rows a from to → IsBetween rows a low high
 
 pub whole_between : (rows : List Row) (a : ℕ) → IsBetween rows a 0 (length rows)
 whole_between rows a = record {
@@ -30,7 +29,7 @@ whole_between rows a = record {
 }
 
 -- rows up to one in order are no later than it
-no_later : (rows : List Row) (k m : ℕ) (d : Row) → IsInOrder rows → k ≤ m → m < length rows → (get_or rows k d).first ≤ (get_or rows m d).first
+pub no_later : (rows : List Row) (k m : ℕ) (d : Row) → IsInOrder rows → k ≤ m → m < length rows → (get_or rows k d).first ≤ (get_or rows m d).first
 no_later rows k m d o le lt = by (k == m) refl where
   by : (t : Bool) → (k == m) ≡ t → (get_or rows k d).first ≤ (get_or rows m d).first
   by true t = let same : k ≡ m = grind (arith, nat_tests) in subst (λ (j : ℕ). (get_or rows k d).first ≤ (get_or rows j d).first) same (omega arith)

@@ -1,8 +1,8 @@
 -- A level holds the same signs wherever two agree on the prefixes that it has.
-use Rattle.std.proofs.{Common.{◌≡◌, ℕ, ◌+◌, ◌-◌, ◌*◌, ◌/◌, ◌%◌, ◌^◌, ◌<◌, ◌≤◌, List, get_or, Option, Some, None, sym, ap, ◌∙◌, subst, arith}, Math.{Nat.{div-mul-le_self, mul_assoc, mul-le-mul_right}, Pow.shr_mono}, lemmas.Nat.{le-div, pow_pos, pow-add, shl-shr, shr-shr}}
+use Rattle.std.proofs.{Common.{◌≡◌, ℕ, ◌+◌, ◌-◌, ◌*◌, ◌/◌, ◌^◌, ◌<◌, ◌≤◌, List, get_or, Option, Some, None, sym, ap, ◌∙◌, subst, arith}, Math.{Nat.{div-mul-le_self, mul_assoc, mul-le-mul_right}, Pow.shr_mono}, lemmas.Nat.{le-div, pow_pos, pow-add, shl-shr, shr-shr}}
 use Rattle.std.specs.{Arc.arc_value, declared.{sync.Arc.Arc}}
 use Rattle.pf_trie.specs.declared.{rows.Row.{Row}, signs.Signs.{Signs}, slot.TheConstants.{SLOT_BITS, SLOTS}}
-use Rattle.pf_trie.specs.{Prefixes.{AllSigns, Agree}, Rows.{HasSigns, AreRows}, Forks.{IsSlot, IsFork, IsForkOf, IsBranch}}
+use Rattle.pf_trie.specs.{Prefixes.{AllSigns, Agree}, Rows.{HasSigns, AreRows}, Forks.{IsSlot, IsFork, IsBranch}}
 
 -- a number with its last k bits cleared
 abbrev pub cut_off : ℕ → ℕ → ℕ

@@ -1,6 +1,6 @@
 -- Prefixes of addresses, signs that stand at prefixes, and which of them decides about an address (pf.conf(5), TABLES: the most specific
 -- entry does).
-use Rattle.std.specs.Prelude.{◌≡◌, ◌≢◌, ℕ, ◌*◌, ◌/◌, ◌^◌, ◌<◌, ◌≤◌, ◌==◌, ◌&&◌, Bool, cond, Option, Some, None, MatchOption}
+use Rattle.std.specs.Prelude.{◌≡◌, ℕ, ◌*◌, ◌/◌, ◌^◌, ◌<◌, ◌≤◌, ◌==◌, ◌&&◌, Bool, cond, Option, Some, None, MatchOption}
 use Rattle.pf_trie.specs.declared.{found.Found.{Found}, prefix.Prefix.{Prefix}}
 
 -- A prefix is known by how many of an address's last bits it leaves free, and by its front, the number that the bits before these write. In

@@ -1,7 +1,7 @@
 -- Rows: addresses with the signs of all their prefixes, in order.
 use Rattle.std.specs.{Prelude.{◌≡◌, ◌≢◌, ℕ, ◌*◌, ◌/◌, ◌^◌, ◌<◌, ◌≤◌, ◌==◌, ◌&&◌, Bool, cond, List, length, slice_index_or, Option, Some, None, All}, List.{AllPairs, AllWithin, Any}}
 use Rattle.pf_trie.specs.declared.{prefix.Prefix.{Prefix}, rows.Row.{Row}, signs.Signs.{Signs}}
-use Rattle.pf_trie.specs.{Prefixes.{AllSigns, front, first_of}, Signs.{sign_of, below_of}}
+use Rattle.pf_trie.specs.{Prefixes.{AllSigns, front}, Signs.{sign_of, below_of}}
 
 -- The signs of an address's prefixes that leave at least `low` bits free and fewer than `top`, and no others.
 pub record HasSigns (s : AllSigns) (low top a : ℕ) (signs : Signs) : Type 0 where
@@ -35,6 +35,13 @@ pub record IsUpTo (rows : List Row) (a n : ℕ) : Type 0 where
   pub within : n ≤ length rows
   pub before : IsInOrder rows → AllWithin (λ r. r.first ≤ a) rows 0 n
   pub behind : IsInOrder rows → AllWithin (λ r. a < r.first) rows n (length rows)
+
+-- such rows end between these two places
+pub record IsBetween (rows : List Row) (a low high : ℕ) : Type 0 where
+  pub ordered : low ≤ high
+  pub within : high ≤ length rows
+  pub before : IsInOrder rows → AllWithin (λ r. r.first ≤ a) rows 0 low
+  pub behind : IsInOrder rows → AllWithin (λ r. a < r.first) rows high (length rows)
 
 -- no prefix that has a sign begins at the row's address
 abbrev pub IsNoStart : Row → Type 0

@@ -1,12 +1,14 @@
 //! Pages of rows.
 ghost use Rattle.std.specs.Prelude.{◌≡◌, ℕ, ◌/◌, ◌^◌, [], IfOk};
-ghost use Rattle.pf_trie.specs.{Prefixes.{AllSigns, Finds}, Rows.AreRows};
+ghost use Rattle.pf_trie.specs.{Prefixes.{AllSigns, Finds}, Rows.{AreRows, HasSigns}};
 ghost use Rattle.pf_trie.specs.Agreeing.{rows_agree};
 
 use crate::found::Found;
+use crate::indexed::Indexed;
 use crate::level::Level;
 use crate::prefix::Prefix;
-use crate::rows::{Row, edited, signs_at};
+use crate::rows::{Row, edited};
+use crate::signs::Signs;
 use std::alloc::{AllocError, Global};
 use std::marker::Model;
 use std::sync::Arc;
@@ -14,7 +16,7 @@ use std::sync::Arc;
 /// Rows in order, which all tries share that hold the page. Contracts see the list of them.
 #[derive(Drop)]
 pub struct Page {
-    rows: Option<Arc<Vec<Row>>>,
+    rows: Option<Arc<Indexed>>,
 }
 
 impl Model for Page {
@@ -33,7 +35,7 @@ impl Page {
         ensures { result.now ≡ self.now }
     {
         match &self.rows {
-            Some(rows) => rows.as_slice(),
+            Some(rows) => rows.rows(),
             None => &[],
         }
     }
@@ -53,7 +55,7 @@ impl Page {
             return Ok(Page::none());
         }
         Ok(Page {
-            rows: Some(Arc::new(alloc, rows)?),
+            rows: Some(Arc::new(alloc, Indexed::of(rows))?),
         })
     }
 
@@ -69,11 +71,21 @@ impl Page {
         }
     }
 
+    // The signs of an address's prefixes.
+    fn signs(&self, address: u128) -> Signs
+        ensures { (s : AllSigns) (top front : ℕ) → AreRows s top front self.now → address / 2 ^ top ≡ front → HasSigns s 0 top address result }
+    {
+        match &self.rows {
+            Some(rows) => rows.signs(address),
+            None => Signs::none(),
+        }
+    }
+
     /// The sign of the longest prefix that contains an address. It takes no memory.
     pub(crate) fn found(&self, address: u128) -> Option<Found>
         ensures { (s : AllSigns) (top front : ℕ) → AreRows s top front self.now → address / 2 ^ top ≡ front → Finds s 0 top address result }
     {
-        signs_at(self.rows(), address).longest()
+        self.signs(address).longest()
     }
 }
 

@@ -1,7 +1,7 @@
 //! Rows: addresses with the signs of all their prefixes, in order.
-ghost use Rattle.std.specs.Prelude.{◌≡◌, ℕ, ◌/◌, ◌^◌, ◌<◌, ◌==◌, false, filter, map, Some, None, IfOk};
+ghost use Rattle.std.specs.Prelude.{◌≡◌, ℕ, ◌/◌, ◌^◌, ◌<◌, ◌≤◌, ◌==◌, false, length, filter, map, Some, None, IfOk};
 ghost use Rattle.pf_trie.specs.Prefixes.{AllSigns, first_of, with_sign};
-ghost use Rattle.pf_trie.specs.Rows.{HasSigns, AreRows, AreRowsWith, IsUpTo, IsNoStart, Marks, MarksEach, cut_row};
+ghost use Rattle.pf_trie.specs.Rows.{HasSigns, AreRows, AreRowsWith, IsUpTo, IsBetween, IsNoStart, Marks, MarksEach, cut_row};
 
 use crate::prefix::{Prefix, apart};
 use crate::signs::Signs;
@@ -59,12 +59,15 @@ impl Row {
     }
 }
 
-// How many rows are at an address or before it. What is left to look at is halved at each step.
-fn up_to(rows: &[Row], address: u128) -> usize
-    ensures { IsUpTo rows.now address result }
+/// How many rows are at an address or before it, where they end between two places. What is left to look at is halved at each step.
+pub(crate) fn up_to_between(rows: &[Row], address: u128, from: usize, to: usize) -> usize
+    requires from { from ≤ length rows.now }
+    requires to { to ≤ length rows.now }
+    ensures within { result ≤ length rows.now }
+    ensures place { IsBetween rows.now address from to → IsUpTo rows.now address result }
 {
-    let mut low = 0;
-    let mut high = rows.len();
+    let mut low = from;
+    let mut high = to;
     'halving: while low < high {
         let middle = low + (high - low) / 2;
         if rows[middle].first <= address {
@@ -76,11 +79,18 @@ fn up_to(rows: &[Row], address: u128) -> usize
     low
 }
 
-// The signs of an address's prefixes, by the last row that isn't past it, of so many rows that aren't. Each prefix that has a sign and contains
-// the address contains the row's address too: it begins at a row, and no row lies between the two.
-fn signs_by(rows: &[Row], place: usize, address: u128) -> Signs
-    requires { IsUpTo rows.now address place }
-    ensures { (s : AllSigns) (top front : ℕ) → AreRows s top front rows.now → address / 2 ^ top ≡ front → HasSigns s 0 top address result }
+// How many rows are at an address or before it.
+fn up_to(rows: &[Row], address: u128) -> usize
+    ensures { IsUpTo rows.now address result }
+{
+    up_to_between(rows, address, 0, rows.len())
+}
+
+/// The signs of an address's prefixes, by the last row that isn't past it, of so many rows that aren't. Each prefix that has a sign and contains
+/// the address contains the row's address too: it begins at a row, and no row lies between the two.
+pub(crate) fn signs_by(rows: &[Row], place: usize, address: u128) -> Signs
+    requires { place ≤ length rows.now }
+    ensures { (s : AllSigns) (top front : ℕ) → IsUpTo rows.now address place → AreRows s top front rows.now → address / 2 ^ top ≡ front → HasSigns s 0 top address result }
 {
     if place == 0 {
         return Signs::none();

@@ -1,17 +1,17 @@
 //! Tries.
 use crate::found::Found;
 use crate::index::PrefixIndex;
-use crate::page::Page;
+use crate::lower::LowerLevels;
 use crate::prefix::Prefix;
 use crate::rooted::Rooted;
 use crate::sixteen::SixteenLevels;
 use std::alloc::{AllocError, Global};
 
 // As many levels as an address has digits of four bits.
-type Levels = SixteenLevels<SixteenLevels<Page>>;
+type Levels = SixteenLevels<LowerLevels>;
 
-/// Signs at prefixes of addresses of 128 bits, by their digits of four bits. A look-up goes down one level for each digit at most, and halves
-/// the rows of one page. Versions share all that an edit leaves.
+/// Signs at prefixes of addresses of 128 bits, by their digits of four bits. A look-up goes down one level for each digit at most, to the
+/// rows of one page. Versions share all that an edit leaves.
 pub struct Trie {
     signs: Rooted<Levels>,
 }
@@ -23,7 +23,7 @@ impl Drop for Trie {
 }
 
 impl PrefixIndex for Trie {
-    ghost has = { λ s t. ⟦<Rooted<SixteenLevels<SixteenLevels<Page>>> as PrefixIndex>⟧.has s t.signs };
+    ghost has = { λ s t. ⟦<Rooted<SixteenLevels<LowerLevels>> as PrefixIndex>⟧.has s t.signs };
 
     fn empty() -> Trie {
         Trie {

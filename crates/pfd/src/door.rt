@@ -17,7 +17,7 @@ use std::sync::atomic::{AtomicUsize, Ordering};
 use std::time::Duration;
 
 // An accept that may be interrupted waits for so many milliseconds.
-const LOOK: i32 = 200;
+const LOOK: i32 = 50;
 
 /// The most addresses that a server listens on.
 pub(crate) const MOST_DOORS: usize = 64;
@@ -85,7 +85,7 @@ pub(crate) struct Doors {
 
 impl Doors {
     /// No listener yet, for so many workers. `idle` is in seconds; 0 is without end. `looks`: an accept is `Interrupted`, and reads and
-    /// writes of connections look up, after a fifth of a second.
+    /// writes of connections look up, after a twentieth of a second.
     pub(crate) fn new(alloc: Global, idle: u32, workers: usize, looks: bool) -> Doors {
         Doors {
             all: Vec::new(alloc),

@@ -4,7 +4,7 @@ ghost use Rattle.std.specs.Prelude.{◌≡◌, ◌*◌, ◌≤◌, ◌+◌, IsTr
 use std::time::Duration;
 
 // A read or a write that waits looks up so many times a second.
-const LOOKS: u32 = 5;
+const LOOKS: u32 = 20;
 
 /// How long a connection may be silent: after so many spans without a byte it has been for too long.
 #[derive(Clone, Copy, Debug)]
@@ -20,7 +20,7 @@ impl Patience {
     pub(crate) fn new(seconds: u32, looks: bool) -> Patience {
         if looks {
             return Patience {
-                span: Some(Duration::from_millis(200)),
+                span: Some(Duration::from_millis(50)),
                 spans: u64::from(seconds) * u64::from(LOOKS),
             };
         }

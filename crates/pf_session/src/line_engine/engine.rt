@@ -3,6 +3,8 @@ ghost use Rattle.std.specs.{Io.KnownBytes.IsAtEnd, Prelude.{◌≡◌, ◌++◌,
 ghost use Rattle.pf_session.specs.declared.line_engine.left_off.LeftOff.TheVariants.{Ended, Paused};
 ghost use Rattle.pf_session.specs.{LineEngine.Chains.Chain, LineEngine.Intakes.{AnsweredSoFar, HasBegun, IsCaughtUp, IsPart, LeavesOff}, LineEngine.Sessions.IsSession};
 
+mod some;
+
 use crate::line_engine::answer_line::AnswerLine;
 use crate::line_engine::fault::EngineFault;
 use crate::line_engine::intake::Intake;
@@ -10,6 +12,8 @@ use crate::line_engine::left_off::{LeftOff, NoPause, Pause};
 use crate::line_engine::pieces::answer_rest;
 use std::alloc::Global;
 use std::io::{ErrorKind, Read, Write};
+
+pub use some::go_on_some;
 
 // More reads than are ever made.
 const MOST_READS: u64 = 1 << 62;

@@ -26,11 +26,11 @@ use std::marker::Model;
 /// A device that holds what is kept. The store owns it, and `into_disk` gives it back. Contracts see a store as a `PlainStore`.
 #[derive(Drop)]
 pub struct Store<D: Disk> {
-    banks: Banks<D>,
+    pub(crate) banks: Banks<D>,
     // where a switch makes the next bank; its memory is kept, since fresh pages for a snapshot cost as much as half of its bytes
-    next: NextBank,
+    pub(crate) next: NextBank,
     // whether a call of the device failed in a save
-    halted: bool,
+    pub(crate) halted: bool,
 }
 
 impl<D: Disk> Model for Store<D> {
@@ -169,7 +169,7 @@ impl<D: Disk> Store<D> {
     {
         match Banks::open(alloc, disk) {
             Ok((banks, looked)) => match replay(alloc, &looked) {
-                Ok(durable) => raise_on(alloc, banks, &durable),
+                Ok(durable) => raise_on(alloc, banks, NextBank::new(alloc), &durable),
                 Err(fault) => Err((fault, banks.into_disk())),
             },
             Err((fault, disk)) => Err((fault.into(), disk)),
@@ -196,10 +196,12 @@ impl<D: Disk> Store<D> {
     }
 }
 
-// Gives what the banks hold the next epoch, by one more record.
-fn raise_on<D: Disk>(
+/// Gives what the banks hold the next epoch, by one more record. A switch makes the next bank in the memory of `next`. `Err` gives the device
+/// back.
+pub(crate) fn raise_on<D: Disk>(
     alloc: Global,
     banks: Banks<D>,
+    next: NextBank,
     durable: &Durable,
 ) -> Result<(Durable, Store<D>), (OpenFault, D)>
     requires ready { IsReady D.seen D.unsynced banks }
@@ -231,7 +233,7 @@ fn raise_on<D: Disk>(
         Err(fault) => return Err((fault, banks.into_disk())),
     };
     let mut banks = banks;
-    let mut next = NextBank::new(alloc);
+    let mut next = next;
     match add(&mut banks, &mut next, durable, &record) {
         Ok(()) => Ok((
             raised,

@@ -1,5 +1,5 @@
 use Rattle.std.proofs.Common.{◌≡◌, ◌+◌, ◌-◌, ◌*◌, ◌/◌, ◌^◌, ◌<◌, ℕ, List, ap, sym, subst, arith, rules}
-use Rattle.pf_trie.specs.declared.{rows.Row.{Row}, signs.Signs.{Signs}}
+use Rattle.pf_trie.specs.declared.{signs.Signs.{Signs}}
 use Rattle.pf_trie.specs.{Rows.AreRows, Forks.IsSlot}
 use Rattle.pf_trie.proofs.ForkSlots.{MadeSlots, one_made, all_made, front_fits}
 use Rattle.pf_trie.proofs.fork.slots_of.Goals as goal

@@ -1,4 +1,4 @@
-use Rattle.std.proofs.Common.{◌<◌, ◌^◌, refl, rules}
+use Rattle.std.proofs.Common.{refl, rules}
 use Rattle.pf_trie.proofs.Cuts.{is_apart}
 use Rattle.pf_trie.proofs.prefix.apart.Goals as goal
 

@@ -1,4 +1,4 @@
-use Rattle.std.proofs.Common.{◌≡◌, ◌≢◌, ◌<◌, ◌-◌, ◌++◌, get_or, List, ap, sym, ◌∙◌, subst, arith}
+use Rattle.std.proofs.Common.{◌≢◌, ◌<◌, ◌-◌, ◌++◌, get_or, List, ap, sym, ◌∙◌, subst, arith}
 use Rattle.std.specs.List.{insert}
 use Rattle.pf_trie.specs.declared.rows.Row.{Row}
 use Rattle.pf_trie.specs.Rows.{AreRowsWith}
@@ -17,4 +17,4 @@ returns c = λ s top front are in_front.
     (sym (c.in_ok-insert.ensures.items ∙ ap (λ (xs : List Row). insert xs place (record { first = c.args.address; signs = c.signs_by.result }))
     (c.in_ok-extend_from_slice.ensures.items ∙ ap (λ (xs : List Row). xs ++ c.args.rows.now) c.in_ok-made.ensures.items)))
     (row_added s top front c.args.address place c.args.rows.now c.signs_by.result are in_front c.up_to-place.ensures
-    (c.signs_by.ensures s top front are in_front) apart)
+    (c.signs_by.ensures s top front c.up_to-place.ensures are in_front) apart)

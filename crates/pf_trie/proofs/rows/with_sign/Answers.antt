@@ -1,4 +1,4 @@
-use Rattle.std.proofs.Common.{◌≡◌, ◌/◌, ◌^◌, ℕ, List, length, Some, Bool, ap, sym, ◌∙◌, subst, arith}
+use Rattle.std.proofs.Common.{◌≡◌, ◌/◌, ◌^◌, ℕ, List, Some, ap, sym, ◌∙◌, subst, arith}
 use Rattle.std.specs.List.{Any}
 use Rattle.pf_trie.specs.declared.rows.Row.{Row}
 use Rattle.pf_trie.specs.Prefixes.{with_sign}

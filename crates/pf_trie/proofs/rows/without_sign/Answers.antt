@@ -1,4 +1,4 @@
-use Rattle.std.proofs.Common.{◌≡◌, ◌/◌, ◌^◌, ℕ, List, length, None, Bool, ap, sym, ◌∙◌, subst, arith}
+use Rattle.std.proofs.Common.{List, None, sym, subst, arith}
 use Rattle.pf_trie.specs.declared.rows.Row.{Row}
 use Rattle.pf_trie.specs.Prefixes.{with_sign}
 use Rattle.pf_trie.specs.Rows.{AreRows, MarksEach}

@@ -1,4 +1,4 @@
-use Rattle.std.proofs.Common.{◌≡◌, ◌+◌, ◌-◌, ◌/◌, ◌^◌, ◌≤◌, ℕ, List, ap, sym, ◌∙◌, subst, arith}
+use Rattle.std.proofs.Common.{◌≡◌, ◌+◌, ◌-◌, ◌/◌, ◌^◌, ℕ, List, ap, sym, ◌∙◌, subst, arith}
 use Rattle.pf_trie.specs.declared.{rows.Row.{Row}, signs.Signs.{Signs}}
 use Rattle.pf_trie.specs.{Rows.AreRows, Forks.IsForkOf, Agreeing.of_slot}
 use Rattle.pf_trie.proofs.ForkSlots.{fork_above}

@@ -1,6 +1,5 @@
-use Rattle.std.proofs.Common.{◌≡◌, ◌≢◌, ◌==◌, ℕ, ◌∙◌, sym, ap, subst, Some, false, arith}
+use Rattle.std.proofs.Common.{◌≡◌, ◌≢◌, ◌==◌, ℕ, ◌∙◌, sym, ap, Some, false, arith}
 use Rattle.std.proofs.lemmas.Bool.Decides.{nat_tests}
-use Rattle.pf_trie.specs.declared.found.Found.{Found}
 use Rattle.pf_trie.specs.Agreeing.{cut_off}
 use Rattle.pf_trie.proofs.RowLists.{no_start}
 use Rattle.pf_trie.proofs.rows.Row.is_start.Goals as goal

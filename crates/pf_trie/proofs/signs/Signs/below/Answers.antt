@@ -1,4 +1,3 @@
-use Rattle.std.proofs.Common.{◌<◌}
 use Rattle.pf_trie.proofs.Bits.{below_value}
 use Rattle.pf_trie.proofs.signs.Signs.below.Goals as goal
 

@@ -1,6 +1,4 @@
-use Rattle.std.proofs.Common.{◌≡◌, ◌<◌, ◌≤◌, ◌^◌, ℕ, Bool, true, false, cond, nat_le, nat_lt, Option, Some, None, refl, sym, ap, ◌∙◌, rules, arith}
-use Rattle.std.proofs.lemmas.Bool.Decides.{nat_tests}
-use Rattle.pf_trie.specs.Signs.{sign_of}
+use Rattle.std.proofs.Common.{◌∙◌, rules}
 use Rattle.pf_trie.proofs.Bits.{from_signs, none_from}
 use Rattle.pf_trie.proofs.signs.Signs.from.Goals as goal
 

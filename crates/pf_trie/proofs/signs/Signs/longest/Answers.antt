@@ -1,4 +1,4 @@
-use Rattle.std.proofs.Common.{◌<◌, ◌^◌, rules}
+use Rattle.std.proofs.Common.{rules}
 use Rattle.pf_trie.proofs.Bits.{none_of_zero, place_within, is_first}
 use Rattle.pf_trie.proofs.signs.Signs.longest.Goals as goal
 

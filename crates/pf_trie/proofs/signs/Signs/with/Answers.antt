@@ -1,4 +1,4 @@
-use Rattle.std.proofs.Common.{◌≡◌, ◌<◌, ◌^◌, ◌==◌, ℕ, Bool, true, false, cond, Option, Some, None, sym, ap, ◌∙◌, rules}
+use Rattle.std.proofs.Common.{◌==◌, Bool, cond, Option, ap, ◌∙◌, rules}
 use Rattle.pf_trie.specs.Signs.{sign_of}
 use Rattle.pf_trie.proofs.Bits.{with_plain, with_negated, with_none}
 use Rattle.pf_trie.proofs.signs.Signs.with.Goals as goal

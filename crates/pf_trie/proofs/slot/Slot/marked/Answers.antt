@@ -1,4 +1,4 @@
-use Rattle.std.proofs.Common.{◌≡◌, ◌≢◌, ℕ, ◌+◌, ◌-◌, ◌/◌, ◌^◌, ◌<◌, ◌≤◌, sym, subst}
+use Rattle.std.proofs.Common.{sym, subst}
 use Rattle.pf_trie.specs.declared.signs.Signs.{Signs}
 use Rattle.pf_trie.specs.Forks.{IsSlot}
 use Rattle.pf_trie.proofs.ForkSlots.{slot_outside, slot_inside}

@@ -1,8 +1,8 @@
 use Rattle.std.proofs.{Common.{◌≡◌, ◌++◌, [], Err, Ok}, lemmas.Result.err_from_is_err_and}
 use Rattle.pf_session.specs.declared.line_engine.left_off.LeftOff.TheVariants.{Paused}
 use Rattle.pf_session.specs.declared.line_engine.fault.EngineFault.TheVariants as fault
-use Rattle.pf_session.proofs.{Pausing.{part-answered, part-begun, part-left, part-more, part-waited, read-failed}, line_engine.some.go_on_some.Goals.{in-Ok+else-n-eq0, in-Err+else-ne}}
-use Rattle.pf_session.proofs.line_engine.some.go_on_some.Goals as goal
+use Rattle.pf_session.proofs.{Pausing.{part-answered, part-begun, part-left, part-more, part-waited, read-failed}, line_engine.engine.some.go_on_some.Goals.{in-Ok+else-n-eq0, in-Err+else-ne}}
+use Rattle.pf_session.proofs.line_engine.engine.some.go_on_some.Goals as goal
 
 pub loop-init : goal.loop-init
 loop-init g c = λ begun is. part-begun g.A.AnswerSome.Takes c.args.intake.now begun (g.R.Read.remaining c.args.reader.now) c.args.answerer.now (g.W.Write.contents c.args.writer.now) is

@@ -1,5 +1,5 @@
 use Rattle.pf_session.proofs.Pausing.{still-answered, unflushed, write-failed}
-use Rattle.pf_session.proofs.line_engine.some.catch_up_some.Goals as goal
+use Rattle.pf_session.proofs.line_engine.engine.some.catch_up_some.Goals as goal
 
 pub returns-then-stops-clause-answered : goal.returns-then-stops-clause-answered
 returns-then-stops-clause-answered g c = λ input start held unread s. still-answered g.A.AnswerSome.Takes (g.W.Write.contents c.flush.new.self) c.flush.ensures.bytes (c.in-Ok.ensures.answered input start held s)

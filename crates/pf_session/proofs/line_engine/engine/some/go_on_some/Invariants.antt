@@ -1,7 +1,7 @@
 use Rattle.std.proofs.Common.{ℕ, ◌++◌, List}
 use Rattle.pf_session.specs.LineEngine.Intakes.{HasBegun}
 use Rattle.pf_session.proofs.Pausing.{PartSoFar}
-use Rattle.pf_session.proofs.line_engine.some.go_on_some.Given as goal
+use Rattle.pf_session.proofs.line_engine.engine.some.go_on_some.Given as goal
 
 abbrev pub invariant-loop : goal.invariant-loop
 invariant-loop g l = (begun : List ℕ) → HasBegun l.fn.intake begun →
