@@ -2,8 +2,9 @@ use Rattle.std.proofs.{Common.{◌≡◌, ◌∙◌, ◌+◌, ◌^◌, ◌<◌, 
 use Rattle.std.specs.Prelude.{Result, Ok, Err, IfOk, IfErr}
 use Rattle.pf_disk.specs.{Disk.{EachMoment, IsImage}, Runs.MayWrite}
 use Rattle.pf_disk.proofs.Writing.{unmoved}
+use Rattle.pf_snap.specs.declared.header.TheConstants.{NEWEST}
 use Rattle.pf_core.specs.{Durable.Changes.PlainDurable, Worlds.{last_epoch, raised}}
-use Rattle.pf_store.specs.{Openings.{IsOfOpening, generation_of}, Stores.Holds, StoreFaults.is_opening_fault, StoreKept.{PlainStore, HaveKept, device_of}}
+use Rattle.pf_store.specs.{Openings.{HasRoomHere, IsOfOpening, generation_of, version_of}, Stores.Holds, StoreFaults.is_opening_fault, StoreKept.{PlainStore, HaveKept, device_of}}
 use Rattle.pf_store.proofs.{WithinLimits.made_within, Saving.{followed, have_held, on_both, on_ok, standing, store_has}}
 use Rattle.pf_store.proofs.store.keeping.Store.open_again.Given.{Over}
 use Rattle.pf_store.proofs.store.keeping.Store.open_again.Goals.{After-raise_on}
@@ -19,10 +20,20 @@ pub returns-then-not-can_be_raised-clause-opened : goal.returns-then-not-can_be_
 returns-then-not-can_be_raised-clause-opened g c = rw c.into_disk.ensures at c.«open».ensures.opened
 
 pub returns-then-not-can_be_raised-clause-here : goal.returns-then-not-can_be_raised-clause-here
-returns-then-not-can_be_raised-clause-here g c = rw c.into_disk.ensures at c.«open».ensures.here
+returns-then-not-can_be_raised-clause-here g c =
+    let d = g.D.Disk in
+    subst
+    (λ (x : g.row.D.Denot). IfOk c.«open».result (λ r. (e : PlainDurable) (held : Holds (d.seen x) e) → HasRoomHere (d.seen x) e held
+    → (r.1.generation ≡ generation_of (d.seen x) e held) × (r.1.version ≡ version_of (d.seen x) e held)))
+    c.into_disk.ensures c.«open».ensures.here
 
 pub returns-then-not-can_be_raised-clause-there : goal.returns-then-not-can_be_raised-clause-there
-returns-then-not-can_be_raised-clause-there g c = rw c.into_disk.ensures at c.«open».ensures.there
+returns-then-not-can_be_raised-clause-there g c =
+    let d = g.D.Disk in
+    subst
+    (λ (x : g.row.D.Denot). IfOk c.«open».result (λ r. (e : PlainDurable) (held : Holds (d.seen x) e) → ¬ HasRoomHere (d.seen x) e held
+    → (r.1.generation ≡ generation_of (d.seen x) e held + 1) × (r.1.version ≡ NEWEST)))
+    c.into_disk.ensures c.«open».ensures.there
 
 pub returns-then-not-can_be_raised-clause-room : goal.returns-then-not-can_be_raised-clause-room
 returns-then-not-can_be_raised-clause-room g c = rw c.into_disk.ensures at c.«open».ensures.room
@@ -136,13 +147,19 @@ returns-clause-unchanged_at_bad_size g c = on_err c.raise_on.result _ _ (λ e ot
 
 pub returns-clause-here : goal.returns-clause-here
 returns-clause-here g c =
-    let is : c.self.inside.banks.journal.disk ≡ c.args.self.disk = ap (λ (v : PlainStore g.row.D.Denot). v.disk) c.self.view_is in
-    rw is at c.raise_on.ensures.here
+    let d = g.D.Disk in
+    subst
+    (λ (x : g.row.D.Denot). IfOk c.raise_on.result (λ r. (e : PlainDurable) (held : Holds (d.seen x) e) → HasRoomHere (d.seen x) e held
+    → (r.1.generation ≡ generation_of (d.seen x) e held) × (r.1.version ≡ version_of (d.seen x) e held)))
+    (same g (goal.at.returns-clause-here g c).After-raise_on) c.raise_on.ensures.here
 
 pub returns-clause-there : goal.returns-clause-there
 returns-clause-there g c =
-    let is : c.self.inside.banks.journal.disk ≡ c.args.self.disk = ap (λ (v : PlainStore g.row.D.Denot). v.disk) c.self.view_is in
-    rw is at c.raise_on.ensures.there
+    let d = g.D.Disk in
+    subst
+    (λ (x : g.row.D.Denot). IfOk c.raise_on.result (λ r. (e : PlainDurable) (held : Holds (d.seen x) e) → ¬ HasRoomHere (d.seen x) e held
+    → (r.1.generation ≡ generation_of (d.seen x) e held + 1) × (r.1.version ≡ NEWEST)))
+    (same g (goal.at.returns-clause-there g c).After-raise_on) c.raise_on.ensures.there
 
 pub returns-clause-room : goal.returns-clause-room
 returns-clause-room g c =
