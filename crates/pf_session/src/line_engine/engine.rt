@@ -10,10 +10,9 @@ use crate::line_engine::fault::EngineFault;
 use crate::line_engine::intake::Intake;
 use crate::line_engine::left_off::{LeftOff, NoPause, Pause};
 use crate::line_engine::pieces::answer_rest;
+pub use some::go_on_some;
 use std::alloc::Global;
 use std::io::{ErrorKind, Read, Write};
-
-pub use some::go_on_some;
 
 // More reads than are ever made.
 const MOST_READS: u64 = 1 << 62;
