@@ -1,10 +1,15 @@
-"""What clients of a server were told, and whether it fits one order of all changes: for bench/serve, and for the renewals of bench/soak.
+"""What clients of a server were told, and whether it fits one order of all changes: for bench/serve, for bench/kill-server, and for the
+renewals of bench/soak.
 
-A server numbers its changes from 1 in each opening. The openings' numbers, which tickets begin with, tell by the clock of which opening a
-change may be, and a client's numbers rise within each. So each change gets its place in the order of all: the changes of one opening by
-their numbers, and behind them the renewal and the changes of the next one.
+A server numbers its changes from 1 in each opening. Of which opening one is says its line in the log of `--log`, which is written before
+its reply: the lines of a session come in their order, and that of a renewal behind those of all changes before it. So each change gets its
+place in the order of all: the changes of one opening by their numbers, and behind them the renewal and the changes of the next one.
+
+Whose a session of the log is tells a text that no other client's changes have, such as a table's name. So each connection begins with a
+change that has one.
 """
 import bisect
+import collections
 import heapq
 import itertools
 import random
@@ -12,6 +17,7 @@ import re
 import socket
 import struct
 import subprocess
+import sys
 import threading
 import time
 from typing import NamedTuple
@@ -25,7 +31,9 @@ FEW_SESSIONS = 64
 TOGETHER = 190
 # Streams of each peer, and how many messages it hands to the system at once.
 STREAMS, AT_ONCE = 8, 100
-INSERT, DELETE = 1, 6
+INSERT, DELETE, RECORD = 1, 6, 64
+# The first message of a peer's connection has so many records, and as many more as its client's number; others have fewer.
+FEW_RECORDS = 3
 # No reply may take longer, in seconds.
 PATIENCE = 60
 # The kinds of lines that may be answered as a change.
@@ -33,7 +41,7 @@ CHANGES = {"tadd", "tdel", "tset", "tkill", "commit", "main", "track", "kill", "
 
 
 class Told(NamedTuple):
-    """A line or a message, its reply, and when the one was sent and the other read, by the clock that all processes share."""
+    """A line, or how the log names a message, its reply, and when the one was sent and the other read, by the clock of all processes."""
 
     kind: str
     line: str
@@ -90,6 +98,7 @@ class Client:
 
     def session(self):
         with connected(self.address) as stream, stream.makefile("rwb") as self.file:
+            self.mark()
             for _ in range(2):
                 self.ask([self.mixed() for _ in range(self.random.randrange(1, 12))])
             what = self.random.randrange(4)
@@ -100,6 +109,10 @@ class Client:
             if what == 2:
                 self.together()
             self.ask([("log", "log"), self.mixed()])
+
+    def mark(self):
+        """The log names this client's own table, so it tells whose session this is."""
+        self.ask([("tset", f"tset - own{self.number} 10.0.0.1")])
 
     def edit(self):
         return self.line(self.random.choice(["tadd", "tdel"]))
@@ -161,9 +174,9 @@ class Client:
         """A peer's connection: each message inserts a state of its own."""
         with connected(self.address) as stream, stream.makefile("rwb") as self.file:
             messages = [self.message(place) for place in range(self.random.randrange(1, 4))]
-            self.send(b"".join(messages))
+            self.send(marking(self.number) + b"".join(messages))
             stream.shutdown(socket.SHUT_WR)
-            self.read([("message 1 0", "a message")] * len(messages))
+            self.read([marked(self.number), *[("message 1 0", records(1))] * len(messages)])
 
 
 def record(name, creator, source, port):
@@ -172,9 +185,36 @@ def record(name, creator, source, port):
 
 
 def message_of(*groups):
-    """A message of groups of one record each."""
-    body = b"".join(struct.pack(">BxH", action, 1) + some for action, some in groups)
+    """A message of groups, of as many records each as there are bytes for."""
+    body = b"".join(struct.pack(">BxH", action, len(some) // RECORD) + some for action, some in groups)
     return struct.pack(">BxH16x", 5, 20 + len(body)) + body
+
+
+def marking(number):
+    """The first message of each connection of this client: the log tells how many records it has, so whose it is. It deletes what isn't
+    there."""
+    return message_of((DELETE, bytes(RECORD * (FEW_RECORDS + number))))
+
+
+def marked(number):
+    """What is expected of that message, and how the log names it."""
+    return "message 0 0", records(FEW_RECORDS + number)
+
+
+def records(count):
+    """How the log names a message."""
+    return f"peer {count} record{'s' * (count != 1)}"
+
+
+def deed_of(line):
+    """How the log names what a line changes."""
+    words = line.split()
+    if words[0] in ("tadd", "tdel", "tset"):
+        return f"{' '.join(words[:3])} {len(words) - 3} {'entry' if len(words) == 4 else 'entries'}"
+    if words[0] == "track":
+        return " ".join(words[:3])
+    # (a line's message has one record)
+    return records(1) if words[0] == "peer" and len(words) == 2 else line
 
 
 class Peer(Client):
@@ -206,11 +246,11 @@ class Peer(Client):
 
     def send_all(self, stream, times):
         """Sends the messages of a stream, and tells when each was handed to the system."""
+        messages = itertools.chain([marking(self.number)], map(self.message, range(self.messages)))
         try:
-            for first in range(0, self.messages, AT_ONCE):
-                some = b"".join(map(self.message, range(first, min(first + AT_ONCE, self.messages))))
-                times += [time.monotonic()] * AT_ONCE
-                stream.sendall(some)
+            while some := [*itertools.islice(messages, AT_ONCE)]:
+                times += [time.monotonic()] * len(some)
+                stream.sendall(b"".join(some))
             stream.shutdown(socket.SHUT_WR)
         except OSError:
             # what isn't sent has no reply, which is told
@@ -218,15 +258,15 @@ class Peer(Client):
 
     def stream_messages(self):
         """A stream, of which the replies are read while it is sent. Behind them nothing may come."""
-        times = []
+        times, deletes = [], map(self.deletes, range(self.messages))
+        kinds = [marked(self.number), *((f"message 1 {count}", records(1 + count)) for count in deletes)]
         with connected(self.address) as stream, stream.makefile("rb") as replies:
             sender = threading.Thread(target=self.send_all, args=(stream, times))
             sender.start()
-            for place in range(self.messages):
+            for place, (kind, deed) in enumerate(kinds):
                 reply = replies.readline().decode().rstrip("\n")
                 now = time.monotonic()
-                kind = f"message 1 {self.deletes(place)}"
-                self.told.append(Told(kind, "a message", reply, times[place] if place < len(times) else now, now))
+                self.told.append(Told(kind, deed, reply, times[place] if place < len(times) else now, now))
             sender.join()
             more = replies.readline().decode().rstrip("\n")
         if more:
@@ -287,113 +327,105 @@ NEVER = Stretches(False)
 NEVER.close()
 
 
-class Openings:
-    """To which opening each change belongs. `wrong` says which belong to none, and which are missing.
+class Change(NamedTuple):
+    """A change, as its line of the log tells of it."""
 
-    Replies don't say their opening. Of openings that fit, by what was read before and sent behind, the earliest is taken, which may be the
-    wrong one where a server renews many times a second. So a fault told of there may be this program's own: look at the replies."""
+    opening: int
+    number: int
+    deed: str
 
-    def __init__(self, histories, world, last, least=None):
-        """The last one is known, and that each before it has at least so many changes; none is missing, unless it isn't said how many."""
-        self.histories, self.first, self.last, self.least, self.wrong = histories, world.opening, last, least, []
-        begins = [(event, int(found[1])) for told in histories.values() for event in told if (found := ticket_of(event))]
-        reads, sents = sorted((event.read, number) for event, number in begins), sorted((event.sent, number) for event, number in begins)
-        self.read, self.sent = [at for at, _ in reads], [at for at, _ in sents]
-        self.begun = [*itertools.accumulate((number for _, number in reads), max, initial=self.first)]
-        self.to_come = [*itertools.accumulate((number for _, number in reversed(sents)), min, initial=last)][::-1]
-        self.changes = {}
+
+class Log:
+    """What a server said by `--log` since a world stood: of each session its changes, in their order, and in which opening it ended.
+    `wrong` says what isn't so of the numbers, or of what clients were told. What else a server said goes to standard error."""
+
+    def __init__(self, text, world, least=0, killed=None):
+        """Each opening that ended has at least so many changes. No number is missing, unless the server was killed in that opening."""
+        self.first = self.opening = world.opening
+        self.killed, self.changes, self.wrong = killed, {}, []
+        numbers = {world.opening: [*range(1, world.length + 1)]}
+        # a kill may cut a line, whose reply nobody has then
+        for line in text.split("\n")[:-1]:
+            if found := re.fullmatch(r"pfd: (opened|renewed), epoch (\d+)", line):
+                self.opening += found[1] == "renewed"
+                numbers.setdefault(self.opening, [])
+                self.wrong += [f"{line!r} is said in opening {self.opening}"] * (int(found[2]) != self.opening)
+            elif found := re.fullmatch(r"pfd: session (\d+) applied (\d+): (.*)", line):
+                numbers[self.opening].append(int(found[2]))
+                self.changes.setdefault(int(found[1]), []).append(Change(self.opening, int(found[2]), found[3]))
+            elif not re.fullmatch(r"pfd: session \d+ ended: .*", line):
+                print(line, file=sys.stderr)
+        for opening, some in numbers.items():
+            self.look_at_numbers(opening, some, least)
+
+    def look_at_numbers(self, opening, some, least):
+        counts, last = collections.Counter(some), max(some, default=0)
+        missing = [number for number in range(1, last) if number not in counts]
+        twice = [number for number, count in counts.items() if count > 1]
+        if twice or missing and opening != self.killed:
+            self.wrong.append(f"of opening {opening} the log lacks the changes {missing[:9]}, and has {twice[:9]} twice")
+        if opening < (self.killed or self.opening) and last < least:
+            self.wrong.append(f"opening {opening} was renewed after change {last}")
+
+    def owners(self, histories):
+        """Whose each session is, by the texts that one client alone was told of."""
+        tellers, found = {}, {}
         for who, told in histories.items():
-            for number, high, low, place in self.bounded(told):
-                self.changes.setdefault(number, []).append(((high, low), who, place))
-        # of each client, the openings of the changes whose openings are known, by their places in what it was told
-        self.known = {}
-        self.placed = self.place(world.length)
+            for event in told:
+                if number_of(event.reply) is not None:
+                    tellers.setdefault(deed_of(event.line), set()).add(who)
+        for session, changes in self.changes.items():
+            some = {who for change in changes if len(tellers.get(change.deed, ())) == 1 for who in tellers[change.deed]}
+            if len(some) == 1:
+                found[session] = some.pop()
+        return found
 
-    def bounded(self, told):
-        """The number of each of a client's changes, the last and the first opening to which it may belong, and its place in what was
-        told."""
-        rows, low, change, before = [], self.first, self.first, 0
-        for place, event in enumerate(told):
-            number, found = number_of(event.reply), ticket_of(event)
-            if number is not None:
-                known = self.begun[bisect.bisect_left(self.read, event.sent)]
-                change = low = max(low, known, change + (number <= before))
-                before = number
-            elif found:
-                low = max(low, int(found[1]))
+    def placed(self, histories, owners):
+        """The opening, the number, the client and the place in what it was told of each change, in order. A client's sessions follow each
+        other."""
+        said = {who: [] for who in histories}
+        for session, changes in sorted(self.changes.items()):
+            if session in owners:
+                said[owners[session]] += changes
             else:
-                continue
-            rows.append((number, low, place, event))
-        return self.bounded_above(rows)
+                self.wrong.append(f"whose is session {session}, which made {changes[:3]}?")
+        return sorted(it for who, told in histories.items() for it in self.placed_of(who, told, iter(said[who])))
 
-    def bounded_above(self, rows):
-        high, change, after = self.last, self.last, 1 << 62
-        for number, low, place, event in reversed(rows):
-            if number is None:
-                high = min(high, int(ticket_of(event)[1]))
-            else:
-                latest = self.to_come[bisect.bisect_right(self.sent, event.read)]
-                change = high = min(high, latest, change - (number >= after))
-                after = number
-                yield number, high, low, place
-
-    def place(self, length):
-        """The opening, the number, the client and the place in what it was told of each change, in order. The first opening has so many
-        already."""
-        placed, going_on, number = [], list(range(self.first, self.last + 1)), 0
-        while going_on and (self.changes or number < (self.least or 0)):
-            number += 1
-            with_it = list(self.match(number, self.changes.pop(number, []), going_on, length, placed))
-            going_on = going_on if self.least is None else with_it
-        left = sorted(self.changes.items())
-        self.wrong += [f"{len(some)} changes more have the number {number} than openings can have" for number, some in left]
-        return sorted(placed)
-
-    def match(self, number, some, going_on, length, placed):
-        """Which of these openings have a change of this number: of those that may belong to one, that whose last one comes first belongs to
-        it."""
-        for opening in going_on:
-            if opening == self.first and number <= length:
-                yield opening
-                continue
-            fits = min((it for it in map(self.narrowed, some) if it[1] <= opening <= it[0]), key=lambda it: it[:3], default=None)
-            if fits:
-                some[:] = [it for it in some if it[1:] != fits[3:]]
-                placed.append((opening, number, *fits[3:]))
-                bisect.insort(self.known.setdefault(fits[3], []), (fits[4], opening))
-                yield opening
-            elif opening < self.last and number <= (self.least or 0):
-                self.wrong.append(f"no change has the number {number} in opening {opening}")
-        self.wrong += [f"client {who}: the change {self.histories[who][place]} belongs to no opening" for *_, who, place in some]
-
-    def narrowed(self, change):
-        """The last and the first opening to which it may belong, by what is known of its client's other changes, and when its reply was
-        read."""
-        bounds, who, place = change
-        known = self.known.get(who, [])
-        at = bisect.bisect_left(known, (place, 0))
-        before, after = known[at - 1][1] if at else self.first, known[at][1] if at < len(known) else self.last
-        return min(bounds[0], after), max(bounds[1], before), self.histories[who][place].read, who, place
+    def placed_of(self, who, told, said):
+        """One client's, as far as it was told what the log says. Its changes and its tickets never go back."""
+        low = self.first, 0
+        for at, event in enumerate(told):
+            if found := ticket_of(event):
+                if int(found[1]) < low[0]:
+                    self.wrong.append(f"client {who} was told {event} in opening {low[0]}")
+                low = max(low, (int(found[1]), 0))
+            elif (number := number_of(event.reply)) is not None:
+                change = next(said, None)
+                if not change or change[1:] != (number, deed_of(event.line)) or change[:2] <= low:
+                    self.wrong.append(f"client {who} was told {event} behind {low}, and the log says {change}")
+                    return
+                low = change[:2]
+                yield *low, who, at
+        left = [*said]
+        if left and self.killed is None:
+            self.wrong.append(f"client {who} wasn't told of {left[:3]}")
 
 
 class Order:
-    """All changes in their order, and what stood behind each. `world` is what stood before, and then what stands behind the last. Replies
-    are those of a server of one opening, unless the last one is said and how many changes each has at least that is renewed."""
+    """All changes in their order, and what stood behind each. `world` is what stood before, and then what stands behind the last."""
 
-    def __init__(self, histories, world, last=None, least=0):
+    def __init__(self, histories, world, log):
         self.histories, self.world = histories, world
-        last = world.opening if last is None else last
-        found = Openings(histories, world, last, least)
-        self.wrong, self.places = found.wrong, {}
+        placed = log.placed(histories, log.owners(histories))
+        self.wrong, self.places, self.first = log.wrong, {}, world.opening
         self.begin_stretches(world)
-        self.first, self.started = world.opening, {world.opening: 0}
-        for opening, number, who, at in found.placed:
+        for opening, number, who, at in placed:
             self.renew_until(opening)
             self.places[who, at] = self.length = self.length + 1
             self.number.put(self.length, number)
             self.make(number, who, histories[who][at])
             world.length = number
-        self.renew_until(last)
+        self.renew_until(log.opening)
         for stretches in (self.opening, self.number, self.main, self.tick, *self.present.values(), *self.states.values()):
             stretches.close()
         self.by_the_clock()

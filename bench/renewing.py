@@ -13,9 +13,9 @@ The server has addresses of each kind, TCP and Unix sockets. 64 clients at a tim
 Two peers more send streams one after the other. Beside all that, over all rounds, there are silent clients: one with half a line, one with
 nothing, and a peer with half a message, which send the rest at the end.
 
-Behind each round every reply is compared with the order of all changes over the openings, as bench/order.py finds it, and all that is kept
-with what these changes leave. Then the server's memory and descriptors are looked at. Behind the last round it is killed, and what the next
-one has is compared too.
+Behind each round every reply is compared with the order of all changes over the openings, which bench/order.py finds in the server's log,
+and all that is kept with what these changes leave. Then the server's memory and descriptors are looked at. Behind the last round it is
+killed, and what the next one has is compared too.
 """
 import multiprocessing
 import os
@@ -25,13 +25,12 @@ import subprocess
 import time
 
 from hostile_parts.program import Result, formatted, new_folder
-from order import AT_ONCE, DELETE, INSERT, RULES, Client, Order, Peer, Told, World, connected, message_of, record, tell_sums
+from order import (AT_ONCE, DELETE, INSERT, RULES, Client, Log, Order, Peer, Told, World, connected, marked, marking, message_of, record,
+                   records, tell_sums)
 
 SIZE, WORKERS, ROUND, PATIENCE = 1 << 18, 64, 20, 60
 # Ticks a second, and for how many of them a state is tracked.
 TICKS, LASTS = 10, (20, 60)
-# Behind so many lines that come at once one asks for a ticket.
-CLOCK = 50
 # Within so many seconds a server has closed what its client has.
 CLOSES = 10
 # What one that may only ask sends too.
@@ -66,13 +65,6 @@ class Sessions(Client):
         self.file = None
         return self
 
-    def ask(self, lines):
-        """Among many lines there are some that ask for tickets, which tell the opening."""
-        if len(lines) > 3:
-            clock = "begin", f"begin filter clock{self.number}"
-            lines = [one for first in range(0, len(lines), CLOCK) for one in (clock, *lines[first : first + CLOCK])] + [clock]
-        return super().ask(lines)
-
     def turn(self):
         if self.random.randrange(8) == 0:
             self.send_messages()
@@ -103,8 +95,8 @@ class Sessions(Client):
     def send_messages(self):
         with connected(self.peers) as stream, stream.makefile("rwb") as self.file:
             some = self.states()
-            self.send(b"".join(message for _, message in some))
-            self.read([(kind, "a message") for kind, _ in some])
+            self.send(marking(self.number) + b"".join(message for _, message in some))
+            self.read([marked(self.number), *((kind, records(1)) for kind, _ in some)])
 
 
 class Alone(Sessions):
@@ -112,6 +104,7 @@ class Alone(Sessions):
 
     def play(self):
         with connected(self.address) as stream, stream.makefile("rwb") as self.file:
+            self.mark()
             return super().play()
 
     def turn(self):
@@ -156,8 +149,8 @@ class Asking(Alone):
         super().__init__(ways, number, turn, seconds)
         self.address = ways.ask[number % 2]
 
-    def ask(self, lines):
-        return Client.ask(self, lines)
+    def mark(self):
+        """It changes nothing, so the log has nothing of it."""
 
     def turn(self):
         self.ask([self.question() for _ in range(self.random.choice((1, 1, 20)))])
@@ -214,8 +207,8 @@ class Streams(Peer):
         """Deletes the state of the last message."""
         some = message_of((DELETE, self.state(last)))
         with connected(self.address) as stream, stream.makefile("rwb") as self.file:
-            self.send(some)
-            self.read([("message 0 1", "a message")])
+            self.send(marking(self.number) + some)
+            self.read([marked(self.number), ("message 0 1", records(1))])
 
 
 def record_of(name, creator, source):
@@ -231,10 +224,11 @@ class Ways:
 
     def __init__(self, program, folder, file, renew):
         paths = [os.path.join(folder, f"{kind}.sock") for kind in ("listen", "ask", "peers")]
-        words = ["serve", "--disk", file, "--size", SIZE, "--workers", WORKERS, "--renew", renew]
+        words = ["serve", "--disk", file, "--size", SIZE, "--workers", WORKERS, "--renew", renew, "--log"]
         for kind, path in zip(("listen", "ask", "peers"), paths):
             words += [f"--{kind}", "127.0.0.1:0", f"--{kind}", path]
-        self.process = subprocess.Popen([program, *map(str, words)], stdout=subprocess.PIPE)
+        self.log = open(os.path.join(folder, "log"), "a+", encoding="ascii")
+        self.process = subprocess.Popen([program, *map(str, words)], stdout=subprocess.PIPE, stderr=self.log)
         names = [self.process.stdout.readline().decode().removeprefix("listening ").rstrip("\n") for _ in range(6)]
         self.full, self.ask, self.peers = [[address_of(name) for name in names[first : first + 2]] for first in (0, 2, 4)]
 
@@ -245,6 +239,14 @@ class Ways:
         self.process.send_signal(signal.SIGKILL)
         self.process.wait()
         self.process.stdout.close()
+        self.log.close()
+
+    def said(self):
+        """What it said by `--log` since this was asked, when no client changes anything."""
+        self.log.seek(0)
+        text = self.log.read()
+        self.log.truncate(0)
+        return text
 
     def memory(self):
         """The kilobytes that it holds."""
@@ -354,15 +356,18 @@ def play_one(client):
 class Round:
     """What a round came to: its order of changes, renewals, changes and replies, the longest wait of a line alone, and what the server holds."""
 
-    def __init__(self, program, renew, world, clients, setter):
-        last = setter.look()
+    def __init__(self, program, ways, renew, world, clients, setter):
+        setter.look()
         histories = {"the setter": setter.told} | {client.number: client.told for client in clients}
         setter.told = []
-        self.renewals = last - world.opening
-        self.order = Order(histories, world, last, renew)
+        log = Log(ways.said(), world, renew)
+        self.renewals = log.opening - world.opening
+        self.order = Order(histories, world, log)
         tell_sums(program, self.order)
         for who, told in histories.items():
             self.order.compare(who, told)
+        broken = {who: told[-1].reply for who, told in histories.items() if told and told[-1].kind == "it goes on"}
+        self.order.wrong[:0] = [f"client {who} broke off: {reply}" for who, reply in broken.items()]
         self.changes, self.replies = len(self.order.places), sum(map(len, histories.values()))
         self.longest = max(client.longest for client in clients if type(client) in (Alone, Judging, Ticking))
 
@@ -380,7 +385,7 @@ class Round:
 
 def play_round(options, result, ways, renew, world, setter, turn, files):
     clients = played(ways, turn + 1000 * options.seed)
-    one = Round(options.program, renew, world, clients, setter)
+    one = Round(options.program, ways, renew, world, clients, setter)
     result.wrong += one.order.wrong
     result.passed += one.replies
     result.compare("what is kept", should_be_kept(world), setter.kept())

@@ -31,6 +31,9 @@ returns-in-Ok-clause-opened g c =
     let o = c.in_ok-durable.ensures.opened in
     (o.0, o.1, c.in-Ok.ensures.ok ∙ o.2, o.3)
 
+pub returns-in-Ok-clause-images : goal.returns-in-Ok-clause-images
+returns-in-Ok-clause-images g c i image = subst (λ (k : PlainDurable). Holds i k) (sym c.in-Ok.ensures.ok) (c.in_ok-durable.ensures.images i image)
+
 pub returns-in-Ok-clause-generation : goal.returns-in-Ok-clause-generation
 returns-in-Ok-clause-generation g c =
     let o = c.in_ok-durable.ensures.opened in
