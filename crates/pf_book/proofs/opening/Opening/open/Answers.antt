@@ -1,5 +1,5 @@
 use Rattle.std.specs.Arc.{arc_value}
-use Rattle.std.proofs.{Common.{sym, ap, subst, ◌∙◌}, lemmas.Result.err_from_is_err_and}
+use Rattle.std.proofs.{Common.{false, sym, ap, subst, ◌∙◌}, lemmas.Result.err_from_is_err_and}
 use Rattle.pf_core.specs.{Durable.Changes.PlainDurable, Laws.Durable.IsWithin}
 use Rattle.pf_store.specs.Banks.{bank_size}
 use Rattle.pf_disk.specs.Runs.{MayWrite}
