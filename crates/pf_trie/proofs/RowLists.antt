@@ -1,8 +1,8 @@
 -- Rows: which is at an address or before it, and what edits leave.
-use Rattle.std.proofs.{Common.{◌≡◌, ◌≢◌, ℕ, suc, ◌+◌, ◌-◌, ◌*◌, ◌/◌, ◌^◌, ◌<◌, ◌≤◌, ◌==◌, ◌&&◌, Bool, true, false, cond, nat_le, nat_lt, List, ◌∷◌, ◌++◌, length, get_or, set, take, drop, Option, Some, None, All, refl, sym, ap, ◌∙◌, subst, arith}, lemmas.{Bool.and_parts, Bool.Decides.nat_tests, Nat.shl-shr, List.{get_or_default, length-set, get_or-set_same, get_or-set_other}, List.Edits.{length-insert, get_or-insert_below, get_or-insert_at, get_or-insert_above, length-remove, get_or-remove_below, get_or-remove_above}, List.Elements.{All-append, All-take, All-drop, All-cons}}, Math.{Nat.div-mul-le_self, Seq.take-append_seam}}
+use Rattle.std.proofs.{Common.{◌≡◌, ◌≢◌, ℕ, suc, ◌+◌, ◌-◌, ◌*◌, ◌/◌, ◌%◌, ◌^◌, ◌<◌, ◌≤◌, ◌==◌, ◌&&◌, Bool, true, false, cond, nat_le, nat_lt, List, [], ◌∷◌, ◌++◌, length, get_or, set, take, drop, filter, map, Option, Some, None, All, refl, sym, ap, ◌∙◌, subst, arith}, lemmas.{Bool.and_parts, Bool.Decides.nat_tests, Nat.{mod_below, mul-add-lt, pow_pos, pow-add, shl-shr, shr_below, shr_split}, List.{append-nil, get_or_default, length-set, get_or-set_same, get_or-set_other, map_push}, List.Edits.{insert_end, length-insert, get_or-insert_below, get_or-insert_at, get_or-insert_above, length-remove, get_or-remove_below, get_or-remove_above}, List.Elements.{All-append, All-take, All-drop, All-cons, filter_more}}, Math.Nat.div-mul-le_self}
 use Rattle.std.specs.List.{AllPairs, AllWithin, Any, insert, remove}
 use Rattle.pf_trie.specs.declared.{found.Found.{Found}, prefix.Prefix.{Prefix}, rows.Row.{Row}, signs.Signs.{Signs}}
-use Rattle.pf_trie.specs.{Prefixes.{AllSigns, IsApart, front, first_of, with_sign, Finds}, Signs.{sign_of, IsShortest}, Rows.{HasSigns, IsInOrder, IsAt, AreRows, AreRowsWith, IsUpTo, IsBetween, IsNoStart, Marks, MarksEach}}
+use Rattle.pf_trie.specs.{Prefixes.{AllSigns, IsApart, front, first_of, with_sign, Finds}, Signs.{sign_of, IsShortest}, Rows.{HasSigns, IsInOrder, IsAt, AreRows, AreRowsWith, IsUpTo, IsBetween, IsNoStart, Marks, MarksEach, cut_row}}
 use Rattle.pf_trie.specs.Agreeing.{cut_off, cut_less, between}
 use Rattle.pf_trie.proofs.Cuts.{share_fewer}
 
@@ -249,34 +249,91 @@ row_there s top front a place rows e are up some first =
 
 -- ---- a sign replaced in all rows
 
--- the rows before a place have the sign replaced, the others are as they were
-pub record MarkedUpTo (p : Prefix) (sign : Option Bool) (old new : List Row) (i : ℕ) : Type 0 where
+-- the rows from one place up to another have the sign replaced, the others are as they were
+pub record MarkedBetween (p : Prefix) (sign : Option Bool) (old new : List Row) (from to : ℕ) : Type 0 where
   pub count : length new ≡ length old
-  pub done : (k : ℕ) (r : Row) → k < i → Marks p sign (get_or old k r) (get_or new k r)
-  pub rest : (k : ℕ) (r : Row) → i ≤ k → get_or new k r ≡ get_or old k r
+  pub before : (k : ℕ) (r : Row) → k < from → get_or new k r ≡ get_or old k r
+  pub done : (k : ℕ) (r : Row) → from ≤ k → k < to → Marks p sign (get_or old k r) (get_or new k r)
+  pub rest : (k : ℕ) (r : Row) → to ≤ k → get_or new k r ≡ get_or old k r
 
-pub none_marked : (p : Prefix) (sign : Option Bool) (old : List Row) → MarkedUpTo p sign old old 0
-none_marked p sign old = record { count = refl; done = λ k r lt. absurd (omega (arith, lt)); rest = λ k r le. refl }
+pub none_marked : (p : Prefix) (sign : Option Bool) (old : List Row) (from : ℕ) → MarkedBetween p sign old old from from
+none_marked p sign old from = record {
+  count = refl;
+  before = λ k r lt. refl;
+  done = λ k r le lt. absurd (omega (arith, le, lt));
+  rest = λ k r le. refl;
+}
 
-pub one_marked : (p : Prefix) (sign : Option Bool) (old new : List Row) (i : ℕ) (e x : Row) → MarkedUpTo p sign old new i → i < length new
-    → Marks p sign (get_or new i e) x → MarkedUpTo p sign old (set new i x) (i + 1)
-one_marked p sign old new i e x is lt marks = record {
+pub one_marked : (p : Prefix) (sign : Option Bool) (old new : List Row) (from i : ℕ) (e x : Row) → MarkedBetween p sign old new from i → from ≤ i
+    → i < length new → Marks p sign (get_or new i e) x → MarkedBetween p sign old (set new i x) from (i + 1)
+one_marked p sign old new from i e x is up lt marks = record {
   count = length-set new i x ∙ is.count;
-  done = λ k r less. by k r less (k == i) refl;
+  before = λ k r less. let other : k ≢ i = omega (arith, less, up) in get_or-set_other new i k x r other ∙ is.before k r less;
+  done = λ k r le less. by k r le less (k == i) refl;
   rest = λ k r le. let other : k ≢ i = omega (arith, le) in get_or-set_other new i k x r other ∙ is.rest k r (omega (arith, le));
 } where
-  by : (k : ℕ) (r : Row) → k < i + 1 → (t : Bool) → (k == i) ≡ t → Marks p sign (get_or old k r) (get_or (set new i x) k r)
-  by k r less true t =
+  by : (k : ℕ) (r : Row) → from ≤ k → k < i + 1 → (t : Bool) → (k == i) ≡ t → Marks p sign (get_or old k r) (get_or (set new i x) k r)
+  by k r le less true t =
       let same : k ≡ i = grind (arith, nat_tests) in
       let old_is : get_or new i e ≡ get_or old i r = get_or_default new i e r lt ∙ is.rest i r (omega arith) in
       subst (λ (j : ℕ). Marks p sign (get_or old j r) (get_or (set new i x) j r)) (sym same)
       (subst (λ (y : Row). Marks p sign (get_or old i r) y) (sym (get_or-set_same new i x r lt)) (subst (λ (y : Row). Marks p sign y x) old_is marks))
-  by k r less false t =
+  by k r le less false t =
       let other : k ≢ i = λ e. grind (arith, nat_tests) in
-      subst (λ (y : Row). Marks p sign (get_or old k r) y) (sym (get_or-set_other new i k x r other)) (is.done k r (omega (arith, less, other)))
+      subst (λ (y : Row). Marks p sign (get_or old k r) y) (sym (get_or-set_other new i k x r other)) (is.done k r le (omega (arith, less, other)))
 
-pub all_marked : (p : Prefix) (sign : Option Bool) (old new : List Row) (i : ℕ) → MarkedUpTo p sign old new i → length new ≤ i → MarksEach p sign old new
-all_marked p sign old new i is le = record { count = is.count; each = λ k r lt. is.done k r (let c = is.count in omega (arith, c, lt, le)) }
+-- a prefix contains no address before its first one
+before_first : (p : Prefix) (n : ℕ) → n < first_of p → (n / 2 ^ p.free == front p) ≡ false
+before_first p n lt = by (n / 2 ^ p.free == front p) refl where
+  by : (t : Bool) → (n / 2 ^ p.free == front p) ≡ t → (n / 2 ^ p.free == front p) ≡ false
+  by false t = t
+  by true t =
+      let same : n / 2 ^ p.free ≡ front p = grind (arith, nat_tests) in
+      let low : front p * 2 ^ p.free ≤ n = subst (λ (m : ℕ). m * 2 ^ p.free ≤ n) same (div-mul-le_self n (2 ^ p.free)) in
+      absurd (omega (arith, low, lt))
+
+-- and none past its last one
+past_last : (p : Prefix) (n : ℕ) → first_of p + (2 ^ p.free - 1) < n → (n / 2 ^ p.free == front p) ≡ false
+past_last p n lt = by (n / 2 ^ p.free == front p) refl where
+  by : (t : Bool) → (n / 2 ^ p.free == front p) ≡ t → (n / 2 ^ p.free == front p) ≡ false
+  by false t = t
+  by true t =
+      let same : n / 2 ^ p.free ≡ front p = grind (arith, nat_tests) in
+      let whole : front p * 2 ^ p.free + n % 2 ^ p.free ≡ n = subst (λ (m : ℕ). m * 2 ^ p.free + n % 2 ^ p.free ≡ n) same (shr_split n p.free) in
+      let rest : n % 2 ^ p.free < 2 ^ p.free = mod_below n (2 ^ p.free) (pow_pos p.free) in
+      absurd (omega (arith, whole, rest, lt))
+
+-- a row that the prefix doesn't contain
+unmarked : (p : Prefix) (sign : Option Bool) (r : Row) → (r.first / 2 ^ p.free == front p) ≡ false → Marks p sign r r
+unmarked p sign r out = record {
+  first = refl;
+  signs = λ k. sym (ap (λ (b : Bool). cond (b && (k == p.free)) sign (sign_of r.signs k)) out);
+}
+
+-- where the rows before those places and behind them aren't contained, all are marked
+pub all_marked : (p : Prefix) (sign : Option Bool) (old new : List Row) (u from to i : ℕ) → MarkedBetween p sign old new from i → from ≡ u - 1 → to ≤ i
+    → IsUpTo old (first_of p) u → IsUpTo old (first_of p + (2 ^ p.free - 1)) to → IsInOrder old → MarksEach p sign old new
+all_marked p sign old new u from to i is start end low high order = record {
+  count = is.count;
+  each = λ k r lt. by k r lt (nat_lt k from) refl (nat_lt k i) refl;
+} where
+  by : (k : ℕ) (r : Row) → k < length old → (t : Bool) → nat_lt k from ≡ t → (v : Bool) → nat_lt k i ≡ v → Marks p sign (get_or old k r) (get_or new k r)
+  by k r lt true near v _ =
+      let less : k < from = grind (arith, nat_tests) in
+      let inside : u - 1 < length old = let w = low.within in omega (arith, w, start, less) in
+      let last = low.before order (u - 1) r (omega arith) (omega (arith, start, less)) in
+      let before = order k (u - 1) r (omega (arith, start, less)) inside in
+      subst (λ (x : Row). Marks p sign (get_or old k r) x) (sym (is.before k r less))
+      (unmarked p sign (get_or old k r) (before_first p (get_or old k r).first (omega (arith, before, last))))
+  by k r lt false far true near =
+      let le : from ≤ k = grind (arith, nat_tests) in
+      let less : k < i = grind (arith, nat_tests) in
+      is.done k r le less
+  by k r lt false far false past =
+      let le : i ≤ k = grind (arith, nat_tests) in
+      let behind = high.behind order k r (omega (arith, le, end)) lt in
+      subst (λ (x : Row). Marks p sign (get_or old k r) x) (sym (is.rest k r le))
+      (unmarked p sign (get_or old k r) (past_last p (get_or old k r).first behind))
 
 both_true : (b : Bool) → (b && true) ≡ b
 both_true true = refl
@@ -427,13 +484,53 @@ not_at rows place a e d up some other same =
     let inside_ : place - 1 < length rows = let w = up.within in omega (arith, w, some) in
     other (ap (λ (x : Row). x.first) (get_or_default rows (place - 1) e d inside_) ∙ same)
 
--- a slice written back whole
-pub written_back : (n : ℕ) (old new items : List Row) → length new ≡ length old → old ≡ items → n ≡ length items
-    → take n (new ++ drop (length new) items) ≡ new
-written_back n old new items count same whole =
-    let long : n ≡ length new = whole ∙ sym (ap (length {A = Row}) same) ∙ sym count in
-    ap (λ (k : ℕ). take k (new ++ drop (length new) items)) long ∙ take-append_seam new (drop (length new) items)
-
 -- the first address of a prefix begins as its other addresses do
 pub first_in_front : (a free top : ℕ) → free ≤ top → cut_off free a / 2 ^ top ≡ a / 2 ^ top
 first_in_front a free top le = between top a (cut_off free a) (cut_less free top a le) (div-mul-le_self a (2 ^ free))
+
+-- ---- numbers of a prefix
+
+-- the last address of a prefix is an address
+pub last_fits : (a free : ℕ) → a < 2 ^ 128 → free < 128 → cut_off free a + (2 ^ free - 1) < 2 ^ 128
+last_fits a free fits lt =
+    let sum : 128 - free + free ≡ 128 = omega (arith, lt) in
+    let sum_ : free + (128 - free) ≡ 128 = omega (arith, lt) in
+    let less : a / 2 ^ free < 2 ^ (128 - free) = shr_below a (128 - free) free (subst (λ (k : ℕ). a < 2 ^ k) (sym sum) fits) in
+    let end : 2 ^ free - 1 < 2 ^ free = let pos = pow_pos free in omega (arith, pos) in
+    let whole : 2 ^ free * 2 ^ (128 - free) ≡ 2 ^ 128 = sym (pow-add 2 free (128 - free)) ∙ ap (λ (k : ℕ). 2 ^ k) sum_ in
+    subst (λ (m : ℕ). cut_off free a + (2 ^ free - 1) < m) whole (mul-add-lt (a / 2 ^ free) (2 ^ free) (2 ^ free - 1) (2 ^ (128 - free)) less end)
+
+-- ---- rows of one front
+
+abbrev begins_so : ℕ → ℕ → Row → Bool
+begins_so at n r = r.first / 2 ^ at == n
+
+-- one more of them, at the end
+pub one_kept : (at n : ℕ) (rows within : List Row) (i end : ℕ) (r cut : Row) → i < length rows → get_or rows i r ≡ r → r.first / 2 ^ at ≡ n
+    → cut ≡ cut_row at r → end ≡ length within → within ≡ map (cut_row at) (filter (begins_so at n) (take i rows))
+    → insert within end cut ≡ map (cut_row at) (filter (begins_so at n) (take (i + 1) rows))
+one_kept at n rows within i end r cut lt here in_front is_cut is_end is =
+    (λ j. insert within (is_end j) (is_cut j)) ∙ insert_end within (cut_row at r) ∙ ap (λ (xs : List Row). xs ++ cut_row at r ∷ []) is
+    ∙ sym (map_push (cut_row at) (filter (begins_so at n) (take i rows)) r)
+    ∙ ap (λ (xs : List Row). map (cut_row at) xs) (sym (filter_more (begins_so at n) rows i r lt ∙ step))
+  where
+    passes : begins_so at n r ≡ true
+    passes = grind (arith, nat_tests)
+
+    step : filter (begins_so at n) (take i rows) ++ cond (begins_so at n (get_or rows i r)) (get_or rows i r ∷ []) []
+        ≡ filter (begins_so at n) (take i rows) ++ r ∷ []
+    step = ap (λ (x : Row). filter (begins_so at n) (take i rows) ++ cond (begins_so at n x) (x ∷ []) []) here
+        ∙ ap (λ (b : Bool). filter (begins_so at n) (take i rows) ++ cond b (r ∷ []) []) passes
+
+-- one of another front
+pub one_left_out : (at n : ℕ) (rows within : List Row) (i : ℕ) (r : Row) → i < length rows → get_or rows i r ≡ r → r.first / 2 ^ at ≢ n
+    → within ≡ map (cut_row at) (filter (begins_so at n) (take i rows)) → within ≡ map (cut_row at) (filter (begins_so at n) (take (i + 1) rows))
+one_left_out at n rows within i r lt here other is = is ∙ ap (λ (xs : List Row). map (cut_row at) xs) (sym (filter_more (begins_so at n) rows i r lt ∙ step)) where
+  by : (t : Bool) → begins_so at n r ≡ t → begins_so at n r ≡ false
+  by false t = t
+  by true t = let same : r.first / 2 ^ at ≡ n = grind (arith, nat_tests) in absurd (other same)
+
+  step : filter (begins_so at n) (take i rows) ++ cond (begins_so at n (get_or rows i r)) (get_or rows i r ∷ []) [] ≡ filter (begins_so at n) (take i rows)
+  step = ap (λ (x : Row). filter (begins_so at n) (take i rows) ++ cond (begins_so at n x) (x ∷ []) []) here
+      ∙ ap (λ (b : Bool). filter (begins_so at n) (take i rows) ++ cond b (r ∷ []) []) (by (begins_so at n r) refl)
+      ∙ append-nil (filter (begins_so at n) (take i rows))

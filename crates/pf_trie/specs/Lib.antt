@@ -1,6 +1,8 @@
 pub mod Signs
 pub mod Prefixes
 pub mod Rows
+pub mod NarrowRows
+pub mod KeptRows
 pub mod Indexes
 pub mod Pages
 pub mod Forks

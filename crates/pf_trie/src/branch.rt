@@ -8,13 +8,11 @@ use crate::found::Found;
 use crate::level::Level;
 use crate::page::Page;
 use crate::prefix::Prefix;
-use crate::rows::{Row, edited};
+use crate::row_list::RowList;
+use crate::rows::edited;
 use crate::slot::SLOT_BITS;
 use std::alloc::{AllocError, Global};
 use std::sync::Arc;
-
-// With more rows than this a page becomes a fork.
-const PAGE_LIMIT: usize = 64;
 
 /// Signs in a page or, if its rows are too many, in a fork, which all tries share that hold it.
 pub struct Branch<T: Level> {
@@ -46,26 +44,6 @@ impl<T: Level> Branch<T> {
     {
         Branch { page, fork: None }
     }
-
-    // The branch of rows, which are those of an address's region. `AllocError`: nothing is left of them.
-    fn divided(
-        alloc: Global,
-        top: u8,
-        address: u128,
-        rows: Vec<Row>,
-    ) -> Result<Branch<T>, AllocError>
-        requires { top ≤ 128 }
-        ensures { IfOk result (λ b. (s : AllSigns) → AreRows s top (address / 2 ^ top) rows.items → IsBranch T.holds s top (address / 2 ^ top) b.page b.fork) }
-    {
-        if rows.len() <= PAGE_LIMIT || top < SLOT_BITS {
-            return Ok(Branch::of_page(Page::of(alloc, rows)?));
-        }
-        let fork = Fork::of(alloc, top - SLOT_BITS, address, &rows)?;
-        Ok(Branch {
-            page: Page::none(),
-            fork: Some(Arc::new(alloc, fork)?),
-        })
-    }
 }
 
 impl<T: Level> Level for Branch<T> {
@@ -75,8 +53,20 @@ impl<T: Level> Level for Branch<T> {
         Branch::of_page(Page::none())
     }
 
-    fn of_rows(alloc: Global, rows: Vec<Row>) -> Result<Branch<T>, AllocError> {
-        Ok(Branch::of_page(Page::of(alloc, rows)?))
+    fn of_rows(
+        alloc: Global,
+        top: u8,
+        address: u128,
+        rows: RowList,
+    ) -> Result<Branch<T>, AllocError> {
+        if rows.fit_page() || top < SLOT_BITS {
+            return Ok(Branch::of_page(Page::of(alloc, rows)?));
+        }
+        let fork = Fork::of(alloc, top - SLOT_BITS, address, &rows)?;
+        Ok(Branch {
+            page: Page::none(),
+            fork: Some(Arc::new(alloc, fork)?),
+        })
     }
 
     fn shared(&self) -> Result<Branch<T>, AllocError> {
@@ -113,12 +103,10 @@ impl<T: Level> Level for Branch<T> {
                     fork: Some(Arc::new(alloc, fork)?),
                 })
             }
-            None => Branch::divided(
-                alloc,
-                top,
-                prefix.address,
-                edited(alloc, page.rows(), prefix, sign)?,
-            ),
+            None => {
+                let rows = edited(alloc, page.own_rows(alloc)?, prefix, sign)?;
+                Branch::of_rows(alloc, top, prefix.address, rows)
+            }
         }
     }
 

@@ -5,7 +5,7 @@ ghost use Rattle.pf_trie.specs.{Prefixes.{AllSigns, Finds, with_sign}, Rows.AreR
 use crate::found::Found;
 use crate::level::Level;
 use crate::prefix::Prefix;
-use crate::rows::Row;
+use crate::row_list::RowList;
 use crate::slot::{SLOT_BITS, SLOTS, Slot};
 use std::alloc::{AllocError, Global};
 use std::marker::Model;
@@ -65,7 +65,7 @@ fn slots_of<T: Level>(
     alloc: Global,
     at: u8,
     address: u128,
-    rows: &[Row],
+    rows: &RowList,
 ) -> Result<Vec<Slot<T>>, AllocError>
     requires { at ≤ 124 }
     ensures count { IfOk result (λ v. length v.items ≡ SLOTS) }
@@ -107,7 +107,7 @@ impl<T: Level> Fork<T> {
         alloc: Global,
         at: u8,
         address: u128,
-        rows: &[Row],
+        rows: &RowList,
     ) -> Result<Fork<T>, AllocError>
         requires { at ≤ 124 }
         ensures { IfOk result (λ f. (s : AllSigns) → AreRows s (at + SLOT_BITS) (address / 2 ^ at / SLOTS) rows.now → IsFork T.holds s at (address / 2 ^ at / SLOTS) f) }

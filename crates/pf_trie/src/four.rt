@@ -3,7 +3,7 @@ use crate::branch::Branch;
 use crate::found::Found;
 use crate::level::Level;
 use crate::prefix::Prefix;
-use crate::rows::Row;
+use crate::row_list::RowList;
 use std::alloc::{AllocError, Global};
 
 /// Four levels, one below the other.
@@ -28,9 +28,14 @@ impl<T: Level> Level for FourLevels<T> {
         }
     }
 
-    fn of_rows(alloc: Global, rows: Vec<Row>) -> Result<FourLevels<T>, AllocError> {
+    fn of_rows(
+        alloc: Global,
+        top: u8,
+        address: u128,
+        rows: RowList,
+    ) -> Result<FourLevels<T>, AllocError> {
         Ok(FourLevels {
-            levels: Level::of_rows(alloc, rows)?,
+            levels: Level::of_rows(alloc, top, address, rows)?,
         })
     }
 

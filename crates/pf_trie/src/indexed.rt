@@ -4,7 +4,8 @@ ghost use Rattle.std.specs.List.{AllWithin};
 ghost use Rattle.pf_trie.specs.{Prefixes.AllSigns, Rows.{IsInOrder, AreRows, HasSigns, IsBetween}, Indexes.{digit_at, IsUpToDigit, IsIndex, BeginAlike}};
 
 use crate::prefix::apart;
-use crate::rows::{Row, signs_at, signs_by, up_to_between};
+use crate::row_list::RowList;
+use crate::rows::{signs_at, signs_by, up_to_between};
 use crate::signs::Signs;
 use std::marker::Model;
 
@@ -21,7 +22,7 @@ pub struct Indexed {
     shift: u8,
     front: u128,
     before: [u8; DIGITS],
-    rows: Vec<Row>,
+    rows: RowList,
 }
 
 impl Model for Indexed {
@@ -31,9 +32,9 @@ impl Model for Indexed {
 
     ghost Value = { List Row };
 
-    ghost view = { λ x. x.rows.items };
+    ghost view = { λ x. x.rows };
 
-    ghost invariant = { λ x. (x.shift < 128) × IsIndex x.shift x.before x.rows.items × BeginAlike x.shift x.front x.rows.items };
+    ghost invariant = { λ x. (x.shift < 128) × IsIndex x.shift x.before x.rows × BeginAlike x.shift x.front x.rows };
 }
 
 // The digit of an address before its last `shift` bits.
@@ -46,28 +47,29 @@ fn digit_of(address: u128, shift: u8) -> usize
 }
 
 // A shift at which rows in order differ in the digit and behind it alone, and the bits that they have before it.
-fn span_of(rows: &[Row]) -> (u8, u128)
+fn span_of(rows: &RowList) -> (u8, u128)
     ensures shift { result.0 < 128 }
     ensures alike { BeginAlike result.0 result.1 rows.now }
 {
-    if rows.is_empty() {
+    let count = rows.len();
+    if count == 0 {
         return (0, 0);
     }
-    let first = rows[0].first;
-    let last = rows[rows.len() - 1].first;
+    let first = rows.at(0).first;
+    let last = rows.at(count - 1).first;
     let shift = apart(first, last).saturating_sub(INDEX_BITS);
     (shift, (first >> shift) / DIGITS as u128)
 }
 
 // How many rows come before the first whose digit isn't lower than this one, where those up to a place do.
-fn up_to_digit(rows: &[Row], from: usize, shift: u8, digit: usize) -> usize
+fn up_to_digit(rows: &RowList, from: usize, shift: u8, digit: usize) -> usize
     requires shift { shift < 128 }
     requires from { from ≤ length rows.now }
     requires lower { AllWithin (λ r. digit_at shift r.first < digit) rows.now 0 from }
     ensures { IsUpToDigit shift digit rows.now result }
 {
     for place in from..rows.len() {
-        if digit_of(rows[place].first, shift) >= digit {
+        if digit_of(rows.at(place).first, shift) >= digit {
             return place;
         }
     }
@@ -75,7 +77,7 @@ fn up_to_digit(rows: &[Row], from: usize, shift: u8, digit: usize) -> usize
 }
 
 // The index of rows by a digit.
-fn index_of(rows: &[Row], shift: u8) -> [u8; DIGITS]
+fn index_of(rows: &RowList, shift: u8) -> [u8; DIGITS]
     requires { shift < 128 }
     ensures { IsIndex shift result rows.now }
 {
@@ -89,7 +91,7 @@ fn index_of(rows: &[Row], shift: u8) -> [u8; DIGITS]
 }
 
 // Two places between which the rows up to an address end, by the index of rows that begin as the address does.
-fn bounds(rows: &[Row], before: &[u8], shift: u8, address: u128) -> (usize, usize)
+fn bounds(rows: &RowList, before: &[u8], shift: u8, address: u128) -> (usize, usize)
     requires shift { shift < 128 }
     requires index { IsIndex shift before.now rows.now }
     requires alike { BeginAlike shift (address / 2 ^ shift / DIGITS) rows.now }
@@ -108,8 +110,8 @@ fn bounds(rows: &[Row], before: &[u8], shift: u8, address: u128) -> (usize, usiz
 
 impl Indexed {
     /// Rows with their index.
-    pub(crate) fn of(rows: Vec<Row>) -> Indexed
-        ensures { result ≡ rows.items }
+    pub(crate) fn of(rows: RowList) -> Indexed
+        ensures { result ≡ rows }
     {
         let (shift, front) = span_of(&rows);
         Indexed {
@@ -121,10 +123,23 @@ impl Indexed {
     }
 
     /// The rows.
-    pub(crate) fn rows(&self) -> &[Row]
+    pub(crate) fn rows(&self) -> &RowList
         ensures { result.now ≡ self.now }
     {
         &self.rows
+    }
+
+    /// The rows, without their index.
+    pub(crate) fn into_rows(self) -> RowList
+        ensures { result ≡ self }
+    {
+        let Indexed {
+            shift: _,
+            front: _,
+            before: _,
+            rows,
+        } = self;
+        rows
     }
 
     /// The signs of an address's prefixes. It takes no memory.

@@ -4,7 +4,7 @@ ghost use Rattle.pf_trie.specs.{Prefixes.{AllSigns, Finds, Agree, with_sign}, Ro
 
 use crate::found::Found;
 use crate::prefix::Prefix;
-use crate::rows::Row;
+use crate::row_list::RowList;
 use std::alloc::{AllocError, Global};
 
 /// A level of a trie: the signs of prefixes whose addresses begin with one front before their last `top` bits, and which leave fewer than
@@ -20,9 +20,10 @@ pub trait Level: Drop {
     fn empty() -> Self
         ensures { (s : AllSigns) (top front : ℕ) → AreRows s top front [] → holds s top front result };
 
-    /// The signs of these rows. `AllocError`: nothing is left of them.
-    fn of_rows(alloc: Global, rows: Vec<Row>) -> Result<Self, AllocError>
-        ensures { IfOk result (λ l. (s : AllSigns) (top front : ℕ) → AreRows s top front rows.items → holds s top front l) };
+    /// The signs of these rows, whose addresses begin as this one does. `AllocError`: nothing is left of them.
+    fn of_rows(alloc: Global, top: u8, address: u128, rows: RowList) -> Result<Self, AllocError>
+        requires { top ≤ 128 }
+        ensures { IfOk result (λ l. (s : AllSigns) → AreRows s top (address / 2 ^ top) rows → holds s top (address / 2 ^ top) l) };
 
     /// The same signs, shared and not copied. `AllocError`: they can't have another owner.
     fn shared(&self) -> Result<Self, AllocError>

@@ -6,9 +6,10 @@
 //! what a node keeps; specs/Indexes.antt is about the index of a page. Callers use [`Trie`], by the trait [`PrefixIndex`].
 //!
 //! A look-up says what it `found` at a `prefix`. `signs` are those of one address's prefixes, and `rows` are such addresses in order, which
-//! `indexed` finds by a digit of theirs. A `level` is what a `slot` has below it: a `page` of rows, or the slots of a `fork`; a `branch` is a
-//! page until its rows are too many, and a fork then. `four` and `sixteen` have so many levels, and `lower` those of the last 64 bits.
-//! `index` is what a table asks for, `rooted` has it of any level, and `trie` of all of them.
+//! `indexed` finds by a digit of theirs. A `row_list` keeps them in fewer bytes as long as all are `narrow`, as those of IPv4 are. A
+//! `level` is what a `slot` has below it: a `page` of rows, or the slots of a `fork`; a `branch` is a page until its rows are too many, and
+//! a fork then. `four` and `sixteen` have so many levels, and `lower` those of the last 64 bits. `index` is what a table asks for, `rooted`
+//! has it of any level, and `trie` of all of them.
 //!
 //! Proved, by the public contracts: a look-up finds the longest prefix that has a sign, and an edit replaces one sign and no other. No
 //! contract says how many nodes a look-up or an edit visits, or what versions share.
@@ -22,9 +23,11 @@ mod index;
 mod indexed;
 mod level;
 mod lower;
+mod narrow;
 mod page;
 mod prefix;
 mod rooted;
+mod row_list;
 mod rows;
 mod signs;
 mod sixteen;

@@ -3,7 +3,7 @@ use crate::found::Found;
 use crate::level::Level;
 use crate::page::Page;
 use crate::prefix::Prefix;
-use crate::rows::Row;
+use crate::row_list::RowList;
 use crate::sixteen::SixteenLevels;
 use std::alloc::{AllocError, Global};
 
@@ -29,9 +29,14 @@ impl Level for LowerLevels {
         }
     }
 
-    fn of_rows(alloc: Global, rows: Vec<Row>) -> Result<LowerLevels, AllocError> {
+    fn of_rows(
+        alloc: Global,
+        top: u8,
+        address: u128,
+        rows: RowList,
+    ) -> Result<LowerLevels, AllocError> {
         Ok(LowerLevels {
-            levels: Level::of_rows(alloc, rows)?,
+            levels: Level::of_rows(alloc, top, address, rows)?,
         })
     }
 

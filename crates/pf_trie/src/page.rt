@@ -7,7 +7,8 @@ use crate::found::Found;
 use crate::indexed::Indexed;
 use crate::level::Level;
 use crate::prefix::Prefix;
-use crate::rows::{Row, edited};
+use crate::row_list::RowList;
+use crate::rows::edited;
 use crate::signs::Signs;
 use std::alloc::{AllocError, Global};
 use std::marker::Model;
@@ -30,13 +31,18 @@ impl Model for Page {
 }
 
 impl Page {
-    /// Its rows.
-    pub(crate) fn rows(&self) -> &[Row]
-        ensures { result.now ≡ self.now }
+    /// Its rows for one owner: themselves where nobody else holds them, or else a copy with room for one more. `AllocError`: nothing is left
+    /// of the page.
+    pub(crate) fn own_rows(self, alloc: Global) -> Result<RowList, AllocError>
+        ensures { IfOk result (λ rows. rows ≡ self) }
     {
-        match &self.rows {
-            Some(rows) => rows.rows(),
-            None => &[],
+        let Page { rows } = self;
+        match rows {
+            Some(rows) => match Arc::try_unwrap(rows) {
+                Ok(alone) => Ok(alone.into_rows()),
+                Err(shared) => shared.rows().copied(alloc),
+            },
+            None => Ok(RowList::none(alloc)),
         }
     }
 
@@ -48,10 +54,10 @@ impl Page {
     }
 
     /// The page of these rows. `AllocError`: nothing is left of them.
-    pub(crate) fn of(alloc: Global, rows: Vec<Row>) -> Result<Page, AllocError>
-        ensures { IfOk result (λ p. p ≡ rows.items) }
+    pub(crate) fn of(alloc: Global, rows: RowList) -> Result<Page, AllocError>
+        ensures { IfOk result (λ p. p ≡ rows) }
     {
-        if rows.is_empty() {
+        if rows.len() == 0 {
             return Ok(Page::none());
         }
         Ok(Page {
@@ -96,7 +102,7 @@ impl Level for Page {
         Page::none()
     }
 
-    fn of_rows(alloc: Global, rows: Vec<Row>) -> Result<Page, AllocError> {
+    fn of_rows(alloc: Global, _top: u8, _address: u128, rows: RowList) -> Result<Page, AllocError> {
         Page::of(alloc, rows)
     }
 
@@ -115,7 +121,8 @@ impl Level for Page {
         prefix: Prefix,
         sign: Option<bool>,
     ) -> Result<Page, AllocError> {
-        Page::of(alloc, edited(alloc, self.rows(), prefix, sign)?)
+        let rows = self.own_rows(alloc)?;
+        Page::of(alloc, edited(alloc, rows, prefix, sign)?)
     }
 
     ghost agrees = { λ s t top front p. rows_agree s t top front p };

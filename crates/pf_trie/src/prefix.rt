@@ -1,5 +1,5 @@
 //! Prefixes of addresses.
-ghost use Rattle.std.specs.Prelude.{◌≡◌, ◌/◌, ◌^◌, ◌<◌, ◌==◌};
+ghost use Rattle.std.specs.Prelude.{◌≡◌, ◌+◌, ◌-◌, ◌/◌, ◌^◌, ◌<◌, ◌==◌};
 ghost use Rattle.pf_trie.specs.Prefixes.{IsApart, front, first_of};
 
 /// The addresses that begin with the bits of an address before its last ones, which are free.
@@ -26,6 +26,14 @@ impl Prefix {
         ensures { result ≡ first_of self }
     {
         self.address >> self.free << self.free
+    }
+
+    /// The last address that it contains.
+    pub(crate) fn last(self) -> u128
+        requires { self.free < 128 }
+        ensures { result ≡ first_of self + (2 ^ self.free - 1) }
+    {
+        self.first() + ((1 << self.free) - 1)
     }
 }
 

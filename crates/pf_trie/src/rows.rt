@@ -1,9 +1,10 @@
 //! Rows: addresses with the signs of all their prefixes, in order.
 ghost use Rattle.std.specs.Prelude.{◌≡◌, ℕ, ◌/◌, ◌^◌, ◌<◌, ◌≤◌, ◌==◌, false, length, filter, map, Some, None, IfOk};
 ghost use Rattle.pf_trie.specs.Prefixes.{AllSigns, first_of, with_sign};
-ghost use Rattle.pf_trie.specs.Rows.{HasSigns, AreRows, AreRowsWith, IsUpTo, IsBetween, IsNoStart, Marks, MarksEach, cut_row};
+ghost use Rattle.pf_trie.specs.Rows.{HasSigns, IsInOrder, AreRows, AreRowsWith, IsUpTo, IsBetween, IsNoStart, Marks, MarksEach, cut_row};
 
 use crate::prefix::{Prefix, apart};
+use crate::row_list::RowList;
 use crate::signs::Signs;
 use std::alloc::{AllocError, Global};
 
@@ -60,7 +61,7 @@ impl Row {
 }
 
 /// How many rows are at an address or before it, where they end between two places. What is left to look at is halved at each step.
-pub(crate) fn up_to_between(rows: &[Row], address: u128, from: usize, to: usize) -> usize
+pub(crate) fn up_to_between(rows: &RowList, address: u128, from: usize, to: usize) -> usize
     requires from { from ≤ length rows.now }
     requires to { to ≤ length rows.now }
     ensures within { result ≤ length rows.now }
@@ -70,7 +71,7 @@ pub(crate) fn up_to_between(rows: &[Row], address: u128, from: usize, to: usize)
     let mut high = to;
     'halving: while low < high {
         let middle = low + (high - low) / 2;
-        if rows[middle].first <= address {
+        if rows.at(middle).first <= address {
             low = middle + 1;
         } else {
             high = middle;
@@ -80,7 +81,7 @@ pub(crate) fn up_to_between(rows: &[Row], address: u128, from: usize, to: usize)
 }
 
 // How many rows are at an address or before it.
-fn up_to(rows: &[Row], address: u128) -> usize
+fn up_to(rows: &RowList, address: u128) -> usize
     ensures { IsUpTo rows.now address result }
 {
     up_to_between(rows, address, 0, rows.len())
@@ -88,97 +89,101 @@ fn up_to(rows: &[Row], address: u128) -> usize
 
 /// The signs of an address's prefixes, by the last row that isn't past it, of so many rows that aren't. Each prefix that has a sign and contains
 /// the address contains the row's address too: it begins at a row, and no row lies between the two.
-pub(crate) fn signs_by(rows: &[Row], place: usize, address: u128) -> Signs
+pub(crate) fn signs_by(rows: &RowList, place: usize, address: u128) -> Signs
     requires { place ≤ length rows.now }
     ensures { (s : AllSigns) (top front : ℕ) → IsUpTo rows.now address place → AreRows s top front rows.now → address / 2 ^ top ≡ front → HasSigns s 0 top address result }
 {
     if place == 0 {
         return Signs::none();
     }
-    let row = rows[place - 1];
+    let row = rows.at(place - 1);
     row.signs.from(apart(row.first, address))
 }
 
 /// The signs of an address's prefixes. It takes no memory.
-pub(crate) fn signs_at(rows: &[Row], address: u128) -> Signs
+pub(crate) fn signs_at(rows: &RowList, address: u128) -> Signs
     ensures { (s : AllSigns) (top front : ℕ) → AreRows s top front rows.now → address / 2 ^ top ≡ front → HasSigns s 0 top address result }
 {
     signs_by(rows, up_to(rows, address), address)
 }
 
-// A copy of rows, with one at this address.
-fn with_row(alloc: Global, rows: &[Row], address: u128) -> Result<Vec<Row>, AllocError>
-    ensures { IfOk result (λ v. (s : AllSigns) (top front : ℕ) → AreRows s top front rows.now → address / 2 ^ top ≡ front → AreRowsWith s top front address v.items) }
+// Rows with one at this address. `AllocError`: nothing is left of them.
+fn with_row(alloc: Global, rows: RowList, address: u128) -> Result<RowList, AllocError>
+    ensures { IfOk result (λ v. (s : AllSigns) (top front : ℕ) → AreRows s top front rows → address / 2 ^ top ≡ front → AreRowsWith s top front address v) }
 {
-    let place = up_to(rows, address);
-    let mut made = Vec::with_capacity(alloc, rows.len().saturating_add(1))?;
-    made.extend_from_slice(rows)?;
-    if place > 0 && rows[place - 1].first == address {
-        return Ok(made);
+    let place = up_to(&rows, address);
+    if place > 0 && rows.at(place - 1).first == address {
+        return Ok(rows);
     }
     let row = Row {
         first: address,
-        signs: signs_by(rows, place, address),
+        signs: signs_by(&rows, place, address),
     };
-    made.insert(place, row)?;
-    Ok(made)
+    rows.insert(alloc, place, row)
 }
 
-// Replaces a prefix's sign in all rows.
-fn mark(rows: &mut [Row], prefix: Prefix, sign: Option<bool>)
-    requires { prefix.free < 128 }
-    ensures { MarksEach prefix sign rows.old rows.new }
-{
-    for row in rows.iter_mut() {
-        *row = row.marked(prefix, sign);
-    }
-}
-
-// Takes out the last row that isn't past an address, if no prefix that has a sign begins there.
-fn clear(rows: &mut Vec<Row>, address: u128)
-    ensures { (s : AllSigns) (top front : ℕ) → AreRows s top front rows.old.items → AreRows s top front rows.new.items }
-{
-    let place = up_to(rows, address);
-    if place > 0 && !rows[place - 1].is_start() {
-        rows.remove(place - 1);
-    }
-}
-
-// Rows with a sign at a prefix. `AllocError`: nothing is made.
-fn with_sign(
+// The rows with a prefix's sign replaced in all that it contains. `AllocError`: nothing is left of them.
+fn mark(
     alloc: Global,
-    rows: &[Row],
-    prefix: Prefix,
-    sign: bool,
-) -> Result<Vec<Row>, AllocError>
-    requires { prefix.free < 128 }
-    ensures { IfOk result (λ v. (s : AllSigns) (top front : ℕ) → AreRows s top front rows.now → prefix.free < top → prefix.address / 2 ^ top ≡ front → AreRows (with_sign s prefix (Some sign)) top front v.items) }
-{
-    let mut made = with_row(alloc, rows, prefix.first())?;
-    mark(&mut made, prefix, Some(sign));
-    Ok(made)
-}
-
-// Rows with no sign at a prefix. `AllocError`: nothing is made.
-fn without_sign(alloc: Global, rows: &[Row], prefix: Prefix) -> Result<Vec<Row>, AllocError>
-    requires { prefix.free < 128 }
-    ensures { IfOk result (λ v. (s : AllSigns) (top front : ℕ) → AreRows s top front rows.now → prefix.free < top → prefix.address / 2 ^ top ≡ front → AreRows (with_sign s prefix None) top front v.items) }
-{
-    let mut made = Vec::from_slice(alloc, rows)?;
-    mark(&mut made, prefix, None);
-    clear(&mut made, prefix.first());
-    Ok(made)
-}
-
-/// The rows with the sign at a prefix replaced, or taken out. `AllocError`: nothing is made.
-pub(crate) fn edited(
-    alloc: Global,
-    rows: &[Row],
+    mut rows: RowList,
     prefix: Prefix,
     sign: Option<bool>,
-) -> Result<Vec<Row>, AllocError>
+) -> Result<RowList, AllocError>
     requires { prefix.free < 128 }
-    ensures { IfOk result (λ v. (s : AllSigns) (top front : ℕ) → AreRows s top front rows.now → prefix.free < top → prefix.address / 2 ^ top ≡ front → AreRows (with_sign s prefix sign) top front v.items) }
+    ensures { IfOk result (λ v. IsInOrder rows → MarksEach prefix sign rows v) }
+{
+    let from = up_to(&rows, prefix.first()).saturating_sub(1);
+    let to = up_to(&rows, prefix.last());
+    for place in from..to {
+        let row = rows.at(place).marked(prefix, sign);
+        rows = rows.set(alloc, place, row)?;
+    }
+    Ok(rows)
+}
+
+// The rows without the last one that isn't past an address, if no prefix that has a sign begins there.
+fn clear(rows: RowList, address: u128) -> RowList
+    ensures { (s : AllSigns) (top front : ℕ) → AreRows s top front rows → AreRows s top front result }
+{
+    let place = up_to(&rows, address);
+    if place > 0 && !rows.at(place - 1).is_start() {
+        return rows.remove(place - 1);
+    }
+    rows
+}
+
+// Rows with a sign at a prefix. `AllocError`: nothing is left of them.
+fn with_sign(
+    alloc: Global,
+    rows: RowList,
+    prefix: Prefix,
+    sign: bool,
+) -> Result<RowList, AllocError>
+    requires { prefix.free < 128 }
+    ensures { IfOk result (λ v. (s : AllSigns) (top front : ℕ) → AreRows s top front rows → prefix.free < top → prefix.address / 2 ^ top ≡ front → AreRows (with_sign s prefix (Some sign)) top front v) }
+{
+    let rows = with_row(alloc, rows, prefix.first())?;
+    mark(alloc, rows, prefix, Some(sign))
+}
+
+// Rows with no sign at a prefix. `AllocError`: nothing is left of them.
+fn without_sign(alloc: Global, rows: RowList, prefix: Prefix) -> Result<RowList, AllocError>
+    requires { prefix.free < 128 }
+    ensures { IfOk result (λ v. (s : AllSigns) (top front : ℕ) → AreRows s top front rows → prefix.free < top → prefix.address / 2 ^ top ≡ front → AreRows (with_sign s prefix None) top front v) }
+{
+    let marked = mark(alloc, rows, prefix, None)?;
+    Ok(clear(marked, prefix.first()))
+}
+
+/// The rows with the sign at a prefix replaced, or taken out. `AllocError`: nothing is left of them.
+pub(crate) fn edited(
+    alloc: Global,
+    rows: RowList,
+    prefix: Prefix,
+    sign: Option<bool>,
+) -> Result<RowList, AllocError>
+    requires { prefix.free < 128 }
+    ensures { IfOk result (λ v. (s : AllSigns) (top front : ℕ) → AreRows s top front rows → prefix.free < top → prefix.address / 2 ^ top ≡ front → AreRows (with_sign s prefix sign) top front v) }
 {
     match sign {
         Some(sign) => with_sign(alloc, rows, prefix, sign),
@@ -190,17 +195,19 @@ pub(crate) fn edited(
 /// `AllocError`: nothing is made.
 pub(crate) fn rows_within(
     alloc: Global,
-    rows: &[Row],
+    rows: &RowList,
     at: u8,
     front: u128,
-) -> Result<Vec<Row>, AllocError>
+) -> Result<RowList, AllocError>
     requires { at < 128 }
-    ensures { IfOk result (λ v. v.items ≡ map (cut_row at) (filter (λ r. r.first / 2 ^ at == front) rows.now)) }
+    ensures { IfOk result (λ v. v ≡ map (cut_row at) (filter (λ r. r.first / 2 ^ at == front) rows.now)) }
 {
-    let mut within = Vec::new(alloc);
-    for row in rows {
+    let mut within = RowList::none(alloc);
+    for place in 0..rows.len() {
+        let row = rows.at(place);
         if row.first >> at == front {
-            within.push(row.cut(at))?;
+            let end = within.len();
+            within = within.insert(alloc, end, row.cut(at))?;
         }
     }
     Ok(within)

@@ -3,7 +3,7 @@ use crate::found::Found;
 use crate::four::FourLevels;
 use crate::level::Level;
 use crate::prefix::Prefix;
-use crate::rows::Row;
+use crate::row_list::RowList;
 use std::alloc::{AllocError, Global};
 
 /// Sixteen levels, one below the other.
@@ -28,9 +28,14 @@ impl<T: Level> Level for SixteenLevels<T> {
         }
     }
 
-    fn of_rows(alloc: Global, rows: Vec<Row>) -> Result<SixteenLevels<T>, AllocError> {
+    fn of_rows(
+        alloc: Global,
+        top: u8,
+        address: u128,
+        rows: RowList,
+    ) -> Result<SixteenLevels<T>, AllocError> {
         Ok(SixteenLevels {
-            levels: Level::of_rows(alloc, rows)?,
+            levels: Level::of_rows(alloc, top, address, rows)?,
         })
     }
 

@@ -5,7 +5,8 @@ ghost use Rattle.pf_trie.specs.{Prefixes.{AllSigns, Finds, with_sign}, Rows.AreR
 use crate::found::Found;
 use crate::level::Level;
 use crate::prefix::Prefix;
-use crate::rows::{Row, rows_within, signs_at};
+use crate::row_list::RowList;
+use crate::rows::{rows_within, signs_at};
 use crate::signs::Signs;
 use std::alloc::{AllocError, Global};
 use std::marker::Model;
@@ -52,15 +53,17 @@ impl<T: Level> Slot<T> {
         alloc: Global,
         at: u8,
         front: u128,
-        rows: &[Row],
+        rows: &RowList,
     ) -> Result<Slot<T>, AllocError>
         requires at { at < 128 }
         requires front { front < 2 ^ (128 - at) }
         ensures { IfOk result (λ slot. (s : AllSigns) → AreRows s (at + SLOT_BITS) (front / SLOTS) rows.now → IsSlot T.holds s at front slot) }
     {
+        let first = front << at;
+        let within = rows_within(alloc, rows, at, front)?;
         Ok(Slot {
-            wide: signs_at(rows, front << at).from(at),
-            below: T::of_rows(alloc, rows_within(alloc, rows, at, front)?)?,
+            wide: signs_at(rows, first).from(at),
+            below: T::of_rows(alloc, at, first, within)?,
         })
     }
 

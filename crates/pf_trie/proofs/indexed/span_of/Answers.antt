@@ -1,17 +1,15 @@
-use Rattle.std.proofs.Common.{◌≡◌, ◌==◌, ◌-◌, ◌<◌, false, length, slice_index_or, refl, sym, ◌∙◌, arith}
-use Rattle.std.proofs.lemmas.Bool.Decides.{nat_tests}
+use Rattle.std.proofs.Common.{◌≡◌, ◌-◌, ◌<◌, ℕ, length, get_or, sym, ap, subst, arith}
 use Rattle.pf_trie.specs.declared.rows.Row.{Row}
 use Rattle.pf_trie.proofs.Indexes.{rows_alike}
 use Rattle.pf_trie.proofs.indexed.span_of.Goals as goal
 
-abbrev none : Row
-none = record { first = 0; signs = record { plain = 0; negated = 0 } }
-
 pub returns-clause-alike : goal.returns-clause-alike
 returns-clause-alike c =
     let rows = c.args.rows.now in
-    let filled : (length rows == 0) ≡ false = sym c.is_empty.ensures ∙ c.if-is_empty.false in
-    let some : 0 < length rows = grind (arith, nat_tests) in
+    let count = c.len-count.ensures in
+    let some : 0 < length rows = let filled = c.if-count-eq0.false in omega (arith, count, filled) in
     let shift = c.saturating_sub-shift.ensures in
-    rows_alike c.saturating_sub-shift.result c.apart.result (slice_index_or rows 0 none).first (slice_index_or rows (length rows - 1) none).first rows none none
-    (omega (arith, some)) refl refl c.apart.ensures (omega (arith, shift))
+    let last = subst (λ (n : ℕ). c.at-last.result.first ≡ (get_or rows (n - 1) c.at-last.result).first) count
+    (ap (λ (r : Row). r.first) (sym (c.at-last.ensures c.at-last.result))) in
+    rows_alike c.saturating_sub-shift.result c.apart.result c.at-first.result.first c.at-last.result.first rows c.at-first.result c.at-last.result some
+    (ap (λ (r : Row). r.first) (sym (c.at-first.ensures c.at-first.result))) last c.apart.ensures (omega (arith, shift))

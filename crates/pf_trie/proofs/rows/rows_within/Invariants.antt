@@ -2,5 +2,5 @@ use Rattle.std.proofs.Common.{◌≡◌, ◌==◌, ◌/◌, ◌^◌, filter, map
 use Rattle.pf_trie.specs.Rows.{cut_row}
 use Rattle.pf_trie.proofs.rows.rows_within.Given as goal
 
-abbrev pub invariant-loop-row : goal.invariant-loop-row
-invariant-loop-row l = l.within.items ≡ map (cut_row l.at) (filter (λ r. r.first / 2 ^ l.at == l.front) (take l.row-index l.rows))
+abbrev pub invariant-loop-place : goal.invariant-loop-place
+invariant-loop-place l = l.within ≡ map (cut_row l.at) (filter (λ r. r.first / 2 ^ l.at == l.front) (take l.place l.rows))

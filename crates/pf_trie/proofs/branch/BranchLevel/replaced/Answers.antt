@@ -6,8 +6,8 @@ use Rattle.pf_trie.specs.{Prefixes.with_sign, Rows.AreRows, Forks.IsForkOf}
 use Rattle.pf_trie.proofs.ForkSlots.{fork_below, fork_above, fork_same}
 use Rattle.pf_trie.proofs.branch.BranchLevel.replaced.Goals as goal
 
-pub returns-in-Some : goal.returns-in-Some
-returns-in-Some g c = λ s lt is.
+pub returns-in_ok-new-in-Some : goal.returns-in_ok-new-in-Some
+returns-in_ok-new-in-Some g c = λ s lt is.
     let p = c.args.prefix in
     let top = c.args.top in
     let at = c.saturating_sub.result in
@@ -22,11 +22,10 @@ returns-in-Some g c = λ s lt is.
     (sym c.in_ok-new-in-Some.ensures.ok)
     (fork_above g.T.Level.holds (with_sign s p c.args.sign) top at p.address c.in_ok-fork-in-Some.fork whole (c.in_ok-fork-in-Some.ensures s less own))
 
-pub returns : goal.returns
-returns g c = IfOk-weaker c.divided.result _ _ (λ branch divided s lt is.
+pub returns-in_ok-rows-in-None : goal.returns-in_ok-rows-in-None
+returns-in_ok-rows-in-None g c = IfOk-weaker c.of_rows.result _ _ (λ branch divided s lt is.
     let p = c.args.prefix in
     let front = p.address / 2 ^ c.args.top in
     let held : AreRows s c.args.top front c.args.self.page = rw c.in-None.is at is in
-    let same : c.rows.result.now ≡ c.args.self.page = cc in
-    let rows = subst (λ (v : List Row). AreRows s c.args.top front v) (sym same) held in
-    divided (with_sign s p c.args.sign) (c.in_ok-edited-in-None.ensures s c.args.top front rows lt refl)) c.divided.ensures
+    let rows = subst (λ (v : List Row). AreRows s c.args.top front v) (sym c.in_ok-own_rows-in-None.ensures) held in
+    divided (with_sign s p c.args.sign) (c.in_ok-rows-in-None.ensures s c.args.top front rows lt refl)) c.of_rows.ensures
