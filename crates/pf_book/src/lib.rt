@@ -11,7 +11,7 @@
 //! - `chapter`: [`Chapter`], the name of an opening, as a type. [`Numbering`] names the register in which a shared Book's callers are numbered.
 //! - `receipt`: [`Receipt`], what a caller gets with a reply.
 //! - `status`: [`BookStatus`], what a Book says of itself.
-//! - `worker`: what a worker does with a receipt: [`learn_from`].
+//! - `worker`: what a worker does with a receipt: [`learn_from`] and [`judge_after`].
 //! - `shared`: a Book under a lock, which callers use in turn; commands of several callers that wait are run in one group. [`Shared`] is the
 //!   one over a [`Shower`].
 //! - `laws`: what follows for receipts, and for openings after crashes.
@@ -23,7 +23,7 @@
 //! Proved, by public contracts: every reply is legal, and the Book stands for the world with the call at its end; at each moment of a call
 //! an image of the device holds what some crash within the call leaves ([`Book::run`], [`Book::group`]); each receipt's front begins the
 //! later history ([`Shared::run`], [`Shared::run_together`], [`Shared::group`], [`Book::confirm`]), and so does what a seer saw and learnt ([`Book::covers`]); after
-//! `Applied` a worker that has the receipt judges by that change and all before it ([`learn_from`], `pf_view::Seer::judge`); and an opening of any image that a
+//! `Applied` a worker that has the receipt judges by that change and all before it ([`judge_after`]); and an opening of any image that a
 //! crash leaves goes on with the same world ([`Opening::open`], `laws::crashes_are_opened`). Not proved is that no run meets
 //! `OpenFault::Places` or `Gone`. The crate has no tests. Only tests of other crates show that memory runs out only if a growth was
 //! refused.
@@ -56,7 +56,7 @@ pub use pf_view::{Gone, Publisher, Seer, Shower, Token};
 pub use receipt::Receipt;
 pub use shared::NewCalls;
 pub use status::BookStatus;
-pub use worker::learn_from;
+pub use worker::{judge_after, learn_from};
 
 /// A Book over a [`Shower`], which by its handle `R` waits for workers that are judging.
 pub type Book<D, J, R> = book::Book<D, J, Shower<J, R>>;
