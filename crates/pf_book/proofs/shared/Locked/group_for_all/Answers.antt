@@ -1,5 +1,5 @@
 use Rattle.std.proofs.Common.{subst, sym}
-use Rattle.std.specs.Prelude.{nat_lt, Option}
+use Rattle.std.specs.Prelude.{nat_lt}
 use Rattle.pf_core.specs.{WorldBooks.{IsAt, LeadsGroup}, Worlds.{CurrentOpening, Upshot, grouping, upshot}}
 use Rattle.pf_book.specs.{Books.{IsLeft, PlainBook, StaysUnlessAnyKept, UsesDevice, is_fault_result, world_book}, Groups.{replies_of, told}, Receipts.TakesUp}
 use Rattle.pf_book.proofs.LockedCalls.{group-answered, reached-behind}

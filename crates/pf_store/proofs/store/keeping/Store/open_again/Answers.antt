@@ -1,4 +1,4 @@
-use Rattle.std.proofs.{Common.{◌≡◌, ◌∙◌, ◌+◌, ◌^◌, ◌<◌, ◌≤◌, ℕ, false, List, length, refl, sym, ap, subst, arith}, lemmas.Bool.false≢true}
+use Rattle.std.proofs.{Common.{◌≡◌, ◌∙◌, ◌+◌, ◌^◌, ◌<◌, ◌≤◌, false, refl, sym, ap, subst, arith}, lemmas.Bool.false≢true}
 use Rattle.std.specs.Prelude.{Result, Ok, Err, IfOk, IfErr}
 use Rattle.pf_disk.specs.{Disk.{EachMoment, IsImage}, Runs.MayWrite}
 use Rattle.pf_disk.proofs.Writing.{unmoved}
