@@ -8,10 +8,9 @@ use Rattle.pf_core.specs.declared.{command.Command.Command, command.Command.TheV
 use Rattle.pf_core.specs.{Calls.{Call, call, mentions_of}, Commands.{step_by, may_change, takes_memory}, Durable.Changes.{PlainDurable, PlainChange, applied, after, voided_by, verdict}, Refusals.OrMemory, WorldBooks.{WorldBook, IsFolded, IsAt, Leads}, Laws.Wanted.{wants_memory, wants_mentions, left_is}, Cores.PlainCore, Worlds.{Setting, CurrentOpening, down, Doing, calling, upshot, Upshot, flat, log_of, durable_of, is_halted, is_fault, step_in, room_for, if_ok, or_refused, due_at, grouped, group_at, due, group_in, group_of, kept_groups, heard, acked_by, pending_by, StandsIn, LegalReply}}
 use Rattle.pf_core.proofs.{Groups.room-found, LongerWorlds.{flat-push, nothing-leads, refused-leads}, Showing.shows-nothing}
 use Rattle.pf_store.specs.Stores.{Holds, HoldsEither}
-use Rattle.pf_disk.specs.Disk.{EachMoment, IsImage}
-use Rattle.pf_disk.proofs.Moments.{started, weakened}
-use Rattle.pf_book.proofs.{HistoryGroups.halted-is, Steps.never-fault}
-use Rattle.pf_book.specs.Books.{BookParts, PlainBook, IsJudged, IsNumbered, KeepsOpening, world_book, world_book_of, StaysUnlessKept, judging, log_in, HasRoom, HoldsFront, HoldsLeft, IsMore, IsKept, IsPending, IsUnkept, IsMade, IsTold, is_fault_reply, shows_all}
+use Rattle.pf_disk.specs.declared.disk.Disk.{Ghosts}
+use Rattle.pf_book.proofs.{HistoryGroups.halted-is, Openable.{uses-as, uses-still}, Steps.never-fault}
+use Rattle.pf_book.specs.Books.{BookParts, PlainBook, IsJudged, IsNumbered, KeepsOpening, world_book, world_book_of, StaysUnlessKept, judging, log_in, HasRoom, HoldsFront, HoldsLeft, IsLeft, IsMore, IsKept, IsPending, IsUnkept, IsMade, IsTold, is_fault_reply, shows_all, UsesDevice}
 
 -- a world book with another core
 abbrev pub with_core : WorldBook → PlainCore → WorldBook
@@ -417,38 +416,26 @@ told-opening Log r old new told = by-world old new (world_book old) told.0 refl 
 told-opening Publish r old new (inl told) = by-world old new (shows_all (world_book old)) told.1 refl refl
 told-opening Publish r old new (inr told) = by-world old new (world_book old) told.1 refl refl
 
-module _ {D : Type 0} (seen : D → List ℕ) (unsynced : D → ℕ → Bool) (moment : D → ℕ) (left_since : D → ℕ → List ℕ → Type 0) where
-  abbrev OnlyNow : D → Type 0
-  OnlyNow disk = (c : List ℕ) → left_since disk (moment disk) c → IsImage (seen disk) (unsynced disk) c
+-- an image that holds a front of the history holds what is kept, if nothing is pending
+pub front-all : (b : WorldBook) → IsFolded b → b.pending ≡ [] → (c : List ℕ) → HoldsFront b c → Holds c b.whole.durable
+front-all b folded none c (n, holds) =
+    let no-more : take n b.pending ≡ [] = ap (take n) none ∙ take_all n [] (omega arith) in
+    let is : after b.base (flat (b.acked ++ take n b.pending)) ≡ b.whole.durable =
+    ap (λ (gs : List (List PlainChange)). after b.base (flat (b.acked ++ gs))) no-more ∙ ap (λ (gs : List (List PlainChange)). after b.base (flat gs)) (append-nil b.acked) ∙ sym folded.durable in
+    subst (λ (k : PlainDurable). Holds c k) is holds
 
-  abbrev HoldFronts : D → WorldBook → Type 0
-  HoldFronts disk b = (c : List ℕ) → IsImage (seen disk) (unsynced disk) c → HoldsFront b c
+-- while a change that is wanted is kept or refused, each image holds what some crash leaves
+module _ {D : Type 0} {device : Ghosts D} (now new : PlainBook D) (c : Command) (e : PlainChange) (o : Outcome) (folded : IsFolded (world_book now)) (free : IsFree (world_book now) c)
+    (steps : Steps (world_book now) c (Ok (Wants e o))) where
+  kept-uses : (r : Reply) → IsMade r o e (world_book now) (world_book new) → ((why : Refusal) → r ≡ Refused why → is_fault why ≡ false → ⊥)
+      → UsesDevice device (is_fault_reply r) now new (HoldsEither now.whole.durable (applied now.whole.durable e)) → UsesDevice device (is_fault_reply r) now new (IsLeft (world_book now) (calling c))
+  kept-uses r made other uses = uses-as {Q = IsLeft (world_book now) (calling c)} uses (λ image holds. record { left = λ h at. made-left h (world_book now) (world_book new) c e o r image at folded free steps made other holds })
 
-  -- no call of the device was made
-  pub still-left : (h : CurrentOpening) (b : WorldBook) (doing : Doing) (disk : D) → OnlyNow disk → HoldFronts disk b → IsAt h b → EachMoment moment left_since disk disk (HoldsLeft h doing)
-  still-left h b doing disk only images at = started moment left_since disk (HoldsLeft h doing) (λ c left. front-left h b doing c at (images c (only c left)))
-
-  -- each image holds what was acknowledged, if nothing is pending
-  pub still-either : (b : WorldBook) (es : List PlainChange) (disk : D) → OnlyNow disk → HoldFronts disk b → IsFolded b → b.pending ≡ [] → EachMoment moment left_since disk disk (HoldsEither b.whole.durable (after b.whole.durable es))
-  still-either b es disk only images folded none = started moment left_since disk (HoldsEither b.whole.durable (after b.whole.durable es)) (λ c left. inl (front-all c (images c (only c left))))
-    where
-      no-more : (n : ℕ) → take n b.pending ≡ []
-      no-more n = ap (take n) none ∙ take_all n [] (omega arith)
-
-      front-all : (c : List ℕ) → HoldsFront b c → Holds c b.whole.durable
-      front-all c (n, holds) =
-          let is : after b.base (flat (b.acked ++ take n b.pending)) ≡ b.whole.durable =
-          ap (λ (gs : List (List PlainChange)). after b.base (flat (b.acked ++ gs))) (no-more n) ∙ ap (λ (gs : List (List PlainChange)). after b.base (flat gs)) (append-nil b.acked) ∙ sym folded.durable in
-          subst (λ (k : PlainDurable). Holds c k) is holds
-
-  module _ (h : CurrentOpening) (b new : WorldBook) (c : Command) (e : PlainChange) (o : Outcome) (at : IsAt h b) (folded : IsFolded b) (free : IsFree b c) (steps : Steps b c (Ok (Wants e o))) (old next : D) (only : OnlyNow old) (images : HoldFronts old b)
-      (moved : EachMoment moment left_since old next (HoldsEither b.whole.durable (applied b.whole.durable e))) where
-    kept-moment : (r : Reply) → IsMade r o e b new → ((why : Refusal) → r ≡ Refused why → is_fault why ≡ false → ⊥) → EachMoment moment left_since old next (HoldsLeft h (calling c))
-    kept-moment r made other = weakened moment left_since old next (HoldsEither b.whole.durable (applied b.whole.durable e)) (HoldsLeft h (calling c)) moved (λ image holds. made-left h b new c e o r image at folded free steps made other holds)
-
-    pub made-moment : (r : Reply) → IsMade r o e b new → ((why : Refusal) → r ≡ Refused why → is_fault why ≡ false → next ≡ old) → EachMoment moment left_since old next (HoldsLeft h (calling c))
-    made-moment (Answered a) made still = absurd made
-    made-moment (Applied n p) made still = kept-moment (Applied n p) made (λ why same. cc (same))
-    made-moment (Stored n p) made still = kept-moment (Stored n p) made (λ why same. cc (same))
-    made-moment (Refused Fault) made still = kept-moment (Refused Fault) made (λ why same quiet. let is : Fault ≡ why = cc (same) in cc (ap is_fault is, quiet))
-    made-moment (Refused why) made still = subst (λ (d : D). EachMoment moment left_since old d (HoldsLeft h (calling c))) (sym (still why refl refl)) (still-left h b (calling c) old only images at)
+  pub made-uses : (r : Reply) → IsMade r o e (world_book now) (world_book new) → ((why : Refusal) → r ≡ Refused why → is_fault why ≡ false → new.disk ≡ now.disk)
+      → UsesDevice device (is_fault_reply r) now new (HoldsEither now.whole.durable (applied now.whole.durable e)) → UsesDevice device false now now (IsLeft (world_book now) (calling c))
+      → UsesDevice device (is_fault_reply r) now new (IsLeft (world_book now) (calling c))
+  made-uses (Answered a) made still uses quiet = absurd made
+  made-uses (Applied n p) made still uses quiet = kept-uses (Applied n p) made (λ why same. cc (same)) uses
+  made-uses (Stored n p) made still uses quiet = kept-uses (Stored n p) made (λ why same. cc (same)) uses
+  made-uses (Refused Fault) made still uses quiet = kept-uses (Refused Fault) made (λ why same calm. let is : Fault ≡ why = cc (same) in cc (ap is_fault is, calm)) uses
+  made-uses (Refused why) made still uses quiet = uses-still uses (still why refl refl) quiet

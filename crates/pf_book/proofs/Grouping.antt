@@ -8,10 +8,9 @@ use Rattle.pf_core.specs.declared.{command.Command.Command, reply.Refusal.Refusa
 use Rattle.pf_core.specs.{Commands.{bad_number, group_words, may_be_grouped}, Durable.Changes.{PlainDurable, PlainChange, after, voided_by}, WorldBooks.{WorldBook, IsFolded, IsAt, LeadsGroup}, Cores.PlainCore, Worlds.{Setting, CurrentOpening, down, grouping, Upshot, upshot, flat, log_of, is_halted, is_fault, step_in, reply_to, changes_of, room_for, grouped, amid, changes_with, changes_due, replies_due, group_start, group_check, replies_unless, due_group, group_all, kept_groups, shown_by, as_stored, GroupStandsIn, LegalReplies}}
 use Rattle.pf_core.proofs.{Courses.{not-halted, durable-amid, length-with, log-amid, IsOfGroup, told, wanted, refused, step-amid, MayBeGrouped, IsTaken, taken-group, told_as, IsAccepted, accepted}, GroupLeads.{IsShownSo, shown-due, shown-stored, refused-group-leads, fault-group-leads, kept-group-leads}, Groups.rooms-found}
 use Rattle.pf_store.specs.Stores.{Holds, HoldsEither}
-use Rattle.pf_disk.specs.Disk.{EachMoment, IsImage}
-use Rattle.pf_disk.proofs.Moments.{weakened}
-use Rattle.pf_book.specs.{Books.{PlainBook, world_book, HasRoom, HoldsFront, HoldsLeft, IsMore, KeepsOpening, IsPending, AreMade, AreNumbered, StaysUnlessAnyKept, is_fault_result, replied, shows_all}, Courses.IsCalm}
-use Rattle.pf_book.proofs.{Calling.{durable-is, log-acked, front-left, still-left, kept-opening, own, unkept-opening}, HistoryGroups.{grouped-some}}
+use Rattle.pf_disk.specs.declared.disk.Disk.{Ghosts}
+use Rattle.pf_book.specs.{Books.{PlainBook, world_book, HasRoom, HoldsLeft, IsLeft, IsMore, KeepsOpening, IsPending, AreMade, AreNumbered, StaysUnlessAnyKept, UsesDevice, is_fault_result, replied, shows_all}, Courses.IsCalm}
+use Rattle.pf_book.proofs.{Calling.{durable-is, log-acked, front-left, kept-opening, own, unkept-opening}, HistoryGroups.{grouped-some}, Openable.{uses-as, uses-still}}
 
 -- ---- a calm opening
 
@@ -306,20 +305,6 @@ all-made-opening now new (Ok replies) _ es (kept, more, inl how) = kept-opening 
 all-made-opening now new (Ok replies) _ es (kept, more, inr how) = kept-opening now new kept es more (inr how.1)
 all-made-opening now new (Err why) _ es made = unkept-opening now new why es made
 
-module _ {D : Type 0} (seen : D → List ℕ) (unsynced : D → ℕ → Bool) (moment : D → ℕ) (left_since : D → ℕ → List ℕ → Type 0) where
-  -- at each moment an image holds what some crash within the group leaves
-  pub all-made-moment : (h : CurrentOpening) (b new : WorldBook) (commands : List Command) → IsAt h b → b.pending ≡ [] → group_words commands ≡ Ok tt → IsFolded b → (old next : D)
-      → ((c : List ℕ) → left_since old (moment old) c → IsImage (seen old) (unsynced old) c) → ((c : List ℕ) → IsImage (seen old) (unsynced old) c → HoldsFront b c)
-      → EachMoment moment left_since old next (HoldsEither b.whole.durable (after b.whole.durable (changes_due h [] commands)))
-      → (result : Result (List Reply) Refusal) → AreMade result (replies_due h [] commands) (changes_due h [] commands) b new
-      → ((why : Refusal) → result ≡ Err why → is_fault why ≡ false → next ≡ old) → EachMoment moment left_since old next (HoldsLeft h (grouping commands))
-  all-made-moment h b new commands at none words folded old next only images moved (Ok replies) (kept, more, how) still =
-      weakened moment left_since old next (HoldsEither b.whole.durable (after b.whole.durable (changes_due h [] commands))) (HoldsLeft h (grouping commands)) moved (all-left h b commands at none words folded more.room)
-  all-made-moment h b new commands at none words folded old next only images moved (Err Fault) pending still =
-      weakened moment left_since old next (HoldsEither b.whole.durable (after b.whole.durable (changes_due h [] commands))) (HoldsLeft h (grouping commands)) moved (all-left h b commands at none words folded pending.room)
-  all-made-moment h b new commands at none words folded old next only images moved (Err why) made still =
-      subst (λ (d : D). EachMoment moment left_since old d (HoldsLeft h (grouping commands))) (sym (still why refl refl)) (still-left seen unsynced moment left_since h b (grouping commands) old only images at)
-
 -- ---- by what the commands came to
 
 module _ (h : CurrentOpening) (b : WorldBook) (commands : List Command) (at : IsAt h b) (begun : IsBegun b commands) (replies : List Reply) (changes : List PlainChange)
@@ -333,14 +318,22 @@ module _ (h : CurrentOpening) (b : WorldBook) (commands : List Command) (at : Is
   pub told-unchanged : changes ≡ [] → LeadsGroup h b commands (Ok replies) (upshot b.shown false)
   told-unchanged nothing = subst (λ (rs : List Reply). LeadsGroup h b commands (Ok rs) (upshot b.shown false)) (sym told_is) (unchanged-leads h b commands at begun.none begun.words (sym wants ∙ nothing))
 
-  pub told-moment : {D : Type 0} (seen : D → List ℕ) (unsynced : D → ℕ → Bool) (moment : D → ℕ) (left_since : D → ℕ → List ℕ → Type 0) (new : WorldBook) → IsFolded b → (old next : D)
-      → ((c : List ℕ) → left_since old (moment old) c → IsImage (seen old) (unsynced old) c) → ((c : List ℕ) → IsImage (seen old) (unsynced old) c → HoldsFront b c)
-      → EachMoment moment left_since old next (HoldsEither b.whole.durable (after b.whole.durable changes))
-      → (result : Result (List Reply) Refusal) → AreMade result replies changes b new
-      → ((why : Refusal) → result ≡ Err why → is_fault why ≡ false → next ≡ old) → EachMoment moment left_since old next (HoldsLeft h (grouping commands))
-  told-moment seen unsynced moment left_since new folded old next only images moved result made still =
-      all-made-moment seen unsynced moment left_since h b new commands at begun.none begun.words folded old next only images
-      (subst (λ (es : List PlainChange). EachMoment moment left_since old next (HoldsEither b.whole.durable (after b.whole.durable es))) wants moved) result (as_due result new made) still
+-- while the changes of a group are kept or refused, each image holds what some crash leaves
+module _ {D : Type 0} {device : Ghosts D} (now new : PlainBook D) (commands : List Command) (begun : IsBegun (world_book now) commands) (folded : IsFolded (world_book now)) (changes : List PlainChange)
+    (wants : (h : CurrentOpening) → IsAt h (world_book now) → changes ≡ changes_due h [] commands) where
+  kept-group : HasRoom (world_book now) changes → {failed : Bool} → UsesDevice device failed now new (HoldsEither now.whole.durable (after now.whole.durable changes))
+      → UsesDevice device failed now new (IsLeft (world_book now) (grouping commands))
+  kept-group room uses = uses-as {Q = IsLeft (world_book now) (grouping commands)} uses (λ image holds. record {
+    left = λ h at. all-left h (world_book now) commands at begun.none begun.words folded (subst (HasRoom (world_book now)) (wants h at) room) image
+        (subst (λ (es : List PlainChange). HoldsEither now.whole.durable (after now.whole.durable es) image) (wants h at) holds);
+  })
+
+  pub told-uses : (due : List Reply) (result : Result (List Reply) Refusal) → AreMade result due changes (world_book now) (world_book new) → ((why : Refusal) → result ≡ Err why → is_fault why ≡ false → new.disk ≡ now.disk)
+      → UsesDevice device (is_fault_result result) now new (HoldsEither now.whole.durable (after now.whole.durable changes)) → UsesDevice device false now now (IsLeft (world_book now) (grouping commands))
+      → UsesDevice device (is_fault_result result) now new (IsLeft (world_book now) (grouping commands))
+  told-uses due (Ok replies) (kept, more, how) still uses quiet = kept-group more.room uses
+  told-uses due (Err Fault) pending still uses quiet = kept-group pending.room uses
+  told-uses due (Err why) made still uses quiet = uses-still uses (still why refl refl) quiet
 
 -- ---- the result of a group
 

@@ -1,15 +1,16 @@
 -- What a proof knows of a Book once a function has read its fields: `p` are its parts, and contracts see it as `now`.
-use Rattle.std.proofs.Common.{◌≡◌, ℕ, ◌≤◌, Bool, false, List, [], length, take, refl, ap, sym, ◌∙◌, subst, arith}
+use Rattle.std.proofs.Common.{◌≡◌, inl, ℕ, ◌≤◌, Bool, false, List, [], length, take, refl, ap, sym, ◌∙◌, subst, arith}
 use mathlib.Core.List.{IsPrefix}
-use Rattle.pf_disk.specs.Disk.{EachMoment, IsImage}
+use Rattle.pf_disk.specs.{Disk.IsImage, Runs.MayWrite, declared.disk.Disk.Ghosts}
+use Rattle.pf_disk.proofs.Writing.{unmoved}
 use Rattle.pf_core.specs.declared.reply.Reply.{Reply}
 use Rattle.pf_core.specs.{Durable.Changes.{PlainChange, after}, Nexts.PlainNext, Cores.PlainCore, WorldBooks.{IsAt, IsFolded}, Worlds.{CurrentOpening, Doing, flat, idle}}
-use Rattle.pf_store.specs.{Stores.HoldsEither, StoreKept.PlainStore}
+use Rattle.pf_store.specs.{Stores.{Holds, HoldsEither}, StoreKept.PlainStore}
 use Rattle.pf_view.specs.Past.Pasts.{PlainFront, Begins, front_of}
 use Rattle.pf_view.proofs.Prefixes.{prefix_trans}
 use Rattle.pf_book.specs.Receipts.{ShownFits, token_of}
-use Rattle.pf_book.specs.Books.{BookParts, PlainBook, cut, book_of, world_book, world_book_of, HasRoom, HoldsFront, HoldsLeft, IsBook, KeepsOpening, StaysOpenable, UsesDevice, left_together, log_in}
-use Rattle.pf_book.proofs.{Calling.{front-left, still-either, still-left}, LockedCalls.token-is, Openable.{still-openable, uses-none}, HistoryGroups.{acked-is, all-acked, counted-acked, goes-on, take_begins, whole-log}}
+use Rattle.pf_book.specs.Books.{BookParts, PlainBook, cut, book_of, world_book, world_book_of, HasRoom, HoldsLeft, IsBook, IsLeft, IsOfCall, KeepsOpening, UsesDevice, left_together, log_in}
+use Rattle.pf_book.proofs.{Calling.{front-all, front-left}, LockedCalls.token-is, HistoryGroups.{acked-is, all-acked, counted-acked, goes-on, take_begins, whole-log}}
 
 -- the parts of a Book with this invariant
 abbrev pub parts : {D : Type 0} {seen : D → List ℕ} {unsynced : D → ℕ → Bool} {p : BookParts D} → IsBook seen unsynced p → BookParts D
@@ -27,10 +28,6 @@ module _ {D : Type 0} {seen : D → List ℕ} {unsynced : D → ℕ → Bool} {p
 
   pub folded-of : IsFolded (world_book now)
   folded-of = subst (λ (b : PlainBook D). IsFolded (world_book b)) is i.folded
-
-  -- each image holds a front of the history
-  pub fronts-of : (c : List ℕ) → IsImage (seen now.disk) (unsynced now.disk) c → HoldsFront (world_book now) c
-  fronts-of = subst (λ (b : PlainBook D). (c : List ℕ) → IsImage (seen b.disk) (unsynced b.disk) c → HoldsFront (world_book b) c) is i.images
 
   -- with a core that is as before
   pub core-of : (whole : PlainCore) → whole ≡ p.whole → book_of (record p { whole = whole }) ≡ now
@@ -75,25 +72,6 @@ module _ {D : Type 0} {seen : D → List ℕ} {unsynced : D → ℕ → Bool} {p
   images-of = subst (λ (b : PlainBook D). (h : CurrentOpening) → IsAt h (world_book b) → (c : List ℕ) → IsImage (seen b.disk) (unsynced b.disk) c → HoldsLeft h idle c) is
       (λ h at c image. front-left h (world_book_of p) idle c at (i.images c image))
 
-  -- no call of the device was made
-  module _ (moment : D → ℕ) (left_since : D → ℕ → List ℕ → Type 0) (only : (c : List ℕ) → left_since p.store.disk (moment p.store.disk) c → IsImage (seen p.store.disk) (unsynced p.store.disk) c) where
-    pub moment-of : (doing : Doing) (new : D) → new ≡ p.store.disk → (h : CurrentOpening) → IsAt h (world_book now) → EachMoment moment left_since now.disk new (HoldsLeft h doing)
-    moment-of doing new still = subst (λ (d : D). (h : CurrentOpening) → IsAt h (world_book now) → EachMoment moment left_since now.disk d (HoldsLeft h doing)) (sym still)
-        (subst (λ (b : PlainBook D). (h : CurrentOpening) → IsAt h (world_book b) → EachMoment moment left_since b.disk p.store.disk (HoldsLeft h doing)) is
-        (λ h at. still-left seen unsynced moment left_since h (world_book_of p) doing p.store.disk only i.images at))
-
-    pub openable-of : (new : PlainBook D) → new.disk ≡ p.store.disk → new.generation ≡ p.store.generation → new.size ≡ p.store.size → StaysOpenable moment left_since now new
-    openable-of new disk generation size = still-openable seen unsynced moment left_since (book_of p) now new is disk generation size only i.generations i.roomy
-
-    pub stays-of : StaysOpenable moment left_since now now
-    stays-of = subst (λ (b : PlainBook D). StaysOpenable moment left_since now b) is (openable-of (book_of p) refl refl refl)
-
-    pub quiet-of : (fault_count : D → ℕ) (new : PlainBook D) → new.disk ≡ p.store.disk → new.generation ≡ p.store.generation → new.size ≡ p.store.size → UsesDevice moment left_since seen fault_count false now new
-    quiet-of fault_count new disk generation size = uses-none moment left_since seen fault_count now new (openable-of new disk generation size) (disk ∙ sym disk-of)
-
-    pub rests-of : (fault_count : D → ℕ) → UsesDevice moment left_since seen fault_count false now now
-    rests-of fault_count = uses-none moment left_since seen fault_count now now stays-of refl
-
   -- nothing is pending
   module _ (free : now.pending ≡ []) where
     pub none-of : (world_book_of p).pending ≡ []
@@ -109,8 +87,26 @@ module _ {D : Type 0} {seen : D → List ℕ} {unsynced : D → ℕ → Bool} {p
     going-of = goes-on p.store.halted p.log p.acked i.halted all-of
 
     -- so each image holds what is kept
-    pub either-of : (moment : D → ℕ) (left_since : D → ℕ → List ℕ → Type 0) → ((c : List ℕ) → left_since p.store.disk (moment p.store.disk) c → IsImage (seen p.store.disk) (unsynced p.store.disk) c)
-        → (es : List PlainChange) (new : D) → new ≡ p.store.disk → EachMoment moment left_since now.disk new (HoldsEither now.whole.durable (after now.whole.durable es))
-    either-of moment left_since only es new still = subst (λ (d : D). EachMoment moment left_since now.disk d (HoldsEither now.whole.durable (after now.whole.durable es))) (sym still)
-        (subst (λ (b : PlainBook D). EachMoment moment left_since b.disk p.store.disk (HoldsEither b.whole.durable (after b.whole.durable es))) is
-        (still-either seen unsynced moment left_since (world_book_of p) es p.store.disk only i.images i.folded none-of))
+    pub either-of : (es : List PlainChange) (c : List ℕ) → IsImage (seen p.store.disk) (unsynced p.store.disk) c → HoldsEither now.whole.durable (after now.whole.durable es) c
+    either-of es c image = inl (subst (λ (b : PlainBook D). Holds c b.whole.durable) is (front-all (world_book_of p) i.folded none-of c (i.images c image)))
+
+  -- each image holds what some crash leaves
+  pub left-in : (doing : Doing) (c : List ℕ) → IsImage (seen p.store.disk) (unsynced p.store.disk) c → IsLeft (world_book now) doing c
+  left-in doing c image = subst (λ (b : PlainBook D). IsLeft (world_book b) doing c) is (record { left = λ h at. front-left h (world_book_of p) doing c at (i.images c image) })
+
+-- no call of the device was made
+module _ {D : Type 0} (device : Ghosts D) {p : BookParts D} {now : PlainBook D} (i : IsBook device.seen device.unsynced p) (is : book_of p ≡ now) {P : List ℕ → Type 0}
+    (only : (c : List ℕ) → device.left_since p.store.disk (device.moment p.store.disk) c → IsImage (device.seen p.store.disk) (device.unsynced p.store.disk) c)
+    (here : (c : List ℕ) → IsImage (device.seen p.store.disk) (device.unsynced p.store.disk) c → P c) where
+  pub quiet-of : (new : PlainBook D) → new.disk ≡ p.store.disk → new.generation ≡ p.store.generation → new.size ≡ p.store.size → UsesDevice device false now new P
+  quiet-of new disk generation size =
+      subst (λ (l : PlainBook D). UsesDevice device false l new P) is (record {
+        run = subst (λ (d : D). MayWrite device p.store.disk d 10 false (IsOfCall (book_of p) P)) (sym disk)
+            (unmoved device p.store.disk {P = IsOfCall (book_of p) P} only (λ c image. record { holds = here c image; early = i.generations c image; roomy = λ room. i.roomy room c image }));
+        stays = omega (arith, generation);
+        one_more = omega (arith, generation);
+        size = size;
+      })
+
+  pub rests-of : UsesDevice device false now now P
+  rests-of = subst (λ (l : PlainBook D). UsesDevice device false now l P) is (quiet-of (book_of p) refl refl refl)

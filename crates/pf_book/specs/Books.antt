@@ -1,14 +1,14 @@
 -- What contracts see of an opened device and of a Book, and what an image of its device holds.
-use Rattle.std.specs.Prelude.{◌≡◌, ◌⊎◌, ℕ, zero, suc, ◌+◌, ◌<◌, ◌≤◌, ◌^◌, Bool, true, false, nat_lt, if◌then◌else◌, List, [], ◌∷◌, ◌++◌, length, slice_get, sum, take, drop, map, flat_map, Vec, ⊤, Option, None, Result, Ok, Err}
+use Rattle.std.specs.Prelude.{◌≡◌, ◌⊎◌, ℕ, zero, suc, ◌+◌, ◌<◌, ◌≤◌, ◌^◌, Bool, true, false, nat_lt, List, [], ◌∷◌, ◌++◌, length, slice_get, sum, take, drop, map, flat_map, Vec, ⊤, Option, None, Result, Ok, Err}
 use Rattle.std.specs.declared.alloc.Global.{Global}
 use mathlib.Core.List.{IsPrefix}
 use Rattle.logbook.specs.Pages.{Book}
-use Rattle.pf_disk.specs.Disk.{EachMoment, IsImage}
+use Rattle.pf_disk.specs.{Disk.IsImage, Runs.MayWrite, declared.disk.Disk.Ghosts}
 use Rattle.pf_rule.specs.Packets.{PlainPacket}
 use Rattle.pf_ticket.specs.{Laws.Tickets.IsWithin as AreTicketsWithin, Mentions.{after as moved_by, switches}}
 use Rattle.pf_core.specs.declared.{command.Command.Command, command.Command.TheVariants.{Ask}, command.HistoryCommand.HistoryCommand, command.HistoryCommand.TheVariants.{Log, Publish}, command.Question.TheVariants.Judge, durable.verdict.Verdict.Verdict, reply.Outcome.Outcome, reply.Refusal.Refusal, group.TheConstants.GROUP_LIMIT, reply.Refusal.TheVariants.{HistoryFull, Full, Fault, Memory}, reply.Reply.Reply, reply.Reply.TheVariants.{Answer, Applied, Stored, Refused}}
 use Rattle.pf_core.specs.declared.reply.Answer.TheVariants as answer
-use Rattle.pf_core.specs.{Calls.{Call, call}, Durable.Changes.{PlainDurable, PlainChange, after, voided_by, verdict}, Laws.{Durable.IsWithin, Openings.Leaves}, Nexts.{PlainNext, next_with}, WorldBooks.{WorldBook, IsFolded}, Cores.PlainCore, Worlds.{Setting, CurrentOpening, Doing, flat, grouped, as_stored, is_fault, last_epoch, raised}}
+use Rattle.pf_core.specs.{Calls.{Call, call}, Durable.Changes.{PlainDurable, PlainChange, after, voided_by, verdict}, Laws.{Durable.IsWithin, Openings.Leaves}, Nexts.{PlainNext, next_with}, WorldBooks.{WorldBook, IsAt, IsFolded}, Cores.PlainCore, Worlds.{Setting, CurrentOpening, Doing, flat, grouped, as_stored, is_fault, last_epoch, raised}}
 use Rattle.pf_store.specs.declared.{store.fault.OpenFault.OpenFault, store.fault.OpenFault.TheVariants.Memory as OutOfMemory, store.fault.OpenFault.TheVariants.Places as Places}
 use Rattle.pf_store.specs.{Openings.{IsNoLaterThan, LeavesRoom}, Rooms.on_device, Stores.{Holds, IsRoomy}, StoreKept.{Stands, PlainStore}}
 use Rattle.pf_view.specs.Past.Pasts.{PlainFront, PlainTip, all_acked, no_changes}
@@ -27,6 +27,11 @@ pub record PlainOpening (D : Type 0) : Type 0 where
 
 abbrev pub opening_of : {D : Type 0} → PlainStore D → PlainDurable → Book → PlainOpening D
 opening_of store d history = record { disk = store.disk; given = d; size = store.size; generation = store.generation; history = history }
+
+-- the device that the result of an opening has, wherever it has it
+abbrev pub device_of : {D : Type 0} → Result (PlainOpening D) (OpenFault × D) → D
+device_of (Ok o) = o.disk
+device_of (Err e) = e.1
 
 -- the limits of an opening whose history may have `limit` changes
 abbrev pub setting_of : {D : Type 0} → PlainOpening D → ℕ → Setting
@@ -162,6 +167,10 @@ HoldsFront b image = (n : ℕ) × Holds image (after b.base (flat (b.acked ++ ta
 abbrev pub HoldsLeft : CurrentOpening → Doing → List ℕ → Type 0
 HoldsLeft h doing image = (d : PlainDurable) × Holds image d × Leaves h doing d
 
+-- The same of each opening that the Book is at.
+pub record IsLeft (b : WorldBook) (doing : Doing) (image : List ℕ) : Type 0 where
+  pub left : (h : CurrentOpening) → IsAt h b → HoldsLeft h doing image
+
 -- what a Book's type keeps (its invariant)
 pub record IsBook {D : Type 0} (seen : D → List ℕ) (unsynced : D → ℕ → Bool) (p : BookParts D) : Type 0 where
   pub folded : IsFolded (world_book_of p)
@@ -293,22 +302,19 @@ pub record Stays {D : Type 0} (e : Refusal) (old new : PlainBook D) : Type 0 whe
   pub same : is_fault e ≡ false → (world_book new ≡ world_book old) × (new.disk ≡ old.disk)
   pub pending : is_fault e ≡ true → (group : List PlainChange) × (world_book new ≡ record (world_book old) { pending = group ∷ [] })
 
--- What a later opening needs of a call: the bank's generation stays or is one greater, and banks have as many bytes as before; at each
--- moment each image has the next generation at the latest, and leaves room for an opening if what the last one gave does.
-pub record StaysOpenable {D : Type 0} (moment : D → ℕ) (left_since : D → ℕ → List ℕ → Type 0) (old new : PlainBook D) : Type 0 where
+-- An image during a call: P, by the next generation at the latest, and with room for an opening if what the last one gave leaves it.
+pub record IsOfCall {D : Type 0} (old : PlainBook D) (P : List ℕ → Type 0) (image : List ℕ) : Type 0 where
+  pub holds : P image
+  pub early : IsNoLaterThan (old.generation + 1) image
+  pub roomy : IsRoomy old.size old.base → LeavesRoom image
+
+-- What a call leaves of the device, which failed in it or didn't: at most ten moments later each image is one of the call; and the bank's
+-- generation stays or is one greater, and banks have as many bytes as before.
+pub record UsesDevice {D : Type 0} (device : Ghosts D) (failed : Bool) (old new : PlainBook D) (P : List ℕ → Type 0) : Type 0 where
+  pub run : MayWrite device old.disk new.disk 10 failed (IsOfCall old P)
   pub stays : old.generation ≤ new.generation
   pub one_more : new.generation ≤ old.generation + 1
   pub size : new.size ≡ old.size
-  pub early : EachMoment moment left_since old.disk new.disk (IsNoLaterThan (old.generation + 1))
-  pub roomy : IsRoomy old.size old.base → EachMoment moment left_since old.disk new.disk LeavesRoom
-
--- What a call leaves of the device, which failed in it or didn't: what a later opening needs; at most ten moments later, and as long.
-pub record UsesDevice {D : Type 0} (moment : D → ℕ) (left_since : D → ℕ → List ℕ → Type 0) (seen : D → List ℕ) (fault_count : D → ℕ)
-    (failed : Bool) (old new : PlainBook D) : Type 0 where
-  pub openable : StaysOpenable moment left_since old new
-  pub moments : moment new.disk ≤ moment old.disk + 10
-  pub same_size : length (seen new.disk) ≡ length (seen old.disk)
-  pub faults : fault_count new.disk ≡ fault_count old.disk + (if failed then 1 else 0)
 
 -- a Book of the same opening, with the same limits
 pub record KeepsOpening {D : Type 0} (old new : PlainBook D) : Type 0 where

@@ -8,6 +8,7 @@ pub mod Anchors
 pub mod Together
 -- what public clauses cite of the crates below
 pub use Rattle.pf_disk.specs.Disk
+pub use Rattle.pf_disk.specs.Runs
 pub use Rattle.pf_core.specs.Calls
 pub use Rattle.pf_core.specs.Durable.Changes
 pub use Rattle.pf_core.specs.WorldBooks

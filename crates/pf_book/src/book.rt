@@ -2,14 +2,14 @@
 //! `closed`.
 ghost use Rattle.std.specs.Prelude.{◌≡◌, ℕ, ◌+◌, ◌<◌, ◌≤◌, [], ◌∷◌, ◌++◌, List, All, Ok, true, false, IfOk, IfErr, IfSome, OnOk, OnErr, IsErrOf, MatchBool, MatchResult, length, map, take, slice_get, nat_lt, not, if◌then◌else◌};
 ghost use Rattle.std.specs.{Arc.arc_value, List.list_all, Option.option_map};
-ghost use Rattle.pf_disk.specs.Disk.{EachMoment, IsImage};
+ghost use Rattle.pf_disk.specs.Disk.{IsImage};
 ghost use Rattle.pf_core.specs.declared.reply.Refusal.TheVariants as told;
 ghost use Rattle.pf_core.specs.{Calls.call, Commands.may_change, Durable.Changes.{PlainDurable, applied, after, fits, verdict}, WorldBooks.{IsAt, IsFolded, StandsFor, Leads}, Cores.left_by, Worlds.{CurrentOpening, idle, calling, begun, upshot, Event, called, opened, is_fault, flat, raised, last_epoch, down, state_after, IsWorld, LegalReply, shown_by}};
 ghost use Rattle.pf_store.specs.declared.store.fault.OpenFault.TheVariants as open_fault;
 ghost use Rattle.pf_store.specs.{Groups.{can_be_wanted, is_group, made_all}, Stores.{FindsRoom, FollowInTurn, HoldsEither}};
 ghost use Rattle.pf_view.specs.Seers.{IsNewSeer, IsNewShower, JudgesBy};
 ghost use Rattle.pf_book.specs.Receipts.{IsGiven, IsReached};
-ghost use Rattle.pf_book.specs.Books.{world_book, HoldsLeft, HasRoom, HasNoRoom, left_together, IsMore, IsUnkept, IsUnshown, IsMade, IsTold, Stays, IsOpenable, KeepsOpening, StaysOpenable, StaysUnlessKept, UsesDevice, shows_all, change_in, log_in, is_fault_reply, is_fault_result, IsNumbered, IsJudged, IsNamed, setting_of, judging};
+ghost use Rattle.pf_book.specs.Books.{world_book, HoldsLeft, HasRoom, HasNoRoom, left_together, IsMore, IsUnkept, IsUnshown, IsMade, IsTold, Stays, IsLeft, IsOpenable, KeepsOpening, StaysUnlessKept, UsesDevice, shows_all, change_in, log_in, is_fault_reply, is_fault_result, IsNumbered, IsJudged, IsNamed, setting_of, judging};
 
 mod closed;
 mod groups;
@@ -197,9 +197,8 @@ impl<D: Disk + Drop, J: Chapter, S: Publisher<J> + Drop> Book<D, J, S> {
         ensures ok { OnOk result (HasRoom (world_book self.now) changes.now) }
         ensures found { OnOk result (FindsRoom self.now.size self.now.whole.durable next.now.durable changes.now) }
         ensures err { IfErr result (λ e. HasNoRoom e (world_book self.now) changes.now) }
-        ensures still { EachMoment D.moment D.left_since self.now.disk self.now.disk
+        ensures device { UsesDevice D.Disk false self.now self.now
             (HoldsEither self.now.whole.durable (after self.now.whole.durable changes.now)) }
-        ensures openable { StaysOpenable D.moment D.left_since self.now self.now }
     {
         if self.log.len() + changes.len() > self.limit {
             return Err(Refusal::HistoryFull);
@@ -222,10 +221,9 @@ impl<D: Disk + Drop, J: Chapter, S: Publisher<J> + Drop> Book<D, J, S> {
         ensures ok { OnOk result (IsMore (world_book self.old) (world_book self.new) (change ∷ [])) }
         ensures given { IfOk result (λ given. arc_value given ≡ change) }
         ensures err { IfErr result (λ e. IsUnkept e (world_book self.old) (world_book self.new) (change ∷ [])) }
-        ensures any_moment { EachMoment D.moment D.left_since self.old.disk self.new.disk
+        ensures device { UsesDevice D.Disk (is_fault_result result) self.old self.new
             (HoldsEither self.old.whole.durable (applied self.old.whole.durable change)) }
         ensures still { IfErr result (λ e. is_fault e ≡ false → self.new.disk ≡ self.old.disk) }
-        ensures device { UsesDevice D.moment D.left_since D.seen D.fault_count (is_fault_result result) self.old self.new }
     {
         self.find_room(from_ref(&change), &next)?;
         let change = share(self.alloc, change)?;
@@ -242,10 +240,9 @@ impl<D: Disk + Drop, J: Chapter, S: Publisher<J> + Drop> Book<D, J, S> {
         requires free { self.old.pending ≡ [] }
         ensures ok { OnOk result (IsMore (world_book self.old) (world_book self.new) (map arc_value changes.now)) }
         ensures err { IfErr result (λ e. IsUnkept e (world_book self.old) (world_book self.new) (map arc_value changes.now)) }
-        ensures any_moment { EachMoment D.moment D.left_since self.old.disk self.new.disk
+        ensures device { UsesDevice D.Disk (is_fault_result result) self.old self.new
             (HoldsEither self.old.whole.durable (after self.old.whole.durable (map arc_value changes.now))) }
         ensures still { IfErr result (λ e. is_fault e ≡ false → self.new.disk ≡ self.old.disk) }
-        ensures device { UsesDevice D.moment D.left_since D.seen D.fault_count (is_fault_result result) self.old self.new }
     {
         let Copies {
             logged,
@@ -307,10 +304,9 @@ impl<D: Disk + Drop, J: Chapter, S: Publisher<J> + Drop> Book<D, J, S> {
         requires free { self.old.pending ≡ [] }
         ensures made { IsMade result.0 outcome change (world_book self.old) (world_book self.new) }
         ensures given { IsGiven result.0 (option_map arc_value result.1) (world_book self.old) (world_book self.new) }
-        ensures any_moment { EachMoment D.moment D.left_since self.old.disk self.new.disk
+        ensures device { UsesDevice D.Disk (is_fault_reply result.0) self.old self.new
             (HoldsEither self.old.whole.durable (applied self.old.whole.durable change)) }
         ensures still { (e : Refusal) → result.0 ≡ Reply.Refused e → is_fault e ≡ false → self.new.disk ≡ self.old.disk }
-        ensures device { UsesDevice D.moment D.left_since D.seen D.fault_count (is_fault_reply result.0) self.old self.new }
     {
         match self.keep(change, next) {
             Ok(given) => {
@@ -353,11 +349,10 @@ impl<D: Disk + Drop, J: Chapter, S: Publisher<J> + Drop> Book<D, J, S> {
     fn call(&mut self, command: &Command) -> (Reply, Option<Arc<Change>>)
         ensures leads { (h : CurrentOpening) → IsAt h (world_book self.old) → Leads h (world_book self.new) (call command.now result.0)
             (upshot self.new.shown (nat_lt (D.fault_count self.old.disk) (D.fault_count self.new.disk))) }
-        ensures any_moment { (h : CurrentOpening) → IsAt h (world_book self.old) → EachMoment D.moment D.left_since self.old.disk self.new.disk (HoldsLeft h (calling command.now)) }
         ensures given { IsGiven result.0 (option_map arc_value result.1) (world_book self.old) (world_book self.new) }
         ensures numbered { IsNumbered result.0 (world_book self.new) }
         ensures judged { IsJudged self.old.whole.durable command.now result.0 }
-        ensures device { UsesDevice D.moment D.left_since D.seen D.fault_count (is_fault_reply result.0) self.old self.new }
+        ensures device { UsesDevice D.Disk (is_fault_reply result.0) self.old self.new (IsLeft (world_book self.old) (calling command.now)) }
         ensures opening { KeepsOpening self.old self.new }
         ensures stays { StaysUnlessKept result.0 self.old self.new }
     {
@@ -395,9 +390,9 @@ impl<D: Disk + Drop, J: Chapter, S: Publisher<J> + Drop> Book<D, J, S> {
         ensures legal { (h : CurrentOpening) → IsAt h (world_book self.old)
             → LegalReply h command result (nat_lt (D.fault_count self.old.disk) (D.fault_count self.new.disk)) }
 
-        // At each moment of the call an image holds what some crash within it leaves of the opening, and after it what a crash then leaves.
-        ensures any_moment { (h : CurrentOpening) → IsAt h (world_book self.old)
-            → EachMoment D.moment D.left_since self.old.disk self.new.disk (HoldsLeft h (calling command)) }
+        // At each moment of the call, ten at most, an image holds what some crash within it leaves of the opening, with what a later opening
+        // needs; and after it what a crash then leaves.
+        ensures device { UsesDevice D.Disk (is_fault_reply result) self.old self.new (IsLeft (world_book self.old) (calling command)) }
         ensures images { (h : CurrentOpening) → IsAt h (world_book self.new) → (c : List ℕ)
             → IsImage (D.seen self.new.disk) (D.unsynced self.new.disk) c → HoldsLeft h idle c }
 
@@ -408,15 +403,7 @@ impl<D: Disk + Drop, J: Chapter, S: Publisher<J> + Drop> Book<D, J, S> {
         ensures numbered { IsNumbered result (world_book self.new) }
         ensures judged { IsJudged self.old.whole.durable command result }
         ensures stays { StaysUnlessKept result self.old self.new }
-        ensures base { self.new.base ≡ self.old.base }
-        ensures setting { (world_book self.new).setting ≡ (world_book self.old).setting }
-
-        // What a later opening needs of each image, at each moment of the call.
-        ensures openable { StaysOpenable D.moment D.left_since self.old self.new }
-
-        ensures moments { D.moment self.new.disk ≤ D.moment self.old.disk + 10 }
-        ensures same_size { length (D.seen self.new.disk) ≡ length (D.seen self.old.disk) }
-        ensures faults { D.fault_count self.new.disk ≡ D.fault_count self.old.disk + (if is_fault_reply result then 1 else 0) }
+        ensures opening { KeepsOpening self.old self.new }
     {
         let (reply, _) = self.call(&command);
         // reading a field makes the Book's invariant known here

@@ -65,7 +65,7 @@ pub fn refused_openings_come_between()
 {}
 
 /// If an image that a crash leaves has a generation below 2^63 and room for an opening, then only want of memory, a fault of the device or
-/// an epoch that is the last one keeps it from being opened. An opening leaves as much room as it found, and the clause `openable` of
+/// an epoch that is the last one keeps it from being opened. An opening leaves as much room as it found, and the clause `device` of
 /// `Book::run` says the same of a call.
 pub fn left_images_are_refused_by_chance_alone()
     ensures chance { (h : CurrentOpening) (doing : Doing) (image : List ℕ) (generation : ℕ) (fault : OpenFault) → HoldsLeft h doing image

@@ -1,11 +1,12 @@
 //! A device that was opened.
-ghost use Rattle.std.specs.Prelude.{◌≡◌, ◌+◌, ◌^◌, ◌<◌, ◌≤◌, [], false, ℕ, List, length, IfOk, IfErr, if◌then◌else◌};
+ghost use Rattle.std.specs.Prelude.{◌≡◌, ◌+◌, ◌^◌, ◌<◌, ◌≤◌, [], false, ℕ, List, length, IfOk, IfErr};
 ghost use Rattle.std.specs.Arc.{arc_value};
-ghost use Rattle.pf_disk.specs.Disk.{EachMoment, IsImage};
+ghost use Rattle.pf_disk.specs.{Disk.{EachMoment, IsImage}, Runs.MayWrite};
 ghost use Rattle.pf_core.specs.{Durable.Changes.PlainDurable, Laws.Durable.IsWithin, Worlds.{last_epoch, raised}};
 ghost use Rattle.pf_store.specs.declared.store.fault.OpenFault.TheVariants.{BadSize, Memory, Places};
 ghost use Rattle.pf_view.specs.Past.Pasts.{all_acked};
-ghost use Rattle.pf_store.specs.{Banks.bank_size, Stores.{Holds}, StoreKept.Stands, StoreFaults.is_fault, Openings.{IsFull, IsNoLaterThan, IsOfOpening, IsUnopened, generation_of}};
+ghost use Rattle.pf_store.specs.{Banks.bank_size, Stores.{Holds}, StoreKept.Stands, StoreFaults.{is_fault, is_opening_fault}, Openings.{IsFull, IsNoLaterThan, IsOfOpening, IsUnopened, generation_of}};
+ghost use Rattle.pf_book.specs.Books.{device_of};
 
 use pf_core::Durable;
 use pf_disk::Disk;
@@ -59,18 +60,12 @@ impl<D: Disk> Opening<D> {
 
         // At each moment an image is one from the start, or holds what was read, its epoch perhaps one greater: with the generation that
         // was found or the next one, and with room for another opening if there was room.
-        ensures any_moment { IfOk result (λ o. EachMoment D.moment D.left_since disk o.disk (IsOfOpening (D.seen disk) (D.unsynced disk))) }
-        ensures any_moment_err { IfErr result (λ e. EachMoment D.moment D.left_since disk e.1 (IsOfOpening (D.seen disk) (D.unsynced disk))) }
+        ensures writes { MayWrite D.Disk disk (device_of result) 15 (is_opening_fault result) (IsOfOpening (D.seen disk) (D.unsynced disk)) }
 
         ensures refused { IfErr result (λ e. IsUnopened e.0 (D.seen disk)) }
         ensures untouched { IfErr result (λ e. is_fault e.0 ≡ false → (e.0 ≡ Memory → ⊥) → (D.seen e.1 ≡ D.seen disk)
             × EachMoment D.moment D.left_since disk e.1 (IsImage (D.seen disk) (D.unsynced disk))) }
         ensures unchanged_at_bad_size { IfErr result (λ e. e.0 ≡ BadSize → e.1 ≡ disk) }
-        ensures same_size { IfOk result (λ o. length (D.seen o.disk) ≡ length (D.seen disk)) }
-        ensures moments { IfOk result (λ o. D.moment o.disk ≤ D.moment disk + 15) }
-        ensures moments_err { IfErr result (λ e. D.moment e.1 ≤ D.moment disk + 15) }
-        ensures no_fault { IfOk result (λ o. D.fault_count o.disk ≡ D.fault_count disk) }
-        ensures fault { IfErr result (λ e. D.fault_count e.1 ≡ D.fault_count disk + (if is_fault e.0 then 1 else 0)) }
     {
         let (durable, store) = Store::open(alloc, disk)?;
         match Arc::new(alloc, durable) {
@@ -100,19 +95,12 @@ impl<D: Disk> Opening<D> {
         ensures generations { IfOk result (λ o. (c : List ℕ) → IsImage (D.seen o.disk) (D.unsynced o.disk) c → IsNoLaterThan o.generation c) }
         ensures size { IfOk result (λ o. o.size ≡ bank_size (length (D.seen o.disk))) }
         ensures room { IfOk result (λ o. (d : PlainDurable) → ¬ IsFull (D.seen before.disk) d) }
-        ensures any_moment { IfOk result (λ o. EachMoment D.moment D.left_since before.disk o.disk
-            (IsOfOpening (D.seen before.disk) (D.unsynced before.disk))) }
-        ensures any_moment_err { IfErr result (λ e. EachMoment D.moment D.left_since before.disk e.1
-            (IsOfOpening (D.seen before.disk) (D.unsynced before.disk))) }
+        ensures writes { MayWrite D.Disk before.disk (device_of result) 15 (is_opening_fault result)
+            (IsOfOpening (D.seen before.disk) (D.unsynced before.disk)) }
         ensures refused { IfErr result (λ e. IsUnopened e.0 (D.seen before.disk)) }
         ensures untouched { IfErr result (λ e. is_fault e.0 ≡ false → (e.0 ≡ Memory → ⊥) → (D.seen e.1 ≡ D.seen before.disk)
             × EachMoment D.moment D.left_since before.disk e.1 (IsImage (D.seen before.disk) (D.unsynced before.disk))) }
         ensures unchanged_at_bad_size { IfErr result (λ e. e.0 ≡ BadSize → e.1 ≡ before.disk) }
-        ensures same_size { IfOk result (λ o. length (D.seen o.disk) ≡ length (D.seen before.disk)) }
-        ensures moments { IfOk result (λ o. D.moment o.disk ≤ D.moment before.disk + 15) }
-        ensures moments_err { IfErr result (λ e. D.moment e.1 ≤ D.moment before.disk + 15) }
-        ensures no_fault { IfOk result (λ o. D.fault_count o.disk ≡ D.fault_count before.disk) }
-        ensures fault { IfErr result (λ e. D.fault_count e.1 ≡ D.fault_count before.disk + (if is_fault e.0 then 1 else 0)) }
     {
         let (durable, store) = before.open_again(alloc, kept)?;
         match Arc::new(alloc, durable) {

@@ -1,8 +1,8 @@
 //! A Book that threads share.
 ghost use Rattle.std.specs.{Option.option_copied, Prelude.{◌≡◌, ℕ, List, Option, nat_lt}};
-ghost use Rattle.pf_disk.specs.Disk.{EachMoment, IsImage};
+ghost use Rattle.pf_disk.specs.Disk.{IsImage};
 ghost use Rattle.pf_core.specs.{Calls.call, WorldBooks.{IsAt, Leads, LeadsGroup}, Worlds.{CurrentOpening, idle, calling, grouping, upshot}};
-ghost use Rattle.pf_book.specs.{Anchors.{SaysAnchors, listed_in}, Books.{HoldsLeft, IsOpenable, StaysOpenable, StaysUnlessAnyKept, StaysUnlessKept, world_book}, Groups.{IsGroupAnswered, replies_of, told}, Receipts.{IsReached, IsAnswered, TakesUp, PlainReceipt}, Statuses.SaysStatus, Together.IsAnsweredTogether};
+ghost use Rattle.pf_book.specs.{Anchors.{SaysAnchors, listed_in}, Books.{HoldsLeft, IsLeft, IsOpenable, StaysUnlessAnyKept, StaysUnlessKept, UsesDevice, is_fault_reply, is_fault_result, world_book}, Groups.{IsGroupAnswered, replies_of, told}, Receipts.{IsReached, IsAnswered, TakesUp, PlainReceipt}, Statuses.SaysStatus, Together.IsAnsweredTogether};
 
 mod together;
 
@@ -43,9 +43,7 @@ impl<D: Disk + Drop, J: Chapter, S: Publisher<J> + Drop> Locked<D, J, S> {
         ensures answered { IsAnswered J.base J.setting command.now result.0 result.1 (option_copied last.entry) }
         ensures leads { (h : CurrentOpening) → IsAt h (world_book self.old) → Leads h (world_book self.new) (call command.now result.0)
             (upshot self.new.shown (nat_lt (D.fault_count self.old.disk) (D.fault_count self.new.disk))) }
-        ensures any_moment { (h : CurrentOpening) → IsAt h (world_book self.old)
-            → EachMoment D.moment D.left_since self.old.disk self.new.disk (HoldsLeft h (calling command.now)) }
-        ensures openable { StaysOpenable D.moment D.left_since self.old self.new }
+        ensures device { UsesDevice D.Disk (is_fault_reply result.0) self.old self.new (IsLeft (world_book self.old) (calling command.now)) }
         ensures stays { StaysUnlessKept result.0 self.old self.new }
     {
         let answer = self.book.answer(command, last);
@@ -62,9 +60,8 @@ impl<D: Disk + Drop, J: Chapter, S: Publisher<J> + Drop> Locked<D, J, S> {
         ensures answered { IsGroupAnswered J.base J.setting commands.now (told result) (option_copied last.entry) }
         ensures leads { (h : CurrentOpening) → IsAt h (world_book self.old) → LeadsGroup h (world_book self.new) commands.now (replies_of (told result))
             (upshot self.new.shown (nat_lt (D.fault_count self.old.disk) (D.fault_count self.new.disk))) }
-        ensures any_moment { (h : CurrentOpening) → IsAt h (world_book self.old)
-            → EachMoment D.moment D.left_since self.old.disk self.new.disk (HoldsLeft h (grouping commands.now)) }
-        ensures openable { StaysOpenable D.moment D.left_since self.old self.new }
+        ensures device { UsesDevice D.Disk (is_fault_result result) self.old self.new
+            (IsLeft (world_book self.old) (grouping commands.now)) }
         ensures stays { StaysUnlessAnyKept (replies_of (told result)) self.old self.new }
     {
         let answers = self.book.answer_all(commands, last);
@@ -79,9 +76,8 @@ impl<D: Disk + Drop, J: Chapter, S: Publisher<J> + Drop> Locked<D, J, S> {
             → IsGroupAnswered J.base J.setting commands.now (told result) last }
         ensures leads { (h : CurrentOpening) → IsAt h (world_book self.old) → LeadsGroup h (world_book self.new) commands.now (replies_of (told result))
             (upshot self.new.shown (nat_lt (D.fault_count self.old.disk) (D.fault_count self.new.disk))) }
-        ensures any_moment { (h : CurrentOpening) → IsAt h (world_book self.old)
-            → EachMoment D.moment D.left_since self.old.disk self.new.disk (HoldsLeft h (grouping commands.now)) }
-        ensures openable { StaysOpenable D.moment D.left_since self.old self.new }
+        ensures device { UsesDevice D.Disk (is_fault_result result) self.old self.new
+            (IsLeft (world_book self.old) (grouping commands.now)) }
         ensures stays { StaysUnlessAnyKept (replies_of (told result)) self.old self.new }
     {
         let answers = self.book.answer_each(commands);

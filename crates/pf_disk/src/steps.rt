@@ -1,6 +1,6 @@
 // A write and the sync after it, as one step: what the layers above are made of.
-ghost use Rattle.std.specs.Prelude.{◌≡◌, ◌&&◌, ◌+◌, ◌^◌, ◌<◌, ◌≤◌, true, false, length, OnOk};
-ghost use Rattle.pf_disk.specs.Disk.{IsImage, IsSynced, is_within, overwritten, CountsFault, EachMoment};
+ghost use Rattle.std.specs.Prelude.{◌≡◌, ◌+◌, ◌^◌, ◌<◌, ◌≤◌, length, is_err, OnOk};
+ghost use Rattle.pf_disk.specs.{Disk.{IsImage, IsSynced, is_within, overwritten}, Runs.MayWrite};
 
 use crate::{Disk, DiskFault};
 
@@ -12,10 +12,7 @@ pub fn write_synced<D: Disk>(disk: &mut D, at: usize, bytes: &[u8]) -> Result<()
     requires few { D.fault_count disk.old < 2 ^ 63 }
     ensures written { OnOk result (D.seen disk.new ≡ overwritten (D.seen disk.old) at bytes.now) }
     ensures synced { OnOk result (IsSynced (D.unsynced disk.new)) }
-    ensures elsewhere { IsImage (D.seen disk.old) (is_within at (length bytes.now)) (D.seen disk.new) }
-    ensures any_moment { EachMoment D.moment D.left_since disk.old disk.new (IsImage (D.seen disk.old) (is_within at (length bytes.now))) }
-    ensures moments { D.moment disk.new ≤ D.moment disk.old + 2 }
-    ensures faults { CountsFault result (D.fault_count disk.old) (D.fault_count disk.new) }
+    ensures writes { MayWrite D.Disk disk.old disk.new 2 (is_err result) (IsImage (D.seen disk.old) (is_within at (length bytes.now))) }
 {
     disk.write_at(at, bytes)?;
     disk.sync()

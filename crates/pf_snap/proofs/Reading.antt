@@ -1,7 +1,7 @@
 -- Calls that only read, one after the other.
-use Rattle.std.proofs.Common.{ℕ, ◌+◌, ◌≤◌, Bool, false, List, sym, ◌∙◌, subst, arith}
-use Rattle.pf_disk.specs.{Disk.IsImage, Reads.OnlyReads, declared.disk.Disk.Ghosts}
-use Rattle.pf_disk.proofs.Moments.{and_then, weakened}
+use Rattle.std.proofs.Common.{ℕ, ◌+◌, ◌≤◌, Bool, false, List, ◌∙◌, subst}
+use Rattle.pf_disk.specs.{Disk.IsImage, Runs.OnlyReads, declared.disk.Disk.Ghosts}
+use Rattle.pf_disk.proofs.Writing.{and_then, weakened}
 
 module _ {D : Type 0} (device : Ghosts D) where
   -- an image of a device that reads as another did, with no more unsynced
@@ -18,9 +18,5 @@ module _ {D : Type 0} (device : Ghosts D) where
     seen = second.seen ∙ first.seen;
     unsynced = λ i out. second.unsynced i (first.unsynced i out);
     still = λ i out. first.still i (second.still i out);
-    any_moment = and_then device.moment device.left_since old mid new (IsImage (device.seen old) (device.unsynced old)) first.any_moment
-        (weakened device.moment device.left_since mid new (IsImage (device.seen mid) (device.unsynced mid)) (IsImage (device.seen old) (device.unsynced old))
-        second.any_moment (image_before old mid m false first));
-    moments = omega (arith, first.moments, second.moments, few);
-    faults = omega (arith, first.faults, second.faults);
+    run = and_then first.run (weakened second.run (image_before old mid m false first)) few;
   }

@@ -1,10 +1,10 @@
 //! Opening a device, adding records to the bank that counts, and switching to the other one.
-ghost use Rattle.std.specs.Prelude.{◌≡◌, ◌↔◌, ◌+◌, ◌^◌, ◌<◌, ◌≤◌, true, false, List, ℕ, length, IfOk, IfErr, OnOk, OnErr, IsErrOf};
+ghost use Rattle.std.specs.Prelude.{◌≡◌, ◌↔◌, ◌+◌, ◌^◌, ◌<◌, ◌≤◌, ◌++◌, [], ◌∷◌, true, false, List, ℕ, length, is_err, IfOk, IfErr, OnOk, OnErr, IsErrOf};
 ghost use Rattle.std.specs.Prelude.{MatchResult, if◌then◌else◌};
-ghost use Rattle.pf_disk.specs.{Disk.{CountsFault, EachMoment, IsImage, IsSynced, is_within}, Reads.WritesNothing};
-ghost use Rattle.pf_journal.specs.{Faults.is_append_fault, Journal.IsOf};
-ghost use Rattle.pf_snap.specs.Banks.{bank_size, Content, with_payload, switched, Holds, HoldsAt, HoldsEither};
-ghost use Rattle.pf_snap.specs.{Ready.{IsReady, IsNext, Keeps}, Looked.{IsFound, content_of}};
+ghost use Rattle.pf_disk.specs.{Disk.IsSynced, Runs.{MayWrite, WritesNothing}};
+ghost use Rattle.pf_journal.specs.{Faults.is_append_fault, Journal.IsOf, Records.counted, declared.journal.TheConstants.CLOSED_GATE};
+ghost use Rattle.pf_snap.specs.Banks.{bank_size, behind_gate, Content, with_payload, switched, Holds, HoldsAt};
+ghost use Rattle.pf_snap.specs.{Ready.{IsReady, IsNext, IsOfAppend, IsOfSwitch, IsSameBank, IsTurned, Keeps}, Looked.{IsFound, content_of}};
 ghost use Rattle.pf_snap.specs.Faults.{IsRefused, is_fault, is_switch_fault};
 ghost use Rattle.pf_snap.specs.declared.fault.LookFault.TheVariants as looking;
 
@@ -82,36 +82,17 @@ impl<D: Disk> Banks<D> {
         requires early { self.old.generation + 1 < 2 ^ 64 }
         requires few { D.fault_count self.old.journal.disk < 2 ^ 63 }
 
-        // At each moment of the call an image holds what it held, or the new snapshot and no payload.
-        ensures any_moment { (content : Content) (snapshot : List ℕ) → Keeps D.seen self.old content
-            → IsNext self.old.generation next.now snapshot
-            → EachMoment D.moment D.left_since self.old.journal.disk self.new.journal.disk
-            (HoldsEither content (switched content NEWEST snapshot)) }
+        // At each moment of the call an image differs from the read before only in the other bank, and holds what it held, or the new
+        // snapshot and no payload; so does the read after it.
+        ensures writes { MayWrite D.Disk self.old.journal.disk self.new.journal.disk (if self.old.other_is_open then 6 else 4) (is_err result)
+            (IsOfSwitch D.seen self.old next.now.behind.items) }
 
-        // At each moment of the call an image differs from the read before only in the other bank; so does the read after it.
-        ensures elsewhere { EachMoment D.moment D.left_since self.old.journal.disk self.new.journal.disk
-            (IsImage (D.seen self.old.journal.disk) (is_within self.old.other (BANK_HEADER + next.now.length + 1))) }
-        ensures seen_elsewhere { IsImage (D.seen self.old.journal.disk) (is_within self.old.other (BANK_HEADER + next.now.length + 1))
-            (D.seen self.new.journal.disk) }
-
-        // After `Ok` each image holds the snapshot, and so does the read.
-        ensures images { OnOk result ((content : Content) (snapshot : List ℕ) → Keeps D.seen self.old content
-            → IsNext self.old.generation next.now snapshot → (c : List ℕ)
-            → IsImage (D.seen self.new.journal.disk) (D.unsynced self.new.journal.disk) c
-            → Holds c (switched content NEWEST snapshot)) }
+        // After `Ok` the read holds the snapshot, and so does each image, as nothing is unsynced.
         ensures kept { OnOk result ((content : Content) (snapshot : List ℕ) → Keeps D.seen self.old content
             → IsNext self.old.generation next.now snapshot → Keeps D.seen self.new (switched content NEWEST snapshot)) }
         ensures ready { OnOk result (IsReady D.seen D.unsynced self.new) }
-
-        ensures turned { OnOk result ((self.new.at ≡ self.old.other) × (self.new.other ≡ self.old.at)) }
-        ensures generation { OnOk result (self.new.generation ≡ self.old.generation + 1) }
+        ensures turned { OnOk result (IsTurned D.seen self.old self.new next.now.length) }
         ensures same_generation { OnErr result (self.new.generation ≡ self.old.generation) }
-        ensures version { OnOk result (self.new.version ≡ NEWEST) }
-        ensures gate { OnOk result (self.new.journal.gate ≡ self.old.other + BANK_HEADER + next.now.length) }
-        ensures end { OnOk result (self.new.journal.end ≡ self.old.other + bank_size (length (D.seen self.old.journal.disk))) }
-        ensures same_size { length (D.seen self.new.journal.disk) ≡ length (D.seen self.old.journal.disk) }
-        ensures moments { D.moment self.new.journal.disk ≤ D.moment self.old.journal.disk + (if self.old.other_is_open then 6 else 4) }
-        ensures faults { CountsFault result (D.fault_count self.old.journal.disk) (D.fault_count self.new.journal.disk) }
     {
         begin_bank(
             &mut self.journal.disk,
@@ -139,36 +120,18 @@ impl<D: Disk> Banks<D> {
         requires early { self.old.generation + 1 < 2 ^ 64 }
         requires few { D.fault_count self.old.journal.disk < 2 ^ 63 }
 
-        // At each moment of the call an image holds what it held, or this snapshot and no payload.
-        ensures any_moment { (content : Content) → Keeps D.seen self.old content
-            → EachMoment D.moment D.left_since self.old.journal.disk self.new.journal.disk
-            (HoldsEither content (switched content NEWEST snapshot.now)) }
+        // At each moment of the call an image differs from the read before only in the other bank, and holds what it held, or this snapshot
+        // and no payload; so does the read after it.
+        ensures writes { MayWrite D.Disk self.old.journal.disk self.new.journal.disk (if self.old.other_is_open then 6 else 4)
+            (is_switch_fault result) (IsOfSwitch D.seen self.old (behind_gate NEWEST (self.old.generation + 1) snapshot.now)) }
 
-        // At each moment of the call an image differs from the read before only in the other bank; so does the read after it.
-        ensures elsewhere { EachMoment D.moment D.left_since self.old.journal.disk self.new.journal.disk
-            (IsImage (D.seen self.old.journal.disk) (is_within self.old.other (BANK_HEADER + length snapshot.now + 1))) }
-        ensures seen_elsewhere { IsImage (D.seen self.old.journal.disk) (is_within self.old.other (BANK_HEADER + length snapshot.now + 1))
-            (D.seen self.new.journal.disk) }
-
-        // After `Ok` each image holds the snapshot, and so does the read.
-        ensures images { OnOk result ((content : Content) → Keeps D.seen self.old content → (c : List ℕ)
-            → IsImage (D.seen self.new.journal.disk) (D.unsynced self.new.journal.disk) c
-            → Holds c (switched content NEWEST snapshot.now)) }
+        // After `Ok` the read holds the snapshot, and so does each image, as nothing is unsynced.
         ensures kept { OnOk result ((content : Content) → Keeps D.seen self.old content
             → Keeps D.seen self.new (switched content NEWEST snapshot.now)) }
         ensures ready { OnOk result (IsReady D.seen D.unsynced self.new) }
-
-        ensures turned { OnOk result ((self.new.at ≡ self.old.other) × (self.new.other ≡ self.old.at)) }
-        ensures generation { OnOk result (self.new.generation ≡ self.old.generation + 1) }
+        ensures turned { OnOk result (IsTurned D.seen self.old self.new (length snapshot.now)) }
         ensures same_generation { OnErr result (self.new.generation ≡ self.old.generation) }
-        ensures version { OnOk result (self.new.version ≡ NEWEST) }
-        ensures gate { OnOk result (self.new.journal.gate ≡ self.old.other + BANK_HEADER + length snapshot.now) }
-        ensures end { OnOk result (self.new.journal.end ≡ self.old.other + bank_size (length (D.seen self.old.journal.disk))) }
-        ensures unchanged_without_memory { IsErrOf result SwitchFault.Memory → self.new ≡ self.old }
-        ensures same_size { length (D.seen self.new.journal.disk) ≡ length (D.seen self.old.journal.disk) }
-        ensures moments { D.moment self.new.journal.disk ≤ D.moment self.old.journal.disk + (if self.old.other_is_open then 6 else 4) }
-        ensures faults { D.fault_count self.new.journal.disk
-            ≡ D.fault_count self.old.journal.disk + (if is_switch_fault result then 1 else 0) }
+        ensures refused { OnErr result (is_switch_fault result ≡ false → self.new ≡ self.old) }
     {
         let next = self.prepare(alloc, snapshot)?;
         match self.begin(&next) {
@@ -185,37 +148,21 @@ impl<D: Disk> Banks<D> {
         requires ready { IsReady D.seen D.unsynced self.old }
         requires few { D.fault_count self.old.journal.disk < 2 ^ 63 }
 
-        // At each moment of the call an image holds what it held, or that with this payload.
-        ensures any_moment { (content : Content) → Keeps D.seen self.old content
-            → EachMoment D.moment D.left_since self.old.journal.disk self.new.journal.disk
-            (HoldsEither content (with_payload content payload.now)) }
+        // At each moment of the call an image differs from the read before only from the gate to the next one, and holds what it held, or
+        // that with this payload; so does the read after it.
+        ensures writes { MayWrite D.Disk self.old.journal.disk self.new.journal.disk 4 (is_append_fault result)
+            (IsOfAppend D.seen self.old (counted payload.now ++ CLOSED_GATE ∷ [])) }
 
-        // At each moment of the call an image differs from the read before only from the gate to the next one; so does the read after it.
-        ensures elsewhere { EachMoment D.moment D.left_since self.old.journal.disk self.new.journal.disk
-            (IsImage (D.seen self.old.journal.disk) (is_within self.old.journal.gate (6 + length payload.now))) }
-        ensures seen_elsewhere { IsImage (D.seen self.old.journal.disk) (is_within self.old.journal.gate (6 + length payload.now))
-            (D.seen self.new.journal.disk) }
-
-        // After `Ok` each image has the payload, and so does the read.
-        ensures images { OnOk result ((content : Content) → Keeps D.seen self.old content → (c : List ℕ)
-            → IsImage (D.seen self.new.journal.disk) (D.unsynced self.new.journal.disk) c
-            → Holds c (with_payload content payload.now)) }
+        // After `Ok` the read has the payload, and so has each image, as nothing is unsynced.
         ensures kept { OnOk result ((content : Content) → Keeps D.seen self.old content
             → Keeps D.seen self.new (with_payload content payload.now)) }
         ensures ready { OnOk result (IsReady D.seen D.unsynced self.new) }
 
-        ensures same_bank { (self.new.at ≡ self.old.at) × (self.new.other ≡ self.old.other) × (self.new.other_is_open ≡ self.old.other_is_open)
-            × (self.new.version ≡ self.old.version) × (self.new.generation ≡ self.old.generation)
-            × (self.new.journal.start ≡ self.old.journal.start) × (self.new.journal.end ≡ self.old.journal.end) }
+        ensures same_bank { IsSameBank self.old self.new }
         ensures gate { MatchResult result (λ _. self.new.journal.gate ≡ self.old.journal.gate + 5 + length payload.now)
             (λ _. self.new.journal.gate ≡ self.old.journal.gate) }
         ensures no_room { IsErrOf result AppendFault.NoRoom ↔ (self.old.journal.end < self.old.journal.gate + 6 + length payload.now) }
-        ensures unchanged_without_room { IsErrOf result AppendFault.NoRoom → self.new ≡ self.old }
-        ensures unchanged_without_memory { IsErrOf result AppendFault.Memory → self.new ≡ self.old }
-        ensures same_size { length (D.seen self.new.journal.disk) ≡ length (D.seen self.old.journal.disk) }
-        ensures moments { D.moment self.new.journal.disk ≤ D.moment self.old.journal.disk + 4 }
-        ensures faults { D.fault_count self.new.journal.disk
-            ≡ D.fault_count self.old.journal.disk + (if is_append_fault result then 1 else 0) }
+        ensures refused { OnErr result (is_append_fault result ≡ false → self.new ≡ self.old) }
     {
         self.journal.append(alloc, payload)
     }
@@ -231,33 +178,19 @@ impl<D: Disk> Banks<D> {
         requires some { 0 < length next.now.behind.items }
         requires few { D.fault_count self.old.journal.disk < 2 ^ 63 }
 
-        // At each moment of the call an image holds what it held, or that with this payload.
-        ensures any_moment { (content : Content) (payload : List ℕ) → Keeps D.seen self.old content → IsOf payload next.now
-            → EachMoment D.moment D.left_since self.old.journal.disk self.new.journal.disk
-            (HoldsEither content (with_payload content payload)) }
+        // At each moment of the call an image differs from the read before only from the gate to the next one, and holds what it held, or
+        // that with the record's payload; so does the read after it.
+        ensures writes { MayWrite D.Disk self.old.journal.disk self.new.journal.disk 4 (is_err result)
+            (IsOfAppend D.seen self.old next.now.behind.items) }
 
-        // At each moment of the call an image differs from the read before only from the gate to the next one; so does the read after it.
-        ensures elsewhere { EachMoment D.moment D.left_since self.old.journal.disk self.new.journal.disk
-            (IsImage (D.seen self.old.journal.disk) (is_within self.old.journal.gate (1 + length next.now.behind.items))) }
-        ensures seen_elsewhere { IsImage (D.seen self.old.journal.disk) (is_within self.old.journal.gate (1 + length next.now.behind.items))
-            (D.seen self.new.journal.disk) }
-
-        // After `Ok` each image has the payload, and so does the read.
-        ensures images { OnOk result ((content : Content) (payload : List ℕ) → Keeps D.seen self.old content → IsOf payload next.now
-            → (c : List ℕ) → IsImage (D.seen self.new.journal.disk) (D.unsynced self.new.journal.disk) c
-            → Holds c (with_payload content payload)) }
+        // After `Ok` the read has the payload, and so has each image, as nothing is unsynced.
         ensures kept { OnOk result ((content : Content) (payload : List ℕ) → Keeps D.seen self.old content → IsOf payload next.now
             → Keeps D.seen self.new (with_payload content payload)) }
         ensures ready { OnOk result (IsReady D.seen D.unsynced self.new) }
 
-        ensures same_bank { (self.new.at ≡ self.old.at) × (self.new.other ≡ self.old.other) × (self.new.other_is_open ≡ self.old.other_is_open)
-            × (self.new.version ≡ self.old.version) × (self.new.generation ≡ self.old.generation)
-            × (self.new.journal.start ≡ self.old.journal.start) × (self.new.journal.end ≡ self.old.journal.end) }
+        ensures same_bank { IsSameBank self.old self.new }
         ensures gate { MatchResult result (λ _. self.new.journal.gate ≡ self.old.journal.gate + length next.now.behind.items)
             (λ _. self.new.journal.gate ≡ self.old.journal.gate) }
-        ensures same_size { length (D.seen self.new.journal.disk) ≡ length (D.seen self.old.journal.disk) }
-        ensures moments { D.moment self.new.journal.disk ≤ D.moment self.old.journal.disk + 4 }
-        ensures faults { CountsFault result (D.fault_count self.old.journal.disk) (D.fault_count self.new.journal.disk) }
     {
         self.journal.append_record(next)
     }

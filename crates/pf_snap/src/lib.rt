@@ -29,8 +29,8 @@
 //! What is proved, for every device that keeps the contract of `pf_disk::Disk`:
 //!
 //! - A crash during an append or a switch leaves what was held or what is to be held, nothing else; after `Ok` it is the latter
-//!   (`any_moment`, `images` and `kept` of [`Banks::append`] and [`Banks::switch`]).
-//! - A crash during a format leaves all but the gates as it was, or both gates closed, or the new bank (`any_moment` of [`format`]).
+//!   (`writes` and `kept` of [`Banks::append`] and [`Banks::switch`]).
+//! - A crash during a format leaves all but the gates as it was, or both gates closed, or the new bank (`writes` of [`format`]).
 //! - A look returns what is there, and says `broken` exactly where nothing is held ([`look`], [`Banks::open`]).
 //! - An image holds at most one content ([`image_holds_one_content`]), and a look at one fails only when out of memory or by a fault of
 //!   the device, for generations below 2^63 ([`content_is_refused_by_chance_alone`]).

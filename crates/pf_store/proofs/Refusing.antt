@@ -1,5 +1,5 @@
 -- An image that holds something isn't refused as one that holds nothing.
-use Rattle.std.proofs.Common.{◌≡◌, ◌≢◌, ◌⊎◌, ⊎_elim, ◌+◌, ◌^◌, ◌<◌, inl, inr, ℕ, List, length, refl, ◌∙◌, ap, subst, arith}
+use Rattle.std.proofs.Common.{◌≡◌, ◌≢◌, ◌⊎◌, ⊎_elim, ◌+◌, ◌^◌, ◌<◌, inl, inr, ℕ, false, List, length, refl, ◌∙◌, ap, subst, arith}
 use Rattle.pf_journal.specs.Records.{records, region, IsFront, StandsFor}
 use Rattle.pf_journal.proofs.Parsing.{one_front, front_of}
 use Rattle.pf_snap.specs.{Banks.{AreBanks, Content, Counts, HasSnapshot, IsSize, bank_size, records_start}, Faults.IsRefused, declared.fault.LookFault.LookFault}
@@ -8,7 +8,7 @@ use Rattle.pf_snap.specs.declared.fault.LookFault.TheVariants as looking
 use Rattle.pf_snap.proofs.Holding.{one_place, one_content}
 use Rattle.pf_snap.proofs.Holding as holding
 use Rattle.pf_core.specs.{Durable.Changes.{PlainDurable}, Worlds.last_epoch}
-use Rattle.pf_store.specs.{Durables.IsDurable, Stores.{Holds, IsRoomy, Leads, Makes}, StoreFaults.{BreaksOff, SaysNone}, Openings.{BreaksBehind, IsFull, IsUnopened, MakesNone, gate_of, generation_of}}
+use Rattle.pf_store.specs.{Durables.IsDurable, Stores.{Holds, IsRoomy, Leads, Makes}, StoreFaults.{BreaksOff, SaysNone, is_fault}, Openings.{BreaksBehind, IsFull, IsUnopened, MakesNone, gate_of, generation_of}}
 use Rattle.pf_store.specs.declared.store.fault.OpenFault.{OpenFault}
 use Rattle.pf_store.specs.declared.store.fault.OpenFault.TheVariants.{BadSize, NoBank, Corrupt, Memory, Fault, EpochsExhausted, Full, Places}
 use Rattle.pf_store.proofs.{Durables.one_durable, Leading.{one_made, stopped}}
@@ -67,6 +67,11 @@ breaks_off Fault P Q tell off = off
 breaks_off EpochsExhausted P Q tell off = off
 breaks_off Full P Q tell off = off
 breaks_off Places P Q tell off = off
+
+-- no call failed
+pub calm : (e : OpenFault) (P : ℕ → Type 0) → BreaksOff e P → is_fault e ≡ false
+calm Fault P off = absurd off
+calm e P off = refl
 
 -- ---- a look found something, but no state in it
 

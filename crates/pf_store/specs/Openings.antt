@@ -6,7 +6,7 @@ use Rattle.pf_snap.specs.{Banks.{AreBanks, Content, Counts, HasSnapshot, bank_si
 use Rattle.pf_snap.specs.Banks as snap
 use Rattle.pf_snap.specs.declared.fault.LookFault.TheVariants as looking
 use Rattle.pf_core.specs.{Durable.Changes.{PlainDurable}, Worlds.{down, refused_opening, last_epoch, raised, next, IsLegal}}
-use Rattle.pf_store.specs.{Durables.IsDurable, Groups.IsRecorded, Lengths.snapshot_length, Stores.{FollowInTurn, Holds, HoldsEither, IsRoomy, Leads, Makes}}
+use Rattle.pf_store.specs.{Durables.IsDurable, Groups.IsRecorded, Lengths.snapshot_length, Stores.{FollowInTurn, Holds, HoldsEither, IsRoomy, Leads, Makes, left_by_all}}
 use Rattle.pf_store.specs.declared.{groups.recorded.Recorded.Recorded, store.fault.OpenFault.OpenFault, store.fault.OpenFault.TheVariants.{BadSize, NoBank, Corrupt, Memory, Fault, EpochsExhausted, Full, Places}}
 use Rattle.pf_store.specs.declared.limits.TheConstants.{OPENING_RECORD}
 
@@ -77,6 +77,21 @@ IsAsLongAs seen image = length image ≡ length seen
 -- A bank has 56 bytes left after a snapshot of what the image holds.
 abbrev pub LeavesRoom : List ℕ → Type 0
 LeavesRoom image = (d : PlainDurable) → Holds image d → IsRoomy (bank_size (length image)) d
+
+-- H is true of the image, which is as long as this one, and what it holds it holds by a generation of at most g.
+pub record HoldsBy (seen : List ℕ) (g : ℕ) (H : List ℕ → Type 0) (image : List ℕ) : Type 0 where
+  pub long : IsAsLongAs seen image
+  pub generation : IsNoLaterThan g image
+  pub holds : H image
+
+-- It holds what was kept, or what any group leaves of it whose record was added.
+pub record HoldsAdded (IsAdded : List Recorded → Type 0) (d : PlainDurable) (image : List ℕ) : Type 0 where
+  pub either : (xs : List Recorded) → IsAdded xs → FollowInTurn d xs → HoldsEither d (left_by_all d xs) image
+
+-- An image while changes are saved: it holds what was kept before or what is kept after them, and leaves room if the read before did.
+pub record IsOfSave (seen : List ℕ) (g : ℕ) (before after : PlainDurable) (image : List ℕ) : Type 0 where
+  pub by : HoldsBy seen g (HoldsEither before after) image
+  pub roomy : LeavesRoom seen → LeavesRoom image
 
 -- The record of an opening has room after the others in the bank that counts.
 abbrev pub HasRoomHere : (seen : List ℕ) (d : PlainDurable) → Holds seen d → Type 0

@@ -43,6 +43,11 @@ abbrev pub is_open_fault : {T : Type 0} → Result T OpenFault → Bool
 is_open_fault (Ok x) = false
 is_open_fault (Err e) = is_fault e
 
+-- the same where the device comes with the error
+abbrev pub is_opening_fault : {T X : Type 0} → Result T (OpenFault × X) → Bool
+is_opening_fault (Ok x) = false
+is_opening_fault (Err e) = is_fault e.0
+
 -- it says that nothing that can be kept is held by a generation below 2^63
 abbrev pub SaysNone : OpenFault → Type 0
 SaysNone BadSize = Unit {0}
@@ -84,6 +89,12 @@ is_adding_fault adding.Fault = true
 abbrev pub is_add_fault : {T : Type 0} → Result T AddFault → Bool
 is_add_fault (Ok x) = false
 is_add_fault (Err e) = is_adding_fault e
+
+-- why a device isn't opened, if its record wasn't added
+abbrev pub unadded : AddFault → OpenFault
+unadded adding.Memory = Memory
+unadded adding.Full = Full
+unadded adding.Fault = Fault
 
 -- why a record wasn't added, if its switch failed
 abbrev pub switched_to : SwitchFault → AddFault

@@ -1,9 +1,9 @@
 -- A store over a device.
-use Rattle.std.specs.Prelude.{ℕ, ◌-◌, ◌^◌, ◌<◌, Bool, List, length}
+use Rattle.std.specs.Prelude.{ℕ, ◌-◌, ◌^◌, ◌<◌, Bool, List, length, Result, Ok, Err}
 use Rattle.pf_disk.specs.Disk.{IsSynced}
 use Rattle.pf_snap.specs.{Banks.{bank_size, Content}, Ready.{IsReady, Keeps}, declared.banks.Banks.Banks}
 use Rattle.pf_core.specs.Durable.Changes.{PlainDurable}
-use Rattle.pf_store.specs.Stores.{Holds, Makes}
+use Rattle.pf_store.specs.{Stores.{Holds, Makes}, declared.store.fault.OpenFault.OpenFault}
 
 -- What contracts see of a store: its device; how many bytes each of its banks has; the version and the generation of the one that counts,
 -- and how many bytes that one has from its closed gate on; whether a save met a fault.
@@ -29,6 +29,11 @@ store_with seen banks halted = record {
 pub record Stands {D : Type 0} (seen : D → List ℕ) (unsynced : D → ℕ → Bool) (store : PlainStore D) (d : PlainDurable) : Type 0 where
   pub holds : Holds (seen store.disk) d
   pub synced : IsSynced (unsynced store.disk)
+
+-- the device that a result of an opening has, wherever it has it
+abbrev pub device_of : {D : Type 0} → Result (PlainDurable × PlainStore D) (OpenFault × D) → D
+device_of (Ok r) = r.1.disk
+device_of (Err e) = e.1
 
 -- what a store's type guarantees as long as it isn't halted
 pub record IsStore {D : Type 0} (seen : D → List ℕ) (unsynced : D → ℕ → Bool) (faults : D → ℕ) (banks : Banks D) : Type 0 where

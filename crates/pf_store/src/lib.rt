@@ -10,11 +10,11 @@
 //!
 //! What is proved, for every device that keeps the contract of `Disk`:
 //!
-//! - A crash during a save leaves what was kept before all of its changes, or after all of them; after `Ok` the latter (`any_moment` and
+//! - A crash during a save leaves what was kept before all of its changes, or after all of them; after `Ok` the latter (`writes` and
 //!   `images` of [`Store::save`]). `Full` comes exactly by the formula of `specs/Stores.antt`, `FindsRoom` (`room`).
 //! - An opening returns what the device held, in the next epoch, which is on the device by then (`opened` and `images` of [`Store::open`]).
-//!   A crash during it leaves an image from before, or what was read, in its epoch or the next (`any_moment`, `any_moment_err`). All of
-//!   that holds where a store that is at work opens its device again, by what is kept in memory ([`Store::open_again`]).
+//!   A crash during it leaves an image from before, or what was read, in its epoch or the next (`writes`). All of that holds where a store
+//!   that is at work opens its device again, by what is kept in memory ([`Store::open_again`]).
 //! - What is written is read back, bytes are those of at most one group or one thing kept, and their number is that of the layout
 //!   ([`write_group`], [`read_group`], [`write_durable`], [`read_durable`], the laws of `groups` and `snapshots`).
 //! - An image holds at most one thing, within all limits. One that does, by a generation below 2^63, is never refused as one that holds

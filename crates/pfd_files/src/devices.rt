@@ -1,5 +1,5 @@
 //! What the program does with a disk, whatever kind of disk it is.
-ghost use Rattle.std.specs.Prelude.{◌≡◌, ◌<◌, ◌^◌, ◌↔◌, ◌+◌, if◌then◌else◌, ℕ, List, length, IfErr, IfOk, IsErrOf, OnOk};
+ghost use Rattle.std.specs.Prelude.{◌≡◌, ◌<◌, ◌^◌, ◌↔◌, ◌+◌, if◌then◌else◌, false, ℕ, List, length, IfErr, IfOk, IsErrOf, OnErr, OnOk};
 ghost use Rattle.pf_addr.specs.Writing.{Continues, Writes};
 ghost use Rattle.pf_disk.specs.Disk.{IsImage};
 ghost use Rattle.pf_core.specs.Durable.Changes.{kept_nothing};
@@ -21,8 +21,7 @@ pub fn format_on<D: Disk>(alloc: Global, disk: &mut D) -> Result<(), Fault>
     requires few { D.fault_count disk.old < 2 ^ 63 }
     ensures holds { OnOk result ((c : List ℕ) → IsImage (D.seen disk.new) (D.unsynced disk.new) c → Holds c (kept_nothing 0)) }
     ensures bad_size { IsErrOf result Fault.BadSize ↔ ¬ IsSize (length (D.seen disk.old)) }
-    ensures unchanged_at_bad_size { IsErrOf result Fault.BadSize → disk.new ≡ disk.old }
-    ensures unchanged_without_memory { IsErrOf result Fault.Memory → disk.new ≡ disk.old }
+    ensures refused { OnErr result (is_device_fault result ≡ false → disk.new ≡ disk.old) }
     ensures same_size { length (D.seen disk.new) ≡ length (D.seen disk.old) }
     ensures faults { D.fault_count disk.new ≡ D.fault_count disk.old + (if is_device_fault result then 1 else 0) }
 {

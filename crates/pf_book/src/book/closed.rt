@@ -1,11 +1,12 @@
 //! A Book that gave its device away, or whose device is opened again.
-ghost use Rattle.std.specs.Prelude.{◌≡◌, ◌+◌, ◌^◌, ◌<◌, ◌≤◌, false, ℕ, List, length, IfOk, IfErr, if◌then◌else◌};
+ghost use Rattle.std.specs.Prelude.{◌≡◌, ◌+◌, ◌^◌, ◌<◌, ◌≤◌, false, ℕ, List, length, IfOk, IfErr};
 ghost use Rattle.std.specs.Arc.{arc_value};
 ghost use mathlib.Core.List.{IsPrefix};
-ghost use Rattle.pf_disk.specs.Disk.{EachMoment, IsImage};
+ghost use Rattle.pf_disk.specs.{Disk.{EachMoment, IsImage}, Runs.MayWrite};
 ghost use Rattle.pf_core.specs.{Durable.Changes.PlainDurable, Laws.Durable.IsWithin, Worlds.{flat, last_epoch, raised}};
 ghost use Rattle.pf_store.specs.declared.store.fault.OpenFault.TheVariants.{BadSize, Memory};
-ghost use Rattle.pf_store.specs.{Banks.bank_size, Stores.Holds, StoreKept.Stands, StoreFaults.is_fault, Openings.{IsFull, IsNoLaterThan, IsOfOpening, IsUnopened, generation_of}};
+ghost use Rattle.pf_store.specs.{Banks.bank_size, Stores.Holds, StoreKept.Stands, StoreFaults.{is_fault, is_opening_fault}, Openings.{IsFull, IsNoLaterThan, IsOfOpening, IsUnopened, generation_of}};
+ghost use Rattle.pf_book.specs.Books.{device_of};
 
 use crate::book::Book;
 use crate::chapter::Chapter;
@@ -60,19 +61,12 @@ impl<D: Disk + Drop, J: Chapter, S: Publisher<J> + Drop> Book<D, J, S> {
         ensures generations { IfOk result.0 (λ o. (c : List ℕ) → IsImage (D.seen o.disk) (D.unsynced o.disk) c → IsNoLaterThan o.generation c) }
         ensures size { IfOk result.0 (λ o. o.size ≡ bank_size (length (D.seen o.disk))) }
         ensures room { IfOk result.0 (λ o. (d : PlainDurable) → ¬ IsFull (D.seen self.disk) d) }
-        ensures any_moment { IfOk result.0 (λ o. EachMoment D.moment D.left_since self.disk o.disk
-            (IsOfOpening (D.seen self.disk) (D.unsynced self.disk))) }
-        ensures any_moment_err { IfErr result.0 (λ e. EachMoment D.moment D.left_since self.disk e.1
-            (IsOfOpening (D.seen self.disk) (D.unsynced self.disk))) }
+        ensures writes { MayWrite D.Disk self.disk (device_of result.0) 15 (is_opening_fault result.0)
+            (IsOfOpening (D.seen self.disk) (D.unsynced self.disk)) }
         ensures refused { IfErr result.0 (λ e. IsUnopened e.0 (D.seen self.disk)) }
         ensures untouched { IfErr result.0 (λ e. is_fault e.0 ≡ false → (e.0 ≡ Memory → ⊥) → (D.seen e.1 ≡ D.seen self.disk)
             × EachMoment D.moment D.left_since self.disk e.1 (IsImage (D.seen self.disk) (D.unsynced self.disk))) }
         ensures unchanged_at_bad_size { IfErr result.0 (λ e. e.0 ≡ BadSize → e.1 ≡ self.disk) }
-        ensures same_size { IfOk result.0 (λ o. length (D.seen o.disk) ≡ length (D.seen self.disk)) }
-        ensures moments { IfOk result.0 (λ o. D.moment o.disk ≤ D.moment self.disk + 15) }
-        ensures moments_err { IfErr result.0 (λ e. D.moment e.1 ≤ D.moment self.disk + 15) }
-        ensures no_fault { IfOk result.0 (λ o. D.fault_count o.disk ≡ D.fault_count self.disk) }
-        ensures fault { IfErr result.0 (λ e. D.fault_count e.1 ≡ D.fault_count self.disk + (if is_fault e.0 then 1 else 0)) }
     {
         let (store, kept, closed) = self.take_apart();
         (Opening::open_again(alloc, store, &kept), closed)

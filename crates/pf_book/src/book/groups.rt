@@ -1,11 +1,11 @@
 //! Groups of commands, whose changes are kept together.
-ghost use Rattle.std.specs.{Arc.arc_value, List.list_all, Prelude.{◌≡◌, ◌+◌, ◌≤◌, ◌++◌, ◌∷◌, [], ℕ, List, Ok, true, false, IfOk, IfErr, OnOk, length, map, take, nat_lt, fold, if◌then◌else◌}};
-ghost use Rattle.pf_disk.specs.Disk.{EachMoment, IsImage};
+ghost use Rattle.std.specs.{Arc.arc_value, List.list_all, Prelude.{◌≡◌, ◌+◌, ◌≤◌, ◌++◌, ◌∷◌, [], ℕ, List, Ok, true, false, IfOk, IfErr, OnOk, length, map, take, nat_lt, fold}};
+ghost use Rattle.pf_disk.specs.Disk.{IsImage};
 ghost use Rattle.pf_core.specs.Refusing.{and_then, unless};
 ghost use Rattle.pf_core.specs.declared.reply.Refusal.TheVariants as told;
 ghost use Rattle.pf_core.specs.{Calls.replies_in, Commands.group_words, Durable.Changes.{PlainDurable, after}, WorldBooks.{IsAt, StandsFor, LeadsGroup}, Worlds.{CurrentOpening, idle, grouping, upshot, Event, called_group, changes_due, is_fault, is_halted, flat, LegalReplies, shown_by}};
 ghost use Rattle.pf_store.specs.{Groups.{can_be_wanted, is_group, made_all}, Stores.{FollowInTurn, HoldsEither}};
-ghost use Rattle.pf_book.specs.Books.{world_book, HoldsLeft, left_together, listed, replied, IsMore, IsUnkept, AreMade, AreNumbered, KeepsOpening, StaysOpenable, StaysUnlessAnyKept, UsesDevice, is_fault_result};
+ghost use Rattle.pf_book.specs.Books.{world_book, HoldsLeft, left_together, listed, replied, IsMore, IsUnkept, AreMade, AreNumbered, IsLeft, KeepsOpening, StaysUnlessAnyKept, UsesDevice, is_fault_result};
 
 use crate::book::Book;
 use crate::chapter::Chapter;
@@ -37,10 +37,9 @@ impl<D: Disk + Drop, J: Chapter, S: Publisher<J> + Drop> Book<D, J, S> {
         ensures ok { OnOk result (IsMore (world_book self.old) (world_book self.new) changes.items) }
         ensures given { IfOk result (λ given. map arc_value given.items ≡ changes.items) }
         ensures err { IfErr result (λ e. IsUnkept e (world_book self.old) (world_book self.new) changes.items) }
-        ensures any_moment { EachMoment D.moment D.left_since self.old.disk self.new.disk
+        ensures device { UsesDevice D.Disk (is_fault_result result) self.old self.new
             (HoldsEither self.old.whole.durable (after self.old.whole.durable changes.items)) }
         ensures still { IfErr result (λ e. is_fault e ≡ false → self.new.disk ≡ self.old.disk) }
-        ensures device { UsesDevice D.moment D.left_since D.seen D.fault_count (is_fault_result result) self.old self.new }
     {
         self.find_room(changes.as_slice(), &next)?;
         let changes = share_all(self.alloc, changes)?;
@@ -62,10 +61,9 @@ impl<D: Disk + Drop, J: Chapter, S: Publisher<J> + Drop> Book<D, J, S> {
         requires free { self.old.pending ≡ [] }
         ensures made { AreMade (replied result) replies.items changes.items (world_book self.old) (world_book self.new) }
         ensures given { IfOk result (λ r. map arc_value r.1.items ≡ changes.items) }
-        ensures any_moment { EachMoment D.moment D.left_since self.old.disk self.new.disk
+        ensures device { UsesDevice D.Disk (is_fault_result result) self.old self.new
             (HoldsEither self.old.whole.durable (after self.old.whole.durable changes.items)) }
         ensures still { IfErr result (λ e. is_fault e ≡ false → self.new.disk ≡ self.old.disk) }
-        ensures device { UsesDevice D.moment D.left_since D.seen D.fault_count (is_fault_result result) self.old self.new }
     {
         match self.keep_all(changes, next) {
             Ok(given) => {
@@ -97,10 +95,8 @@ impl<D: Disk + Drop, J: Chapter, S: Publisher<J> + Drop> Book<D, J, S> {
     ) -> Result<(Vec<Reply>, Vec<Arc<Change>>), Refusal>
         ensures leads { (h : CurrentOpening) → IsAt h (world_book self.old) → LeadsGroup h (world_book self.new) commands.now (replied result)
             (upshot self.new.shown (nat_lt (D.fault_count self.old.disk) (D.fault_count self.new.disk))) }
-        ensures any_moment { (h : CurrentOpening) → IsAt h (world_book self.old)
-            → EachMoment D.moment D.left_since self.old.disk self.new.disk (HoldsLeft h (grouping commands.now)) }
         ensures given { IfOk result (λ r. (h : CurrentOpening) → IsAt h (world_book self.old) → map arc_value r.1.items ≡ changes_due h [] commands.now) }
-        ensures device { UsesDevice D.moment D.left_since D.seen D.fault_count (is_fault_result result) self.old self.new }
+        ensures device { UsesDevice D.Disk (is_fault_result result) self.old self.new (IsLeft (world_book self.old) (grouping commands.now)) }
         ensures opening { KeepsOpening self.old self.new }
         ensures stays { StaysUnlessAnyKept (replied result) self.old self.new }
     {
@@ -140,9 +136,10 @@ impl<D: Disk + Drop, J: Chapter, S: Publisher<J> + Drop> Book<D, J, S> {
         ensures legal { (h : CurrentOpening) → IsAt h (world_book self.old)
             → LegalReplies h commands.now (listed result) (nat_lt (D.fault_count self.old.disk) (D.fault_count self.new.disk)) }
 
-        // At each moment of the call an image holds what some crash within it leaves of the opening, and after it what a crash then leaves.
-        ensures any_moment { (h : CurrentOpening) → IsAt h (world_book self.old)
-            → EachMoment D.moment D.left_since self.old.disk self.new.disk (HoldsLeft h (grouping commands.now)) }
+        // At each moment of the call, ten at most, an image holds what some crash within it leaves of the opening, with what a later opening
+        // needs; and after it what a crash then leaves.
+        ensures device { UsesDevice D.Disk (is_fault_result (listed result)) self.old self.new
+            (IsLeft (world_book self.old) (grouping commands.now)) }
         ensures images { (h : CurrentOpening) → IsAt h (world_book self.new) → (c : List ℕ)
             → IsImage (D.seen self.new.disk) (D.unsynced self.new.disk) c → HoldsLeft h idle c }
 
@@ -152,15 +149,7 @@ impl<D: Disk + Drop, J: Chapter, S: Publisher<J> + Drop> Book<D, J, S> {
         ensures shown { self.new.shown ≡ fold (λ n r. shown_by r n) self.old.shown (replies_in (listed result)) }
         ensures numbered { IfOk (listed result) (λ replies. AreNumbered replies (length (flat self.old.acked)) (length (flat self.new.acked))) }
         ensures stays { StaysUnlessAnyKept (listed result) self.old self.new }
-        ensures base { self.new.base ≡ self.old.base }
-        ensures setting { (world_book self.new).setting ≡ (world_book self.old).setting }
-
-        // What a later opening needs of each image, at each moment of the call.
-        ensures openable { StaysOpenable D.moment D.left_since self.old self.new }
-
-        ensures moments { D.moment self.new.disk ≤ D.moment self.old.disk + 10 }
-        ensures same_size { length (D.seen self.new.disk) ≡ length (D.seen self.old.disk) }
-        ensures faults { D.fault_count self.new.disk ≡ D.fault_count self.old.disk + (if is_fault_result (listed result) then 1 else 0) }
+        ensures opening { KeepsOpening self.old self.new }
     {
         let result = alone(self.call_all(commands));
         // reading a field makes the Book's invariant known here

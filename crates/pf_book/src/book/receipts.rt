@@ -1,10 +1,9 @@
 //! Replies with their receipts, and what a Book says of receipts.
 ghost use Rattle.std.specs.Prelude.{All, ◌≡◌, ◌<◌, ◌≤◌, ◌↔◌, ◌^◌, [], length, map, take, drop, vec_capacity, IsTrue, nat_lt};
-ghost use Rattle.pf_disk.specs.Disk.{EachMoment};
 ghost use Rattle.std.specs.{Arc.arc_value, List.AllByRecursion, Option.{ForSome, option_copied, option_map}, Vec.Iter.into_iter_items};
 ghost use mathlib.Core.List.{IsPrefix};
 ghost use Rattle.pf_core.specs.{Calls.call, WorldBooks.{IsAt, Leads, LeadsGroup}, Worlds.{CurrentOpening, calling, grouping, flat, upshot}};
-ghost use Rattle.pf_book.specs.{Groups.{told, replies_of, HasReceipts, HaveShown}, Pairs.{behind, is_kept, given_to, kept_count, left_behind, paired, slip_at}, Books.{KeepsOpening, StaysUnlessAnyKept, HoldsLeft, StaysOpenable, StaysUnlessKept, world_book, log_in}, Receipts.{token_of, Confirms, EndsIn, TakesUp, IsReceiptOf, ShownFits}};
+ghost use Rattle.pf_book.specs.{Groups.{told, replies_of, HasReceipts, HaveShown}, Pairs.{behind, is_kept, given_to, kept_count, left_behind, paired, slip_at}, Books.{IsLeft, KeepsOpening, StaysUnlessAnyKept, StaysUnlessKept, UsesDevice, is_fault_reply, is_fault_result, world_book, log_in}, Receipts.{token_of, Confirms, EndsIn, TakesUp, IsReceiptOf, ShownFits}};
 
 use crate::book::Book;
 use crate::chapter::Chapter;
@@ -61,9 +60,7 @@ impl<D: Disk + Drop, J: Chapter, S: Publisher<J> + Drop> Book<D, J, S> {
     ) -> (Reply, Receipt<J>)
         ensures leads { (h : CurrentOpening) → IsAt h (world_book self.old) → Leads h (world_book self.new) (call command.now result.0)
             (upshot self.new.shown (nat_lt (D.fault_count self.old.disk) (D.fault_count self.new.disk))) }
-        ensures any_moment { (h : CurrentOpening) → IsAt h (world_book self.old)
-            → EachMoment D.moment D.left_since self.old.disk self.new.disk (HoldsLeft h (calling command.now)) }
-        ensures openable { StaysOpenable D.moment D.left_since self.old self.new }
+        ensures device { UsesDevice D.Disk (is_fault_reply result.0) self.old self.new (IsLeft (world_book self.old) (calling command.now)) }
         ensures receipt { IsReceiptOf result.0 result.1 (world_book self.old) (world_book self.new) }
         ensures stays { StaysUnlessKept result.0 self.old self.new }
         ensures last { TakesUp (option_copied last.entry) (world_book self.old) }
@@ -83,11 +80,10 @@ impl<D: Disk + Drop, J: Chapter, S: Publisher<J> + Drop> Book<D, J, S> {
     ) -> Result<Vec<(Reply, Receipt<J>)>, Refusal>
         ensures leads { (h : CurrentOpening) → IsAt h (world_book self.old) → LeadsGroup h (world_book self.new) commands.now (replies_of (told result))
             (upshot self.new.shown (nat_lt (D.fault_count self.old.disk) (D.fault_count self.new.disk))) }
-        ensures any_moment { (h : CurrentOpening) → IsAt h (world_book self.old)
-            → EachMoment D.moment D.left_since self.old.disk self.new.disk (HoldsLeft h (grouping commands.now)) }
+        ensures device { UsesDevice D.Disk (is_fault_result result) self.old self.new
+            (IsLeft (world_book self.old) (grouping commands.now)) }
         ensures receipts { (h : CurrentOpening) → IsAt h (world_book self.old) → HasReceipts h (log_in (world_book self.new)) commands.now (told result) }
         ensures shown { HaveShown self.new.shown (told result) }
-        ensures openable { StaysOpenable D.moment D.left_since self.old self.new }
         ensures stays { StaysUnlessAnyKept (replies_of (told result)) self.old self.new }
         ensures last { TakesUp (option_copied last.entry) (world_book self.old) }
         ensures opening { KeepsOpening self.old self.new }
@@ -103,11 +99,10 @@ impl<D: Disk + Drop, J: Chapter, S: Publisher<J> + Drop> Book<D, J, S> {
     ) -> Result<Vec<(Reply, Receipt<J>)>, Refusal>
         ensures leads { (h : CurrentOpening) → IsAt h (world_book self.old) → LeadsGroup h (world_book self.new) commands.now (replies_of (told result))
             (upshot self.new.shown (nat_lt (D.fault_count self.old.disk) (D.fault_count self.new.disk))) }
-        ensures any_moment { (h : CurrentOpening) → IsAt h (world_book self.old)
-            → EachMoment D.moment D.left_since self.old.disk self.new.disk (HoldsLeft h (grouping commands.now)) }
+        ensures device { UsesDevice D.Disk (is_fault_result result) self.old self.new
+            (IsLeft (world_book self.old) (grouping commands.now)) }
         ensures receipts { (h : CurrentOpening) → IsAt h (world_book self.old) → HasReceipts h (log_in (world_book self.new)) commands.now (told result) }
         ensures shown { HaveShown self.new.shown (told result) }
-        ensures openable { StaysOpenable D.moment D.left_since self.old self.new }
         ensures stays { StaysUnlessAnyKept (replies_of (told result)) self.old self.new }
         ensures opening { KeepsOpening self.old self.new }
     {

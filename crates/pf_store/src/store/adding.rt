@@ -1,11 +1,10 @@
 //! Adding a record, to the bank that counts or after a switch to the other one.
 ghost use Rattle.std.specs.Prelude.{◌≡◌, ◌↔◌, ◌+◌, ◌^◌, ◌<◌, ◌≤◌, true, false, List, ℕ, length, OnOk, OnErr, IsErrOf, if◌then◌else◌};
-ghost use Rattle.pf_disk.specs.Disk.{EachMoment};
+ghost use Rattle.pf_disk.specs.Runs.{MayWrite};
 ghost use Rattle.pf_journal.specs.Journal.{IsOf};
-ghost use Rattle.pf_snap.specs.{Banks.bank_size, Faults.is_switch_fault, Ready.IsReady};
-ghost use Rattle.pf_core.specs.Durable.Changes.{PlainDurable};
+ghost use Rattle.pf_snap.specs.{Banks.bank_size, Faults.is_switch_fault, Ready.{IsReady, IsTurned}};
 ghost use Rattle.pf_store.specs.declared.groups.recorded.Recorded.{Recorded};
-ghost use Rattle.pf_store.specs.{Durables.durable_has_form, Groups.IsRecordOf, Lengths.snapshot_length, Snapshots.IsBankOf, StoreFaults.is_add_fault, StoreKept.HaveKept, Openings.{IsAsLongAs, IsNoLaterThan}, Stores.{FollowInTurn, left_by_all, Holds, HoldsEither}};
+ghost use Rattle.pf_store.specs.{Durables.durable_has_form, Groups.IsRecordOf, Lengths.snapshot_length, Snapshots.IsBankOf, StoreFaults.is_add_fault, StoreKept.HaveKept, Openings.{HoldsAdded, HoldsBy}, Stores.{FollowInTurn, left_by_all, Holds}};
 ghost use Rattle.pf_snap.specs.declared.header.TheConstants.{NEWEST};
 
 use crate::snapshots::push_snapshot;
@@ -38,27 +37,22 @@ pub(crate) fn add_to<D: Disk>(
     requires few { D.fault_count banks.old.journal.disk < 2 ^ 63 }
     requires made { (payload : List ℕ) × IsOf payload added.now }
     requires room { here ≡ true → banks.old.journal.gate + (length added.now.behind.items + 1) ≤ banks.old.journal.end }
-    ensures any_moment { (xs : List Recorded) → IsRecordOf (if here then banks.old.version else NEWEST) xs added.now → FollowInTurn durable.now xs
-        → EachMoment D.moment D.left_since banks.old.journal.disk banks.new.journal.disk (HoldsEither durable.now (left_by_all durable.now xs)) }
-    ensures generations { EachMoment D.moment D.left_since banks.old.journal.disk banks.new.journal.disk
-        (IsNoLaterThan (banks.old.generation + 1)) }
-    ensures lengths { EachMoment D.moment D.left_since banks.old.journal.disk banks.new.journal.disk
-        (IsAsLongAs (D.seen banks.old.journal.disk)) }
+
+    // At each moment an image holds what was kept, or what the record's group leaves of it, by the next generation at the latest.
+    ensures writes { MayWrite D.Disk banks.old.journal.disk banks.new.journal.disk 10 (is_add_fault result)
+        (HoldsBy (D.seen banks.old.journal.disk) (banks.old.generation + 1)
+        (HoldsAdded (λ xs. IsRecordOf (if here then banks.old.version else NEWEST) xs added.now) durable.now)) }
+
     ensures kept { OnOk result ((xs : List Recorded) → IsRecordOf (if here then banks.old.version else NEWEST) xs added.now → FollowInTurn durable.now xs
         → HaveKept D.seen banks.new (left_by_all durable.now xs)) }
     ensures ready { OnOk result (IsReady D.seen D.unsynced banks.new) }
     ensures full { IsErrOf result AddFault.Full ↔ ((here ≡ false)
         × (bank_size (length (D.seen banks.old.journal.disk)) < BANK_HEADER + snapshot_length durable.now + (length added.now.behind.items + 1))) }
-    ensures unchanged_where_full { IsErrOf result AddFault.Full → banks.new ≡ banks.old }
-    ensures unchanged_without_memory { IsErrOf result AddFault.Memory → banks.new ≡ banks.old }
+    ensures refused { OnErr result (is_add_fault result ≡ false → banks.new ≡ banks.old) }
     ensures generation { banks.new.generation ≤ banks.old.generation + 1 }
     ensures generation_stays { banks.old.generation ≤ banks.new.generation }
     ensures here { OnOk result (here ≡ true → (banks.new.generation ≡ banks.old.generation) × (banks.new.version ≡ banks.old.version)) }
     ensures there { OnOk result (here ≡ false → (banks.new.generation ≡ banks.old.generation + 1) × (banks.new.version ≡ NEWEST)) }
-    ensures same_size { length (D.seen banks.new.journal.disk) ≡ length (D.seen banks.old.journal.disk) }
-    ensures moments { D.moment banks.new.journal.disk ≤ D.moment banks.old.journal.disk + 10 }
-    ensures faults { D.fault_count banks.new.journal.disk
-        ≡ D.fault_count banks.old.journal.disk + (if is_add_fault result then 1 else 0) }
 {
     // its gate, and what comes after it
     let needed = 1 + added.behind.len();
@@ -87,29 +81,21 @@ pub(crate) fn add<D: Disk>(
     requires early { banks.old.generation + 1 < 2 ^ 64 }
     requires few { D.fault_count banks.old.journal.disk < 2 ^ 63 }
     requires made { (payload : List ℕ) × IsOf payload added.now }
-    ensures any_moment { (xs : List Recorded) → ((version : ℕ) → IsRecordOf version xs added.now) → FollowInTurn durable.now xs
-        → EachMoment D.moment D.left_since banks.old.journal.disk banks.new.journal.disk (HoldsEither durable.now (left_by_all durable.now xs)) }
-    ensures generations { EachMoment D.moment D.left_since banks.old.journal.disk banks.new.journal.disk
-        (IsNoLaterThan (banks.old.generation + 1)) }
-    ensures lengths { EachMoment D.moment D.left_since banks.old.journal.disk banks.new.journal.disk
-        (IsAsLongAs (D.seen banks.old.journal.disk)) }
+    ensures writes { MayWrite D.Disk banks.old.journal.disk banks.new.journal.disk 10 (is_add_fault result)
+        (HoldsBy (D.seen banks.old.journal.disk) (banks.old.generation + 1)
+        (HoldsAdded (λ xs. (version : ℕ) → IsRecordOf version xs added.now) durable.now)) }
     ensures kept { OnOk result ((xs : List Recorded) → ((version : ℕ) → IsRecordOf version xs added.now) → FollowInTurn durable.now xs
         → HaveKept D.seen banks.new (left_by_all durable.now xs)) }
     ensures ready { OnOk result (IsReady D.seen D.unsynced banks.new) }
     ensures full { IsErrOf result AddFault.Full ↔ ((banks.old.journal.end < banks.old.journal.gate + (length added.now.behind.items + 1))
         × (bank_size (length (D.seen banks.old.journal.disk)) < BANK_HEADER + snapshot_length durable.now + (length added.now.behind.items + 1))) }
-    ensures unchanged_where_full { IsErrOf result AddFault.Full → banks.new ≡ banks.old }
-    ensures unchanged_without_memory { IsErrOf result AddFault.Memory → banks.new ≡ banks.old }
+    ensures refused { OnErr result (is_add_fault result ≡ false → banks.new ≡ banks.old) }
     ensures generation { banks.new.generation ≤ banks.old.generation + 1 }
     ensures generation_stays { banks.old.generation ≤ banks.new.generation }
     ensures here { OnOk result (banks.old.journal.gate + (length added.now.behind.items + 1) ≤ banks.old.journal.end
         → (banks.new.generation ≡ banks.old.generation) × (banks.new.version ≡ banks.old.version)) }
     ensures there { OnOk result (banks.old.journal.end < banks.old.journal.gate + (length added.now.behind.items + 1)
         → (banks.new.generation ≡ banks.old.generation + 1) × (banks.new.version ≡ NEWEST)) }
-    ensures same_size { length (D.seen banks.new.journal.disk) ≡ length (D.seen banks.old.journal.disk) }
-    ensures moments { D.moment banks.new.journal.disk ≤ D.moment banks.old.journal.disk + 10 }
-    ensures faults { D.fault_count banks.new.journal.disk
-        ≡ D.fault_count banks.old.journal.disk + (if is_add_fault result then 1 else 0) }
 {
     // its gate, and what comes after it
     let needed = 1 + added.behind.len();
@@ -128,22 +114,13 @@ fn switch<D: Disk>(
     requires fits { BANK_HEADER + snapshot_length durable.now + 1 ≤ bank_size (length (D.seen banks.old.journal.disk)) }
     requires early { banks.old.generation + 1 < 2 ^ 64 }
     requires few { D.fault_count banks.old.journal.disk < 2 ^ 63 }
-    ensures any_moment { EachMoment D.moment D.left_since banks.old.journal.disk banks.new.journal.disk (λ image. Holds image durable.now) }
-    ensures generations { EachMoment D.moment D.left_since banks.old.journal.disk banks.new.journal.disk
-        (IsNoLaterThan (banks.old.generation + 1)) }
-    ensures lengths { EachMoment D.moment D.left_since banks.old.journal.disk banks.new.journal.disk
-        (IsAsLongAs (D.seen banks.old.journal.disk)) }
+    ensures writes { MayWrite D.Disk banks.old.journal.disk banks.new.journal.disk 6 (is_switch_fault result)
+        (HoldsBy (D.seen banks.old.journal.disk) (banks.old.generation + 1) (λ image. Holds image durable.now)) }
     ensures kept { OnOk result (HaveKept D.seen banks.new durable.now) }
     ensures ready { OnOk result (IsReady D.seen D.unsynced banks.new) }
-    ensures gate { OnOk result (banks.new.journal.gate ≡ banks.new.at + BANK_HEADER + snapshot_length durable.now) }
-    ensures generation { OnOk result (banks.new.generation ≡ banks.old.generation + 1) }
-    ensures version { OnOk result (banks.new.version ≡ NEWEST) }
+    ensures turned { OnOk result (IsTurned D.seen banks.old banks.new (snapshot_length durable.now)) }
     ensures same_generation { OnErr result (banks.new.generation ≡ banks.old.generation) }
-    ensures unchanged_without_memory { IsErrOf result SwitchFault.Memory → banks.new ≡ banks.old }
-    ensures same_size { length (D.seen banks.new.journal.disk) ≡ length (D.seen banks.old.journal.disk) }
-    ensures moments { D.moment banks.new.journal.disk ≤ D.moment banks.old.journal.disk + 6 }
-    ensures faults { D.fault_count banks.new.journal.disk
-        ≡ D.fault_count banks.old.journal.disk + (if is_switch_fault result then 1 else 0) }
+    ensures refused { OnErr result (is_switch_fault result ≡ false → banks.new ≡ banks.old) }
 {
     prepare(next, banks.generation, durable)?;
     banks.begin(next)?;

@@ -2,7 +2,7 @@
 ghost use Rattle.std.specs.Prelude.{◌≡◌};
 ghost use Rattle.pf_store.specs.declared.store.fault.OpenFault.TheVariants as opening;
 ghost use Rattle.pf_store.specs.declared.store.fault.AddFault.TheVariants as adding;
-ghost use Rattle.pf_store.specs.StoreFaults.{switched_to, unlooked};
+ghost use Rattle.pf_store.specs.StoreFaults.{switched_to, unadded, unlooked};
 
 use pf_disk::DiskFault;
 use pf_snap::{LookFault, SwitchFault};
@@ -77,6 +77,18 @@ pub(crate) enum AddFault {
     Full,
     /// A call of the device failed.
     Fault,
+}
+
+impl From<AddFault> for OpenFault {
+    ghost from_gives = { λ fault e. e ≡ unadded fault };
+
+    fn from(fault: AddFault) -> Self {
+        match fault {
+            AddFault::Memory => OpenFault::Memory,
+            AddFault::Full => OpenFault::Full,
+            AddFault::Fault => OpenFault::Fault,
+        }
+    }
 }
 
 impl From<DiskFault> for AddFault {

@@ -1,6 +1,6 @@
 //! What a device holds.
 ghost use Rattle.std.specs.Prelude.{◌≡◌, ◌≢◌, ◌^◌, ◌<◌, IfOk, IfErr};
-ghost use Rattle.pf_disk.specs.Reads.{OnlyReads};
+ghost use Rattle.pf_disk.specs.Runs.{OnlyReads};
 ghost use Rattle.pf_core.specs.Laws.Durable.{IsWithin};
 ghost use Rattle.pf_store.specs.declared.store.fault.OpenFault.TheVariants as opening;
 ghost use Rattle.pf_store.specs.{Stores.Holds, StoreFaults.{is_open_fault}, Openings.{IsUnopened, generation_of}};

@@ -1,6 +1,6 @@
 //! Making a device hold nothing.
-ghost use Rattle.std.specs.Prelude.{◌≡◌, ◌↔◌, ◌+◌, ◌^◌, ◌<◌, ◌≤◌, ◌≢◌, ℕ, List, length, replicate, slice_index, OnOk, IsErrOf, if◌then◌else◌};
-ghost use Rattle.pf_disk.specs.{Disk.{EachMoment, IsImage, IsSynced}, declared.image.TheConstants.OPEN_GATE};
+ghost use Rattle.std.specs.Prelude.{◌≡◌, ◌↔◌, ◌^◌, ◌<◌, ◌≢◌, false, ℕ, List, length, replicate, slice_index, OnOk, OnErr, IsErrOf};
+ghost use Rattle.pf_disk.specs.{Disk.{IsImage, IsSynced}, Runs.MayWrite, declared.image.TheConstants.OPEN_GATE};
 ghost use Rattle.pf_snap.specs.{Banks.{IsSize, bank_size, IsOfFormat}, Faults.is_format_fault, declared.header.TheConstants.NEWEST};
 ghost use Rattle.pf_core.specs.Durable.Changes.{kept_nothing};
 ghost use Rattle.pf_store.specs.{declared.limits.TheConstants.EMPTY_LENGTH, Openings.{generation_of, version_of, LeavesRoom}, Stores.Holds};
@@ -31,15 +31,11 @@ pub fn format<D: Disk>(alloc: Global, disk: &mut D) -> Result<(), FormatFault>
     ensures synced { OnOk result (IsSynced (D.unsynced disk.new)) }
 
     // At each moment an image is as before except for the banks' gates, or both are closed, or it holds a bank of nothing.
-    ensures any_moment { EachMoment D.moment D.left_since disk.old disk.new
+    ensures writes { MayWrite D.Disk disk.old disk.new 7 (is_format_fault result)
         (IsOfFormat (D.seen disk.old) (D.unsynced disk.old) (replicate EMPTY_LENGTH 0)) }
 
     ensures bad_size { IsErrOf result FormatFault.BadSize ↔ ¬ IsSize (length (D.seen disk.old)) }
-    ensures unchanged_at_bad_size { IsErrOf result FormatFault.BadSize → disk.new ≡ disk.old }
-    ensures unchanged_without_memory { IsErrOf result FormatFault.Memory → disk.new ≡ disk.old }
-    ensures same_size { length (D.seen disk.new) ≡ length (D.seen disk.old) }
-    ensures moments { D.moment disk.new ≤ D.moment disk.old + 7 }
-    ensures faults { D.fault_count disk.new ≡ D.fault_count disk.old + (if is_format_fault result then 1 else 0) }
+    ensures refused { OnErr result (is_format_fault result ≡ false → disk.new ≡ disk.old) }
 {
     pf_snap::format(alloc, disk, &EMPTY_SNAPSHOT)
 }

@@ -1,7 +1,7 @@
 //! A store over a device: opening it, and saving changes.
 ghost use Rattle.std.specs.List.{list_all};
 ghost use Rattle.std.specs.Prelude.{◌≡◌, ◌⊎◌, ◌↔◌, ◌+◌, ◌^◌, ◌<◌, ◌≤◌, true, false, ℕ, List, [], ◌∷◌, length, map, IfOk, IfErr, IsTrue, OnOk, OnErr, IsErrOf, Ok, if◌then◌else◌};
-ghost use Rattle.pf_disk.specs.Disk.{EachMoment, IsImage};
+ghost use Rattle.pf_disk.specs.{Disk.{EachMoment, IsImage}, Runs.MayWrite};
 ghost use Rattle.pf_snap.specs.{Banks.bank_size, Ready.IsReady};
 ghost use Rattle.pf_core.specs.{Durable.Changes.PlainDurable, Laws.Durable.IsWithin, Worlds.{last_epoch, raised}};
 ghost use Rattle.pf_store.specs.declared.store.fault.SaveFault.TheVariants as saving;
@@ -9,7 +9,7 @@ ghost use Rattle.pf_store.specs.declared.store.fault.OpenFault.TheVariants as op
 ghost use Rattle.pf_snap.specs.declared.header.TheConstants.{NEWEST};
 ghost use Rattle.pf_store.specs.declared.limits.TheConstants.{AROUND, OPENING_RECORD};
 ghost use Rattle.pf_store.specs.declared.groups.recorded.Recorded.TheVariants as recorded;
-ghost use Rattle.pf_store.specs.{Groups.{allows_group, can_be_wanted, is_group, made_all, IsRecordOf}, Lengths.payload_length, Stores.{FollowInTurn, left_by_all, Holds, HoldsEither, FindsRoom, HasRoom}, StoreKept.{Stands, HaveKept}, StoreFaults.{is_save_fault, TellsRoom, is_fault}, Openings.{HasRoomHere, IsUnopened, IsFull, IsOfOpening, IsAsLongAs, IsNoLaterThan, LeavesRoom, generation_of, version_of}};
+ghost use Rattle.pf_store.specs.{Groups.{allows_group, can_be_wanted, is_group, made_all, IsRecordOf}, Lengths.payload_length, Stores.{FollowInTurn, left_by_all, Holds, HoldsEither, FindsRoom, HasRoom}, StoreKept.{Stands, HaveKept, device_of}, StoreFaults.{is_save_fault, TellsRoom, is_fault, is_opening_fault}, Openings.{HasRoomHere, HoldsBy, IsUnopened, IsFull, IsOfOpening, IsOfSave, IsNoLaterThan, generation_of, version_of}};
 
 use crate::groups::{AsChange, record_group, record_opening};
 use crate::store::adding::{add, add_to};
@@ -78,17 +78,10 @@ impl<D: Disk> Store<D> {
         requires leads { after.now ≡ left_by_all before.now (made_all (map C.as_plain changes.now)) }
         requires early { self.old.halted ≡ false → self.old.generation + 1 < 2 ^ 64 }
 
-        // At each moment an image holds what was kept before all of them or what is kept after all of them.
-        ensures any_moment { self.old.halted ≡ false
-            → EachMoment D.moment D.left_since self.old.disk self.new.disk (HoldsEither before.now after.now) }
-
-        // It holds that by a generation no later than the next one.
-        ensures generations { self.old.halted ≡ false
-            → EachMoment D.moment D.left_since self.old.disk self.new.disk (IsNoLaterThan (self.old.generation + 1)) }
-
-        // If what the device held left room for an opening, so does what each image holds.
-        ensures roomy { self.old.halted ≡ false → LeavesRoom (D.seen self.old.disk)
-            → EachMoment D.moment D.left_since self.old.disk self.new.disk LeavesRoom }
+        // Unless the store is halted, at each moment an image holds what was kept before all of them or what is kept after all of them, by a
+        // generation no later than the next one. If what the device held left room for an opening, so does what each image holds.
+        ensures writes { MayWrite D.Disk self.old.disk self.new.disk 10 (is_save_fault result) (λ image. self.old.halted ≡ false
+            → IsOfSave (D.seen self.old.disk) (self.old.generation + 1) before.now after.now image) }
 
         // After `Ok` each image holds what is kept after them, and the store stands for it.
         ensures images { OnOk result ((c : List ℕ) → IsImage (D.seen self.new.disk) (D.unsynced self.new.disk) c → Holds c after.now) }
@@ -113,9 +106,6 @@ impl<D: Disk> Store<D> {
             → (self.new.generation ≡ self.old.generation + 1) × (self.new.version ≡ NEWEST)) }
 
         ensures size { self.new.size ≡ self.old.size }
-        ensures same_size { length (D.seen self.new.disk) ≡ length (D.seen self.old.disk) }
-        ensures moments { D.moment self.new.disk ≤ D.moment self.old.disk + 10 }
-        ensures faults { D.fault_count self.new.disk ≡ D.fault_count self.old.disk + (if is_save_fault result then 1 else 0) }
     {
         if self.halted {
             return Err(SaveFault::Halted);
@@ -169,20 +159,13 @@ impl<D: Disk> Store<D> {
 
         // At each moment an image is one from the start, or holds what was read, its epoch perhaps one greater: by the generation that was
         // found or the next one, and with room for another opening if there was room.
-        ensures any_moment { IfOk result (λ r. EachMoment D.moment D.left_since disk r.1.disk (IsOfOpening (D.seen disk) (D.unsynced disk))) }
-        ensures any_moment_err { IfErr result (λ e. EachMoment D.moment D.left_since disk e.1
-            (IsOfOpening (D.seen disk) (D.unsynced disk))) }
+        ensures writes { MayWrite D.Disk disk (device_of result) 15 (is_opening_fault result) (IsOfOpening (D.seen disk) (D.unsynced disk)) }
 
         ensures refused { IfErr result (λ e. IsUnopened e.0 (D.seen disk)) }
         ensures untouched { IfErr result (λ e. is_fault e.0 ≡ false → (D.seen e.1 ≡ D.seen disk)
             × EachMoment D.moment D.left_since disk e.1 (IsImage (D.seen disk) (D.unsynced disk))) }
         ensures unchanged_at_bad_size { IfErr result (λ e. e.0 ≡ opening.BadSize → e.1 ≡ disk) }
-        ensures same_size { IfOk result (λ r. length (D.seen r.1.disk) ≡ length (D.seen disk)) }
         ensures size { IfOk result (λ r. r.1.size ≡ bank_size (length (D.seen disk))) }
-        ensures moments { IfOk result (λ r. D.moment r.1.disk ≤ D.moment disk + 15) }
-        ensures moments_err { IfErr result (λ e. D.moment e.1 ≤ D.moment disk + 15) }
-        ensures no_fault { IfOk result (λ r. D.fault_count r.1.disk ≡ D.fault_count disk) }
-        ensures fault { IfErr result (λ e. D.fault_count e.1 ≡ D.fault_count disk + (if is_fault e.0 then 1 else 0)) }
     {
         match Banks::open(alloc, disk) {
             Ok((banks, looked)) => match replay(alloc, &looked) {
@@ -238,25 +221,12 @@ pub(crate) fn raise_on<D: Disk>(
         × (r.1.version ≡ NEWEST)) }
     ensures generations { IfOk result (λ r. (c : List ℕ) → IsImage (D.seen r.1.disk) (D.unsynced r.1.disk) c
         → IsNoLaterThan r.1.generation c) }
-    ensures any_moment { IfOk result (λ r. EachMoment D.moment D.left_since banks.journal.disk r.1.disk
-        (HoldsEither durable.now (raised durable.now))) }
-    ensures any_moment_err { IfErr result (λ e. EachMoment D.moment D.left_since banks.journal.disk e.1
-        (HoldsEither durable.now (raised durable.now))) }
-    ensures by { IfOk result (λ r. EachMoment D.moment D.left_since banks.journal.disk r.1.disk (IsNoLaterThan (banks.generation + 1))) }
-    ensures by_err { IfErr result (λ e. EachMoment D.moment D.left_since banks.journal.disk e.1 (IsNoLaterThan (banks.generation + 1))) }
-    ensures lengths { IfOk result (λ r. EachMoment D.moment D.left_since banks.journal.disk r.1.disk
-        (IsAsLongAs (D.seen banks.journal.disk))) }
-    ensures lengths_err { IfErr result (λ e. EachMoment D.moment D.left_since banks.journal.disk e.1
-        (IsAsLongAs (D.seen banks.journal.disk))) }
+    ensures writes { MayWrite D.Disk banks.journal.disk (device_of result) 10 (is_opening_fault result)
+        (HoldsBy (D.seen banks.journal.disk) (banks.generation + 1) (HoldsEither durable.now (raised durable.now))) }
     ensures refused { IfErr result (λ e. IsUnopened e.0 (D.seen banks.journal.disk)) }
     ensures untouched { IfErr result (λ e. is_fault e.0 ≡ false → e.1 ≡ banks.journal.disk) }
     ensures not_size { IfErr result (λ e. e.0 ≡ opening.BadSize → ⊥) }
-    ensures same_size { IfOk result (λ r. length (D.seen r.1.disk) ≡ length (D.seen banks.journal.disk)) }
     ensures size { IfOk result (λ r. r.1.size ≡ bank_size (length (D.seen banks.journal.disk))) }
-    ensures moments { IfOk result (λ r. D.moment r.1.disk ≤ D.moment banks.journal.disk + 10) }
-    ensures moments_err { IfErr result (λ e. D.moment e.1 ≤ D.moment banks.journal.disk + 10) }
-    ensures no_fault { IfOk result (λ r. D.fault_count r.1.disk ≡ D.fault_count banks.journal.disk) }
-    ensures fault { IfErr result (λ e. D.fault_count e.1 ≡ D.fault_count banks.journal.disk + (if is_fault e.0 then 1 else 0)) }
 {
     let (raised, record) = match raise(alloc, durable) {
         Ok(raised) => raised,
@@ -273,9 +243,7 @@ pub(crate) fn raise_on<D: Disk>(
                 halted: false,
             },
         )),
-        Err(AddFault::Memory) => Err((OpenFault::Memory, banks.into_disk())),
-        Err(AddFault::Full) => Err((OpenFault::Full, banks.into_disk())),
-        Err(AddFault::Fault) => Err((OpenFault::Fault, banks.into_disk())),
+        Err(fault) => Err((fault.into(), banks.into_disk())),
     }
 }
 

@@ -1,11 +1,11 @@
 //! Opening the device of a store again, by what is kept in memory.
-ghost use Rattle.std.specs.Prelude.{◌≡◌, ◌↔◌, ◌+◌, ◌^◌, ◌<◌, ◌≤◌, false, ℕ, List, length, IsTrue, IfOk, IfErr, if◌then◌else◌};
-ghost use Rattle.pf_disk.specs.Disk.{EachMoment, IsImage};
+ghost use Rattle.std.specs.Prelude.{◌≡◌, ◌↔◌, ◌+◌, ◌^◌, ◌<◌, ◌≤◌, false, ℕ, List, length, IsTrue, IfOk, IfErr};
+ghost use Rattle.pf_disk.specs.{Disk.{EachMoment, IsImage}, Runs.MayWrite};
 ghost use Rattle.pf_snap.specs.Banks.{bank_size};
 ghost use Rattle.pf_snap.specs.declared.header.TheConstants.{NEWEST};
 ghost use Rattle.pf_core.specs.{Durable.Changes.PlainDurable, Laws.Durable.IsWithin, Worlds.{last_epoch, raised}};
 ghost use Rattle.pf_store.specs.declared.store.fault.OpenFault.TheVariants as opening;
-ghost use Rattle.pf_store.specs.{Stores.Holds, StoreKept.Stands, StoreFaults.is_fault, Openings.{HasRoomHere, IsUnopened, IsFull, IsOfOpening, IsNoLaterThan, generation_of, version_of}};
+ghost use Rattle.pf_store.specs.{Stores.Holds, StoreKept.{Stands, device_of}, StoreFaults.{is_fault, is_opening_fault}, Openings.{HasRoomHere, IsUnopened, IsFull, IsOfOpening, IsNoLaterThan, generation_of, version_of}};
 
 use crate::store::fault::OpenFault;
 use crate::store::keeping::{Store, raise_on};
@@ -53,25 +53,17 @@ impl<D: Disk> Store<D> {
 
         // At each moment an image is one from the start, or holds what the device held, its epoch perhaps one greater: by the generation
         // from before or the next one, and with room for another opening if there was room.
-        ensures any_moment { IfOk result (λ r. EachMoment D.moment D.left_since self.disk r.1.disk
-            (IsOfOpening (D.seen self.disk) (D.unsynced self.disk))) }
-        ensures any_moment_err { IfErr result (λ e. EachMoment D.moment D.left_since self.disk e.1
-            (IsOfOpening (D.seen self.disk) (D.unsynced self.disk))) }
+        ensures writes { MayWrite D.Disk self.disk (device_of result) 15 (is_opening_fault result)
+            (IsOfOpening (D.seen self.disk) (D.unsynced self.disk)) }
 
         ensures refused { IfErr result (λ e. IsUnopened e.0 (D.seen self.disk)) }
         ensures untouched { IfErr result (λ e. is_fault e.0 ≡ false → (D.seen e.1 ≡ D.seen self.disk)
             × EachMoment D.moment D.left_since self.disk e.1 (IsImage (D.seen self.disk) (D.unsynced self.disk))) }
         ensures unchanged_at_bad_size { IfErr result (λ e. e.0 ≡ opening.BadSize → e.1 ≡ self.disk) }
-        ensures same_size { IfOk result (λ r. length (D.seen r.1.disk) ≡ length (D.seen self.disk)) }
         ensures size { IfOk result (λ r. r.1.size ≡ bank_size (length (D.seen self.disk))) }
-        ensures moments { IfOk result (λ r. D.moment r.1.disk ≤ D.moment self.disk + 15) }
-        ensures moments_err { IfErr result (λ e. D.moment e.1 ≤ D.moment self.disk + 15) }
-        ensures no_fault { IfOk result (λ r. D.fault_count r.1.disk ≡ D.fault_count self.disk) }
-        ensures fault { IfErr result (λ e. D.fault_count e.1 ≡ D.fault_count self.disk + (if is_fault e.0 then 1 else 0)) }
 
-        // As many as a save takes, if nothing has to be read back.
-        ensures brief { IfOk result (λ r. self.halted ≡ false → self.generation < 2 ^ 63 → D.moment r.1.disk ≤ D.moment self.disk + 10) }
-        ensures brief_err { IfErr result (λ e. self.halted ≡ false → self.generation < 2 ^ 63 → D.moment e.1 ≤ D.moment self.disk + 10) }
+        // As many moments as a save takes, if nothing has to be read back.
+        ensures brief { self.halted ≡ false → self.generation < 2 ^ 63 → D.moment (device_of result) ≤ D.moment self.disk + 10 }
     {
         if !self.can_be_raised() {
             return Store::open(alloc, self.into_disk());

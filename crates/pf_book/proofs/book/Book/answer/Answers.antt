@@ -2,9 +2,8 @@ use Rattle.std.proofs.Common.{Option, sym, subst}
 use Rattle.std.specs.Prelude.{nat_lt}
 use Rattle.std.specs.Option.{option_map}
 use Rattle.std.specs.Arc.{arc_value}
-use Rattle.pf_disk.specs.Disk.{EachMoment}
 use Rattle.pf_core.specs.{Calls.call, Durable.Changes.PlainChange, WorldBooks.{IsAt, Leads}, Worlds.{CurrentOpening, calling, upshot}}
-use Rattle.pf_book.specs.{Books.{HoldsLeft, KeepsOpening, PlainBook, StaysOpenable, StaysUnlessKept, world_book}, Receipts.IsGiven}
+use Rattle.pf_book.specs.{Books.{IsLeft, KeepsOpening, PlainBook, StaysUnlessKept, UsesDevice, is_fault_reply, world_book}, Receipts.IsGiven}
 use Rattle.pf_book.proofs.{LockedCalls.{given-last, shown-fits}, Calling.{own, own-at}}
 use Rattle.pf_book.proofs.book.Book.answer.Goals as goal
 
@@ -24,14 +23,6 @@ returns-clause-leads g c =
     subst (λ (l : PlainBook g.row.D.Denot). (h : CurrentOpening) → IsAt h (world_book l) → Leads h (world_book new) (call c.args.command.now c.call-reply.result.0) (upshot new.shown (nat_lt (g.D.Disk.fault_count l.disk) (g.D.Disk.fault_count new.disk))))
     c.look_at.ensures.same c.call-reply.ensures.leads
 
-pub returns-clause-any_moment : goal.returns-clause-any_moment
-returns-clause-any_moment g c =
-    subst (λ (l : PlainBook g.row.D.Denot). (h : CurrentOpening) → IsAt h (world_book l) → EachMoment g.D.Disk.moment g.D.Disk.left_since l.disk c.call-reply.new.self.disk (HoldsLeft h (calling c.args.command.now)))
-    c.look_at.ensures.same c.call-reply.ensures.any_moment
-
-pub returns-clause-openable : goal.returns-clause-openable
-returns-clause-openable g c = subst (λ (l : PlainBook g.row.D.Denot). StaysOpenable g.D.Disk.moment g.D.Disk.left_since l c.call-reply.new.self) c.look_at.ensures.same c.call-reply.ensures.device.openable
-
 pub returns-clause-receipt : goal.returns-clause-receipt
 returns-clause-receipt g c =
     let new = c.call-reply.new.self in
@@ -49,3 +40,7 @@ returns-clause-stays g c = subst (λ (l : PlainBook g.row.D.Denot). StaysUnlessK
 
 pub returns-clause-opening : goal.returns-clause-opening
 returns-clause-opening g c = subst (λ (l : PlainBook g.row.D.Denot). KeepsOpening l c.call-reply.new.self) c.look_at.ensures.same c.call-reply.ensures.opening
+
+pub returns-clause-device : goal.returns-clause-device
+returns-clause-device g c =
+    subst (λ (l : PlainBook g.row.D.Denot). UsesDevice g.D.Disk (is_fault_reply c.call-reply.result.0) l c.call-reply.new.self (IsLeft (world_book l) (calling c.args.command.now))) c.look_at.ensures.same c.call-reply.ensures.device

@@ -4,26 +4,10 @@ use Rattle.pf_core.specs.declared.reply.Reply.{Reply}
 use Rattle.pf_core.specs.{Durable.Changes.PlainChange, WorldBooks.{WorldBook, IsAt, LeadsGroup}, Worlds.{CurrentOpening, Upshot, flat, grouping, upshot, changes_due, replies_due, is_fault}}
 use Rattle.pf_core.proofs.Courses.{told_as}
 use Rattle.pf_book.specs.{Books.{world_book, log_in, StaysUnlessAnyKept}, Groups.{Answered, AreAnswered}, Pairs.{kept_count, paired}}
-use Rattle.pf_book.proofs.{Calling.{fault-flag, own, own-at}, Grouping.{begin-calm, begin-leads, begun-by, memory-refuses}, OpenedBooks.{disk-of, log-of, moment-of, stays-of}, HistoryGroups.left-group, GroupReceipts.{IsTold, told-by, slips, paired-replies, paired-shown, kept-due, one-each}}
+use Rattle.pf_book.proofs.{Calling.{fault-flag, own, own-at}, Grouping.{begin-calm, begin-leads, begun-by, memory-refuses}, OpenedBooks.{left-in, log-of, rests-of}, HistoryGroups.left-group, GroupReceipts.{IsTold, told-by, slips, paired-replies, paired-shown, kept-due, one-each}}
 use Rattle.pf_book.proofs.book.Book.answer_each.Given.{Over}
 use Rattle.pf_book.proofs.book.Book.answer_each.Goals.{In-Ok, After-pair}
 use Rattle.pf_book.proofs.book.Book.answer_each.Goals as goal
-
-pub returns-in_err-check_all-clause-any_moment : goal.returns-in_err-check_all-clause-any_moment
-returns-in_err-check_all-clause-any_moment g c =
-    let i = c.self.invariant in
-    moment-of i c.self.view_is g.D.Disk.moment g.D.Disk.left_since (g.met.D.Disk.only_now c.self.inside.store.disk) (grouping c.args.commands.now) c.args.self.now.disk (disk-of i c.self.view_is)
-
-pub returns-in_err-check_all-clause-openable : goal.returns-in_err-check_all-clause-openable
-returns-in_err-check_all-clause-openable g c = stays-of c.self.invariant c.self.view_is g.D.Disk.moment g.D.Disk.left_since (g.met.D.Disk.only_now c.self.inside.store.disk)
-
-pub returns-in_err-answers-clause-any_moment : goal.returns-in_err-answers-clause-any_moment
-returns-in_err-answers-clause-any_moment g c =
-    let i = c.self.invariant in
-    moment-of i c.self.view_is g.D.Disk.moment g.D.Disk.left_since (g.met.D.Disk.only_now c.self.inside.store.disk) (grouping c.args.commands.now) c.args.self.now.disk (disk-of i c.self.view_is)
-
-pub returns-in_err-answers-clause-openable : goal.returns-in_err-answers-clause-openable
-returns-in_err-answers-clause-openable g c = stays-of c.self.invariant c.self.view_is g.D.Disk.moment g.D.Disk.left_since (g.met.D.Disk.only_now c.self.inside.store.disk)
 
 -- what the group was told
 module _ (g : Over) (c : In-Ok g) where
@@ -168,26 +152,31 @@ returns-in_err-answers-clause-stays g c =
 pub returns-in_err-answers-clause-opening : goal.returns-in_err-answers-clause-opening
 returns-in_err-answers-clause-opening g c = record { base = refl; setting = refl }
 
-pub returns-in-Ok-clause-any_moment : goal.returns-in-Ok-clause-any_moment
-returns-in-Ok-clause-any_moment g c = c.call_all.ensures.any_moment
-
-pub returns-in-Ok-clause-openable : goal.returns-in-Ok-clause-openable
-returns-in-Ok-clause-openable g c = c.call_all.ensures.device.openable
-
 pub returns-in-Ok-clause-opening : goal.returns-in-Ok-clause-opening
 returns-in-Ok-clause-opening g c = c.call_all.ensures.opening
 
 pub returns-in-Err-clause-leads : goal.returns-in-Err-clause-leads
 returns-in-Err-clause-leads g c = c.in-Err.ensures.leads
 
-pub returns-in-Err-clause-any_moment : goal.returns-in-Err-clause-any_moment
-returns-in-Err-clause-any_moment g c = c.call_all.ensures.any_moment
-
-pub returns-in-Err-clause-openable : goal.returns-in-Err-clause-openable
-returns-in-Err-clause-openable g c = c.call_all.ensures.device.openable
-
 pub returns-in-Err-clause-stays : goal.returns-in-Err-clause-stays
 returns-in-Err-clause-stays g c = c.in-Err.ensures.stays
 
 pub returns-in-Err-clause-opening : goal.returns-in-Err-clause-opening
 returns-in-Err-clause-opening g c = c.call_all.ensures.opening
+
+pub returns-in_err-check_all-clause-device : goal.returns-in_err-check_all-clause-device
+returns-in_err-check_all-clause-device g c =
+    let p = err_from_is_err_and c.from_residual.result c.from_residual.ensures.1 in
+    let calm : is_fault c.in_err-check_all.field-0.0 ≡ false = begin-calm (world_book c.args.self.now) c.args.commands.now c.in_err-check_all.field-0.0 c.in_err-check_all.ensures in
+    rw (p.1, p.2, calm) (rests-of g.D.Disk c.self.invariant c.self.view_is (g.met.D.Disk.only_now c.self.inside.store.disk) (left-in c.self.invariant c.self.view_is (grouping c.args.commands.now)))
+
+pub returns-in_err-answers-clause-device : goal.returns-in_err-answers-clause-device
+returns-in_err-answers-clause-device g c =
+    let p = err_from_is_err_and c.from_residual-in_err-answers.result c.from_residual-in_err-answers.ensures.1 in
+    rw (p.1, p.2) (rests-of g.D.Disk c.self.invariant c.self.view_is (g.met.D.Disk.only_now c.self.inside.store.disk) (left-in c.self.invariant c.self.view_is (grouping c.args.commands.now)))
+
+pub returns-in-Ok-clause-device : goal.returns-in-Ok-clause-device
+returns-in-Ok-clause-device g c = c.in-Ok.ensures.device
+
+pub returns-in-Err-clause-device : goal.returns-in-Err-clause-device
+returns-in-Err-clause-device g c = c.in-Err.ensures.device

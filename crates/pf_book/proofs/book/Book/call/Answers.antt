@@ -1,15 +1,14 @@
 use Rattle.std.proofs.{Common.{◌≡◌, ◌+◌, ℕ, Bool, false, cond, [], length, map, Ok, Err, refl, sym, ap, ◌∙◌, subst, arith}, lemmas.Grind.common_steps}
 use Rattle.std.specs.{Arc.arc_value, Option.option_map, Prelude.nat_lt}
-use Rattle.pf_disk.specs.Disk.{EachMoment}
 use Rattle.pf_core.specs.declared.reply.{Reply.TheVariants.{Answer, Refused}, Refusal.Refusal, Refusal.TheVariants.Halted}
 use Rattle.pf_core.specs.declared.{reply.Answer.TheVariants.Judged, step.Step.TheVariants.{Wants, OfHistory}}
 use Rattle.pf_core.specs.{Calls.call, Commands.{may_change, takes_memory}, Durable.Changes.{applied, fits, verdict}, Laws.Wanted.wants_what_fits, WorldBooks.{WorldBook, IsAt, Leads}, Cores.{PlainCore, left_by, plain}, Worlds.{CurrentOpening, calling, is_fault, upshot}}
 use Rattle.pf_store.specs.Stores.{HoldsEither}
 use Rattle.pf_book.specs.{Books.{PlainBook, book_of, world_book, world_book_of, IsBook, IsJudged, IsMade, IsTold, UsesDevice, is_fault_reply}, Receipts.IsGiven}
 use Rattle.pf_book.proofs.LockedCalls.{told-given}
-use Rattle.pf_book.proofs.Calling.{with_core, IsFree, Steps, unchanging, none-behind, no-fault, not-more, fault-flag, answer-leads, halted-leads, refusal-leads, told-calm, told-numbered, told-opening, told-stays, history-leads, judged-by, made-leads, made-numbered, made-opening, made-stays, made-moment, err-not-fault, wants-free}
+use Rattle.pf_book.proofs.Calling.{with_core, IsFree, Steps, unchanging, none-behind, no-fault, not-more, fault-flag, answer-leads, halted-leads, refusal-leads, told-calm, told-numbered, told-opening, told-stays, history-leads, judged-by, made-leads, made-numbered, made-opening, made-stays, made-uses, err-not-fault, wants-free}
 use Rattle.pf_book.proofs.BookInvariant.{stepped-book}
-use Rattle.pf_book.proofs.OpenedBooks.{parts, disk-of, folded-of, fronts-of, core-of, moment-of, opening-of, quiet-of, rests-of, all-of}
+use Rattle.pf_book.proofs.{OpenedBooks.{parts, disk-of, folded-of, core-of, left-in, opening-of, quiet-of, rests-of, all-of}, Openable.uses-told}
 use Rattle.pf_book.proofs.Wanting.{wanted-can}
 use Rattle.pf_book.proofs.book.Book.call.Given.{Over}
 use Rattle.pf_book.proofs.book.Book.call.Goals.{else-self-len-via-then-self-len+else-may_change, else-self-len-via-else-self-len, After-step_ready, After-make, After-answer_history}
@@ -25,13 +24,8 @@ returns-then-may_change-clause-leads g c h at =
     let f : ℕ = g.D.Disk.fault_count c.args.self.now.disk in
     no-fault h b (call c.args.command.now (Refused Halted)) b.shown (nat_lt f f) (not-more f f (omega arith)) (halted-leads h b c.args.command.now (sym c.may_change.ensures ∙ c.if-may_change.true) some at)
 
-pub returns-then-may_change-clause-any_moment : goal.returns-then-may_change-clause-any_moment
-returns-then-may_change-clause-any_moment g c =
-    let i = c.self.invariant in
-    moment-of i c.self.view_is g.D.Disk.moment g.D.Disk.left_since (g.met.D.Disk.only_now c.self.inside.store.disk) (calling c.args.command.now) c.args.self.now.disk (disk-of i c.self.view_is)
-
 pub returns-then-may_change-clause-device : goal.returns-then-may_change-clause-device
-returns-then-may_change-clause-device g c = rests-of c.self.invariant c.self.view_is g.D.Disk.moment g.D.Disk.left_since (g.met.D.Disk.only_now c.self.inside.store.disk) g.D.Disk.fault_count
+returns-then-may_change-clause-device g c = rests-of g.D.Disk c.self.invariant c.self.view_is (g.met.D.Disk.only_now c.self.inside.store.disk) (left-in c.self.invariant c.self.view_is (calling c.args.command.now))
 
 pub returns-then-may_change-clause-opening : goal.returns-then-may_change-clause-opening
 returns-then-may_change-clause-opening g c = record { base = refl; setting = refl }
@@ -91,13 +85,8 @@ returns-in-Ok-Done-clause-leads g c =
     (λ h at. no-fault h new (call c.args.command.now r) (length (g.S.Publisher.plain s.shower).shown) (nat_lt f f) (not-more f f (omega arith))
     (answer-leads h b c.step_ready.new.self c.args.command.now c.in-Ok-Done.answer at c.self.invariant.folded before e.reply (ap (λ (w : PlainCore). w.tickets) e.left)))
 
-pub returns-in-Ok-Done-clause-any_moment : goal.returns-in-Ok-Done-clause-any_moment
-returns-in-Ok-Done-clause-any_moment g c =
-    moment-of c.self.invariant c.self.view_is g.D.Disk.moment g.D.Disk.left_since (g.met.D.Disk.only_now c.self.inside.store.disk) (calling c.args.command.now) c.self.inside.store.disk refl
-
 pub returns-in-Ok-Done-clause-device : goal.returns-in-Ok-Done-clause-device
-returns-in-Ok-Done-clause-device g c =
-    quiet-of c.self.invariant c.self.view_is g.D.Disk.moment g.D.Disk.left_since (g.met.D.Disk.only_now c.self.inside.store.disk) g.D.Disk.fault_count _ refl refl refl
+returns-in-Ok-Done-clause-device g c = quiet-of g.D.Disk c.self.invariant c.self.view_is (g.met.D.Disk.only_now c.self.inside.store.disk) (left-in c.self.invariant c.self.view_is (calling c.args.command.now)) _ refl refl refl
 
 pub returns-in-Ok-Done-clause-opening : goal.returns-in-Ok-Done-clause-opening
 returns-in-Ok-Done-clause-opening g c = opening-of c.self.invariant c.self.view_is c.step_ready.new.self
@@ -150,20 +139,8 @@ returns-in-Ok-Wants-clause-leads g c h at =
     let n : ℕ = g.D.Disk.fault_count c.args.self.now.disk in
     let m : ℕ = g.D.Disk.fault_count c.make.new.self.disk in
     let failed : Bool = is_fault_reply c.make.result.0 in
-    let faults : m ≡ n + cond failed 1 0 = subst (λ (l : PlainBook g.row.D.Denot). m ≡ g.D.Disk.fault_count l.disk + cond failed 1 0) c.self.view_is c.make.ensures.device.faults in
+    let faults : m ≡ n + cond failed 1 0 = subst (λ (l : PlainBook g.row.D.Denot). m ≡ g.D.Disk.fault_count l.disk + cond failed 1 0) c.self.view_is c.make.ensures.device.run.faults in
     made-leads h (world_book c.args.self.now) c.args.command.now c.in-Ok-Wants.change c.in-Ok-Wants.outcome at (folded-of c.self.invariant c.self.view_is) before (steps g here) c.make.result.0 (world_book c.make.new.self) (nat_lt n m) (made g here) (fault-flag n m failed faults)
-
-pub returns-in-Ok-Wants-clause-any_moment : goal.returns-in-Ok-Wants-clause-any_moment
-returns-in-Ok-Wants-clause-any_moment g c h at =
-    let i = c.self.invariant in
-    let here = (goal.at.returns-in-Ok-Wants-clause-any_moment g c).After-make in
-    let before = free g (goal.at.returns-in-Ok-Wants-clause-any_moment g c).After-step_ready in
-    let new = c.make.new.self in
-    let change = c.in-Ok-Wants.change in
-    made-moment g.D.Disk.seen g.D.Disk.unsynced g.D.Disk.moment g.D.Disk.left_since h (world_book c.args.self.now) (world_book new) c.args.command.now change c.in-Ok-Wants.outcome at (folded-of i c.self.view_is) before (steps g here)
-    c.args.self.now.disk new.disk (g.met.D.Disk.only_now c.args.self.now.disk) (fronts-of i c.self.view_is)
-    (subst (λ (l : PlainBook g.row.D.Denot). EachMoment g.D.Disk.moment g.D.Disk.left_since l.disk new.disk (HoldsEither l.whole.durable (applied l.whole.durable change))) (became g here) c.make.ensures.any_moment)
-    c.make.result.0 (made g here) (still g here)
 
 pub returns-in-Ok-Wants-clause-stays : goal.returns-in-Ok-Wants-clause-stays
 returns-in-Ok-Wants-clause-stays g c =
@@ -176,8 +153,14 @@ returns-in-Ok-Wants-clause-given g c =
 
 pub returns-in-Ok-Wants-clause-device : goal.returns-in-Ok-Wants-clause-device
 returns-in-Ok-Wants-clause-device g c =
-    subst (λ (l : PlainBook g.row.D.Denot). UsesDevice g.D.Disk.moment g.D.Disk.left_since g.D.Disk.seen g.D.Disk.fault_count (is_fault_reply c.make.result.0) l c.make.new.self)
-    (became g (goal.at.returns-in-Ok-Wants-clause-device g c).After-make) c.make.ensures.device
+    let i = c.self.invariant in
+    let here = (goal.at.returns-in-Ok-Wants-clause-device g c).After-make in
+    let before = free g (goal.at.returns-in-Ok-Wants-clause-device g c).After-step_ready in
+    let new = c.make.new.self in
+    let change = c.in-Ok-Wants.change in
+    made-uses c.args.self.now new c.args.command.now change c.in-Ok-Wants.outcome (folded-of i c.self.view_is) before (steps g here) c.make.result.0 (made g here) (still g here)
+    (subst (λ (l : PlainBook g.row.D.Denot). UsesDevice g.D.Disk (is_fault_reply c.make.result.0) l new (HoldsEither l.whole.durable (applied l.whole.durable change))) (became g here) c.make.ensures.device)
+    (rests-of g.D.Disk c.self.invariant c.self.view_is (g.met.D.Disk.only_now c.self.inside.store.disk) (left-in c.self.invariant c.self.view_is (calling c.args.command.now)))
 
 pub returns-in-Ok-Wants-clause-opening : goal.returns-in-Ok-Wants-clause-opening
 returns-in-Ok-Wants-clause-opening g c = made-opening c.args.self.now c.make.new.self c.make.result.0 c.in-Ok-Wants.outcome c.in-Ok-Wants.change (made g (goal.at.returns-in-Ok-Wants-clause-opening g c).After-make)
@@ -219,10 +202,6 @@ returns-in-Ok-OfHistory-clause-leads g c h at =
     let still : m ≡ n = ap g.D.Disk.fault_count (c.answer_history.ensures.device ∙ sym (disk-of c.self.invariant c.self.view_is)) in
     no-fault h (world_book new) (call k c.answer_history.result) new.shown (nat_lt n m) (not-more n m (omega (arith, still))) (history-leads h (world_book c.args.self.now) (world_book new) k c.in-Ok-OfHistory.command c.answer_history.result at steps (told g here))
 
-pub returns-in-Ok-OfHistory-clause-any_moment : goal.returns-in-Ok-OfHistory-clause-any_moment
-returns-in-Ok-OfHistory-clause-any_moment g c =
-    moment-of c.self.invariant c.self.view_is g.D.Disk.moment g.D.Disk.left_since (g.met.D.Disk.only_now c.self.inside.store.disk) (calling c.args.command.now) c.answer_history.new.self.disk c.answer_history.ensures.device
-
 pub returns-in-Ok-OfHistory-clause-stays : goal.returns-in-Ok-OfHistory-clause-stays
 returns-in-Ok-OfHistory-clause-stays g c =
     told-stays c.in-Ok-OfHistory.command c.answer_history.result c.args.self.now c.answer_history.new.self (told g (goal.at.returns-in-Ok-OfHistory-clause-stays g c).After-answer_history) (c.answer_history.ensures.device ∙ sym (disk-of c.self.invariant c.self.view_is))
@@ -234,8 +213,7 @@ pub returns-in-Ok-OfHistory-clause-device : goal.returns-in-Ok-OfHistory-clause-
 returns-in-Ok-OfHistory-clause-device g c =
     let f = c.answer_history.ensures in
     let new = c.answer_history.new.self in
-    subst (λ (failed : Bool). UsesDevice g.D.Disk.moment g.D.Disk.left_since g.D.Disk.seen g.D.Disk.fault_count failed c.args.self.now new) (sym (told-calm c.in-Ok-OfHistory.command c.answer_history.result _ (world_book new) f.told))
-    (quiet-of c.self.invariant c.self.view_is g.D.Disk.moment g.D.Disk.left_since (g.met.D.Disk.only_now c.self.inside.store.disk) g.D.Disk.fault_count new f.device f.generation f.size)
+    uses-told (told-calm c.in-Ok-OfHistory.command c.answer_history.result _ (world_book new) f.told) (quiet-of g.D.Disk c.self.invariant c.self.view_is (g.met.D.Disk.only_now c.self.inside.store.disk) (left-in c.self.invariant c.self.view_is (calling c.args.command.now)) new f.device f.generation f.size)
 
 pub returns-in-Ok-OfHistory-clause-opening : goal.returns-in-Ok-OfHistory-clause-opening
 returns-in-Ok-OfHistory-clause-opening g c = told-opening c.in-Ok-OfHistory.command c.answer_history.result c.args.self.now c.answer_history.new.self (told g (goal.at.returns-in-Ok-OfHistory-clause-opening g c).After-answer_history)
@@ -261,14 +239,10 @@ returns-in-Err-clause-leads g c h at =
     subst (λ (l : PlainBook g.row.D.Denot). Leads h (world_book l) (call k (Refused why)) (upshot l.shown (nat_lt f (g.D.Disk.fault_count l.disk)))) (sym (core-of i c.self.view_is c.step_ready.new.self c.in-Err.ensures.left))
     (no-fault h b (call k (Refused why)) b.shown (nat_lt f f) (not-more f f (omega arith)) (refusal-leads h b b k why at (folded-of i c.self.view_is) before steps refl))
 
-pub returns-in-Err-clause-any_moment : goal.returns-in-Err-clause-any_moment
-returns-in-Err-clause-any_moment g c =
-    moment-of c.self.invariant c.self.view_is g.D.Disk.moment g.D.Disk.left_since (g.met.D.Disk.only_now c.self.inside.store.disk) (calling c.args.command.now) c.self.inside.store.disk refl
-
 pub returns-in-Err-clause-device : goal.returns-in-Err-clause-device
 returns-in-Err-clause-device g c =
     let quiet = err-not-fault (world_book_of (parts c.self.invariant)) c.args.command.now c.in-Err.refusal c.in-Err.ensures.reply in
-    rw quiet (quiet-of c.self.invariant c.self.view_is g.D.Disk.moment g.D.Disk.left_since (g.met.D.Disk.only_now c.self.inside.store.disk) g.D.Disk.fault_count _ refl refl refl)
+    uses-told quiet (quiet-of g.D.Disk c.self.invariant c.self.view_is (g.met.D.Disk.only_now c.self.inside.store.disk) (left-in c.self.invariant c.self.view_is (calling c.args.command.now)) _ refl refl refl)
 
 pub returns-in-Err-clause-opening : goal.returns-in-Err-clause-opening
 returns-in-Err-clause-opening g c = opening-of c.self.invariant c.self.view_is c.step_ready.new.self

@@ -1,21 +1,15 @@
 use Rattle.std.proofs.lemmas.Result.{err_from_is_err_and}
 use Rattle.std.proofs.Common.{◌≡◌, ◌+◌, ◌<◌, ◌∙◌, ℕ, Bool, false, cond, List, [], length, map, Ok, Err, refl, sym, ap, subst, arith}
 use Rattle.std.specs.{Arc.arc_value, Prelude.nat_lt}
-use Rattle.pf_disk.specs.Disk.{EachMoment}
 use Rattle.pf_core.specs.declared.reply.{Refusal.Refusal, Refusal.TheVariants.Memory, Reply.Reply}
 use Rattle.pf_core.specs.{Durable.Changes.{PlainChange, after}, WorldBooks.{WorldBook, IsAt, LeadsGroup}, Worlds.{CurrentOpening, grouping, upshot, changes_due, replies_due, is_fault}}
 use Rattle.pf_store.specs.Stores.{HoldsEither}
 use Rattle.pf_store.proofs.Saving.{on_ok}
 use Rattle.pf_book.specs.{Books.{PlainBook, book_of, world_book, AreMade, IsBook, UsesDevice, is_fault_result, replied}, Courses.IsCalm}
-use Rattle.pf_book.proofs.{Calling.{not-more, fault-flag}, Coursing.{well, none-ready, ready-some}, Grouping.{IsBegun, begin-calm, begin-leads, begun-by, memory-refuses, all-made-opening, calm, calm-group, told-leads, told-unchanged, told-moment, all-made-stay, replied-fault, still-by}, OpenedBooks.{parts, acked-of, disk-of, folded-of, fronts-of, core-of, moment-of, opening-of, quiet-of, rests-of, none-of}}
+use Rattle.pf_book.proofs.{Calling.{not-more, fault-flag}, Coursing.{well, none-ready, ready-some}, Grouping.{IsBegun, begin-calm, begin-leads, begun-by, memory-refuses, all-made-opening, calm, calm-group, told-leads, told-unchanged, told-uses, all-made-stay, replied-fault, still-by}, OpenedBooks.{parts, acked-of, disk-of, folded-of, core-of, opening-of, quiet-of, rests-of, none-of, left-in}, Openable.uses-told}
 use Rattle.pf_book.proofs.book.Book.call_all.Given.{Over}
 use Rattle.pf_book.proofs.book.Book.call_all.Goals.{After-course_of, In_ok-replies, After-make_all}
 use Rattle.pf_book.proofs.book.Book.call_all.Goals as goal
-
-pub returns-in_err-check_all-clause-any_moment : goal.returns-in_err-check_all-clause-any_moment
-returns-in_err-check_all-clause-any_moment g c =
-    let i = c.self.invariant in
-    moment-of i c.self.view_is g.D.Disk.moment g.D.Disk.left_since (g.met.D.Disk.only_now c.self.inside.store.disk) (grouping c.args.commands.now) c.args.self.now.disk (disk-of i c.self.view_is)
 
 pub returns-in_err-check_all-clause-leads : goal.returns-in_err-check_all-clause-leads
 returns-in_err-check_all-clause-leads g c =
@@ -31,7 +25,7 @@ pub returns-in_err-check_all-clause-device : goal.returns-in_err-check_all-claus
 returns-in_err-check_all-clause-device g c =
     let p = err_from_is_err_and c.from_residual.result c.from_residual.ensures.1 in
     let calm : is_fault c.in_err-check_all.field-0.0 ≡ false = begin-calm (world_book c.args.self.now) c.args.commands.now c.in_err-check_all.field-0.0 c.in_err-check_all.ensures in
-    rw (p.1, p.2, calm) (rests-of c.self.invariant c.self.view_is g.D.Disk.moment g.D.Disk.left_since (g.met.D.Disk.only_now c.self.inside.store.disk) g.D.Disk.fault_count)
+    rw (p.1, p.2, calm) (rests-of g.D.Disk c.self.invariant c.self.view_is (g.met.D.Disk.only_now c.self.inside.store.disk) (left-in c.self.invariant c.self.view_is (grouping c.args.commands.now)))
 
 pub returns-in_err-check_all-clause-opening : goal.returns-in_err-check_all-clause-opening
 returns-in_err-check_all-clause-opening g c = record { base = refl; setting = refl }
@@ -44,10 +38,6 @@ returns-in_err-check_all-clause-stays g c =
 
 pub course_of-requires-clause-may : goal.course_of-requires-clause-may
 course_of-requires-clause-may g c = (well c.args.commands.now (begun-by (world_book c.args.self.now) c.args.commands.now c.in_ok-check_all.ensures).words).may
-
-pub returns-in_err-replies-clause-any_moment : goal.returns-in_err-replies-clause-any_moment
-returns-in_err-replies-clause-any_moment g c =
-    moment-of c.self.invariant c.self.view_is g.D.Disk.moment g.D.Disk.left_since (g.met.D.Disk.only_now c.self.inside.store.disk) (grouping c.args.commands.now) c.self.inside.store.disk refl
 
 pub returns-in_err-replies-clause-leads : goal.returns-in_err-replies-clause-leads
 returns-in_err-replies-clause-leads g c =
@@ -65,7 +55,7 @@ returns-in_err-replies-clause-given g c = let p = err_from_is_err_and c.from_res
 pub returns-in_err-replies-clause-device : goal.returns-in_err-replies-clause-device
 returns-in_err-replies-clause-device g c =
     let p = err_from_is_err_and c.from_residual-in_err-replies.result c.from_residual-in_err-replies.ensures.1 in
-    rw (p.1, p.2) (quiet-of c.self.invariant c.self.view_is g.D.Disk.moment g.D.Disk.left_since (g.met.D.Disk.only_now c.self.inside.store.disk) g.D.Disk.fault_count _ refl refl refl)
+    rw (p.1, p.2) (quiet-of g.D.Disk c.self.invariant c.self.view_is (g.met.D.Disk.only_now c.self.inside.store.disk) (left-in c.self.invariant c.self.view_is (grouping c.args.commands.now)) _ refl refl refl)
 
 pub returns-in_err-replies-clause-opening : goal.returns-in_err-replies-clause-opening
 returns-in_err-replies-clause-opening g c = opening-of c.self.invariant c.self.view_is c.course_of.new.core
@@ -135,29 +125,23 @@ returns-in-Some-clause-leads g c h at =
     let failed : Bool = is_fault_result (replied c.make_all.result) in
     let faults : g.D.Disk.fault_count new.disk ≡ g.D.Disk.fault_count c.args.self.now.disk + cond failed 1 0 =
     subst (λ (l : PlainBook g.row.D.Denot). g.D.Disk.fault_count new.disk ≡ g.D.Disk.fault_count l.disk + cond failed 1 0) c.self.view_is
-    (subst (λ (x : Bool). g.D.Disk.fault_count new.disk ≡ g.D.Disk.fault_count c.self.inside.store.disk + cond x 1 0) (sym (replied-fault c.make_all.result)) c.make_all.ensures.device.faults) in
+    (subst (λ (x : Bool). g.D.Disk.fault_count new.disk ≡ g.D.Disk.fault_count c.self.inside.store.disk + cond x 1 0) (sym (replied-fault c.make_all.result)) c.make_all.ensures.device.run.faults) in
     told-leads h (world_book c.args.self.now) c.args.commands.now at (begun g here) _ _ (told_is g here h at) (wants g here h at) (replied c.make_all.result) (world_book new)
     (nat_lt (g.D.Disk.fault_count c.args.self.now.disk) (g.D.Disk.fault_count new.disk)) (some g there) (made g there) (fault-flag (g.D.Disk.fault_count c.args.self.now.disk) (g.D.Disk.fault_count new.disk) failed faults)
-
-pub returns-in-Some-clause-any_moment : goal.returns-in-Some-clause-any_moment
-returns-in-Some-clause-any_moment g c h at =
-    let i = c.self.invariant in
-    let here = (goal.at.returns-in-Some-clause-any_moment g c).In_ok-replies in
-    let there = (goal.at.returns-in-Some-clause-any_moment g c).After-make_all in
-    let new = c.make_all.new.self in
-    let changes : List PlainChange = c.in_ok-replies.field-0.changes.items in
-    told-moment h (world_book c.args.self.now) c.args.commands.now at (begun g here) _ _ (told_is g here h at) (wants g here h at)
-    g.D.Disk.seen g.D.Disk.unsynced g.D.Disk.moment g.D.Disk.left_since (world_book new) (folded-of i c.self.view_is) c.args.self.now.disk new.disk (g.met.D.Disk.only_now c.args.self.now.disk) (fronts-of i c.self.view_is)
-    (subst (λ (l : PlainBook g.row.D.Denot). EachMoment g.D.Disk.moment g.D.Disk.left_since l.disk new.disk (HoldsEither l.whole.durable (after l.whole.durable changes))) (became g there) c.make_all.ensures.any_moment)
-    (replied c.make_all.result) (made g there) (still g there)
 
 pub returns-in-Some-clause-given : goal.returns-in-Some-clause-given
 returns-in-Some-clause-given g c = on_ok c.make_all.result _ _ (λ x is h at. is ∙ wants g (goal.at.returns-in-Some-clause-given g c).In_ok-replies h at) c.make_all.ensures.given
 
 pub returns-in-Some-clause-device : goal.returns-in-Some-clause-device
 returns-in-Some-clause-device g c =
-    subst (λ (l : PlainBook g.row.D.Denot). UsesDevice g.D.Disk.moment g.D.Disk.left_since g.D.Disk.seen g.D.Disk.fault_count (is_fault_result c.make_all.result) l c.make_all.new.self)
-    (became g (goal.at.returns-in-Some-clause-device g c).After-make_all) c.make_all.ensures.device
+    let here = (goal.at.returns-in-Some-clause-device g c).In_ok-replies in
+    let there = (goal.at.returns-in-Some-clause-device g c).After-make_all in
+    let new = c.make_all.new.self in
+    let changes : List PlainChange = c.in_ok-replies.field-0.changes.items in
+    uses-told (sym (replied-fault c.make_all.result))
+    (told-uses c.args.self.now new c.args.commands.now (begun g here) (folded-of c.self.invariant c.self.view_is) changes (wants g here) _ (replied c.make_all.result) (made g there) (still g there)
+    (uses-told (replied-fault c.make_all.result) (subst (λ (l : PlainBook g.row.D.Denot). UsesDevice g.D.Disk (is_fault_result c.make_all.result) l new (HoldsEither l.whole.durable (after l.whole.durable changes))) (became g there) c.make_all.ensures.device))
+    (rests-of g.D.Disk c.self.invariant c.self.view_is (g.met.D.Disk.only_now c.self.inside.store.disk) (left-in c.self.invariant c.self.view_is (grouping c.args.commands.now))))
 
 pub returns-in-Some-clause-opening : goal.returns-in-Some-clause-opening
 returns-in-Some-clause-opening g c = all-made-opening c.args.self.now c.make_all.new.self (replied c.make_all.result) _ _ (made g (goal.at.returns-in-Some-clause-opening g c).After-make_all)
@@ -177,10 +161,6 @@ returns-in-None-clause-leads g c h at =
     subst (λ (l : PlainBook g.row.D.Denot). LeadsGroup h (world_book l) c.args.commands.now (Ok replies) (upshot l.shown (nat_lt f (g.D.Disk.fault_count l.disk)))) (sym (core-of c.self.invariant c.self.view_is c.course_of.new.core c.course_of.ensures.same))
     (calm-group h (world_book now) c.args.commands.now (Ok replies) now.shown (nat_lt f f) (not-more f f (omega arith)) (told-unchanged h (world_book now) c.args.commands.now at (begun g here) _ _ (told_is g here h at) (wants g here h at) nothing))
 
-pub returns-in-None-clause-any_moment : goal.returns-in-None-clause-any_moment
-returns-in-None-clause-any_moment g c =
-    moment-of c.self.invariant c.self.view_is g.D.Disk.moment g.D.Disk.left_since (g.met.D.Disk.only_now c.self.inside.store.disk) (grouping c.args.commands.now) c.self.inside.store.disk refl
-
 pub returns-in-None-clause-given : goal.returns-in-None-clause-given
 returns-in-None-clause-given g c h at =
     let nothing : c.in_ok-replies.field-0.changes.items ≡ [] = none-ready c.self.inside.core.durable c.in_ok-replies.field-0.changes.items (sym c.in-None.is ∙ c.in_ok-replies.ensures.course.next) in
@@ -188,7 +168,7 @@ returns-in-None-clause-given g c h at =
 
 pub returns-in-None-clause-device : goal.returns-in-None-clause-device
 returns-in-None-clause-device g c =
-    quiet-of c.self.invariant c.self.view_is g.D.Disk.moment g.D.Disk.left_since (g.met.D.Disk.only_now c.self.inside.store.disk) g.D.Disk.fault_count _ refl refl refl
+    quiet-of g.D.Disk c.self.invariant c.self.view_is (g.met.D.Disk.only_now c.self.inside.store.disk) (left-in c.self.invariant c.self.view_is (grouping c.args.commands.now)) _ refl refl refl
 
 pub returns-in-None-clause-opening : goal.returns-in-None-clause-opening
 returns-in-None-clause-opening g c = opening-of c.self.invariant c.self.view_is c.course_of.new.core

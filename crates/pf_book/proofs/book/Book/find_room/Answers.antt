@@ -3,32 +3,8 @@ use Rattle.std.specs.{Arc.arc_value, Prelude.{not, ◌↔◌, IsTrue}, List.list
 use Rattle.pf_core.specs.{Durable.Changes.{PlainDurable, PlainChange, after}, Worlds.flat}
 use Rattle.pf_store.specs.{Groups.{can_be_wanted, made_all}, Lengths.payload_length, Rooms.group_fits, Stores.{FindsRoom, HasRoom as HasRoomFor}}
 use Rattle.pf_book.specs.Books.{HasRoom, PlainBook, cut, world_book, world_book_of}
-use Rattle.pf_book.proofs.{Finding.{FitThere, device-fits, device-full, same-room}, OpenedBooks.{parts, disk-of, stays-of, flat-of, going-of, either-of}}
+use Rattle.pf_book.proofs.{Finding.{FitThere, device-fits, device-full, same-room}, OpenedBooks.{parts, flat-of, going-of, either-of, rests-of}}
 use Rattle.pf_book.proofs.book.Book.find_room.Goals as goal
-
-pub returns-then-len-changes-clause-still : goal.returns-then-len-changes-clause-still
-returns-then-len-changes-clause-still g c =
-    let i = c.self.invariant in
-    either-of i c.self.view_is c.requires.free g.D.Disk.moment g.D.Disk.left_since (g.met.D.Disk.only_now c.self.inside.store.disk) c.args.changes.now c.args.self.now.disk (disk-of i c.self.view_is)
-
-pub returns-then-len-changes-clause-openable : goal.returns-then-len-changes-clause-openable
-returns-then-len-changes-clause-openable g c = stays-of c.self.invariant c.self.view_is g.D.Disk.moment g.D.Disk.left_since (g.met.D.Disk.only_now c.self.inside.store.disk)
-
-pub returns-then-not-has_room-clause-still : goal.returns-then-not-has_room-clause-still
-returns-then-not-has_room-clause-still g c =
-    let i = c.self.invariant in
-    either-of i c.self.view_is c.requires.free g.D.Disk.moment g.D.Disk.left_since (g.met.D.Disk.only_now c.self.inside.store.disk) c.args.changes.now c.args.self.now.disk (disk-of i c.self.view_is)
-
-pub returns-then-not-has_room-clause-openable : goal.returns-then-not-has_room-clause-openable
-returns-then-not-has_room-clause-openable g c = stays-of c.self.invariant c.self.view_is g.D.Disk.moment g.D.Disk.left_since (g.met.D.Disk.only_now c.self.inside.store.disk)
-
-pub returns-clause-still : goal.returns-clause-still
-returns-clause-still g c =
-    let i = c.self.invariant in
-    either-of i c.self.view_is c.requires.free g.D.Disk.moment g.D.Disk.left_since (g.met.D.Disk.only_now c.self.inside.store.disk) c.args.changes.now c.args.self.now.disk (disk-of i c.self.view_is)
-
-pub returns-clause-openable : goal.returns-clause-openable
-returns-clause-openable g c = stays-of c.self.invariant c.self.view_is g.D.Disk.moment g.D.Disk.left_since (g.met.D.Disk.only_now c.self.inside.store.disk)
 
 pub returns-then-len-changes-clause-err : goal.returns-then-len-changes-clause-err
 returns-then-len-changes-clause-err g c =
@@ -87,3 +63,18 @@ returns-clause-ok g c =
     let room : HasRoom (world_book_of (parts i)) es =
     record { few = few; device = device-fits s.store.size g.J.Naming.base s.core.durable c.args.next.now.durable (cut s.sizes.items log) es i.folded.durable left there } in
     subst (λ (l : PlainBook g.row.D.Denot). HasRoom (world_book l) es) c.self.view_is room
+
+pub returns-then-len-changes-clause-device : goal.returns-then-len-changes-clause-device
+returns-then-len-changes-clause-device g c =
+    let i = c.self.invariant in
+    rests-of g.D.Disk i c.self.view_is (g.met.D.Disk.only_now c.self.inside.store.disk) (either-of i c.self.view_is c.requires.free c.args.changes.now)
+
+pub returns-then-not-has_room-clause-device : goal.returns-then-not-has_room-clause-device
+returns-then-not-has_room-clause-device g c =
+    let i = c.self.invariant in
+    rests-of g.D.Disk i c.self.view_is (g.met.D.Disk.only_now c.self.inside.store.disk) (either-of i c.self.view_is c.requires.free c.args.changes.now)
+
+pub returns-clause-device : goal.returns-clause-device
+returns-clause-device g c =
+    let i = c.self.invariant in
+    rests-of g.D.Disk i c.self.view_is (g.met.D.Disk.only_now c.self.inside.store.disk) (either-of i c.self.view_is c.requires.free c.args.changes.now)

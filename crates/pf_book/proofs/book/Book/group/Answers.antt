@@ -1,10 +1,10 @@
-use Rattle.std.proofs.Common.{◌≡◌, ◌+◌, ◌∙◌, Bool, cond, Result, List, sym, ap, subst}
+use Rattle.std.proofs.Common.{◌∙◌, Result, List, sym, ap, subst}
 use Rattle.std.specs.Prelude.{nat_lt}
 use Rattle.pf_core.specs.declared.{reply.Refusal.Refusal, reply.Reply.Reply}
 use Rattle.pf_core.specs.{WorldBooks.{IsAt, LeadsGroup}, Worlds.{CurrentOpening, Upshot, upshot}}
 use Rattle.pf_core.proofs.LongerWorlds.{stands-on-group}
 use Rattle.pf_book.specs.Books.{listed, world_book, StaysUnlessAnyKept, is_fault_result}
-use Rattle.pf_book.proofs.{Calling.{own, own-at}, Grouping.{numbered-by, replied-fault}, OpenedBooks.{images-of, folded-of}}
+use Rattle.pf_book.proofs.{Calling.{own, own-at}, Grouping.{numbered-by, replied-fault}, OpenedBooks.{images-of, folded-of}, Openable.uses-told}
 use Rattle.pf_book.proofs.book.Book.group.Given.{Over}
 use Rattle.pf_book.proofs.book.Book.group.Goals.{After-alone-result}
 use Rattle.pf_book.proofs.book.Book.group.Goals as goal
@@ -39,30 +39,14 @@ returns-clause-numbered g c =
 pub returns-clause-stays : goal.returns-clause-stays
 returns-clause-stays g c = subst (λ (r : Result (List Reply) Refusal). StaysUnlessAnyKept r c.args.self.now c.call_all.new.self) (sym c.alone-result.ensures) c.call_all.ensures.stays
 
-pub returns-clause-faults : goal.returns-clause-faults
-returns-clause-faults g c =
-    subst (λ (b : Bool). g.D.Disk.fault_count c.call_all.new.self.disk ≡ g.D.Disk.fault_count c.args.self.now.disk + cond b 1 0) (sym (ap is_fault_result c.alone-result.ensures ∙ replied-fault c.call_all.result)) c.call_all.ensures.device.faults
-
-pub returns-clause-any_moment : goal.returns-clause-any_moment
-returns-clause-any_moment g c = c.call_all.ensures.any_moment
-
 pub returns-clause-fold : goal.returns-clause-fold
 returns-clause-fold g c = (folded-of c.self.invariant c.self.view_is).durable
 
 pub returns-clause-published : goal.returns-clause-published
 returns-clause-published g c = (folded-of c.self.invariant c.self.view_is).published
 
-pub returns-clause-base : goal.returns-clause-base
-returns-clause-base g c = c.call_all.ensures.opening.base
+pub returns-clause-device : goal.returns-clause-device
+returns-clause-device g c = uses-told (ap is_fault_result c.alone-result.ensures ∙ replied-fault c.call_all.result) c.call_all.ensures.device
 
-pub returns-clause-setting : goal.returns-clause-setting
-returns-clause-setting g c = c.call_all.ensures.opening.setting
-
-pub returns-clause-openable : goal.returns-clause-openable
-returns-clause-openable g c = c.call_all.ensures.device.openable
-
-pub returns-clause-moments : goal.returns-clause-moments
-returns-clause-moments g c = c.call_all.ensures.device.moments
-
-pub returns-clause-same_size : goal.returns-clause-same_size
-returns-clause-same_size g c = c.call_all.ensures.device.same_size
+pub returns-clause-opening : goal.returns-clause-opening
+returns-clause-opening g c = c.call_all.ensures.opening

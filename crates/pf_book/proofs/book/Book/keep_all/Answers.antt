@@ -1,10 +1,9 @@
-use Rattle.std.proofs.{Common.{◌≡◌, List, map, refl, sym, ap, ◌∙◌, subst, true}, lemmas.Result.err_from_is_err_and}
+use Rattle.std.proofs.{Common.{◌≡◌, List, map, refl, sym, ap, ◌∙◌, subst, true, false}, lemmas.Result.err_from_is_err_and}
 use Rattle.std.specs.{Arc.arc_value, List.list_all}
-use Rattle.pf_disk.specs.Disk.{EachMoment}
-use Rattle.pf_core.specs.{Durable.Changes.{PlainChange, after}, Nexts.PlainNext, WorldBooks.WorldBook}
+use Rattle.pf_core.specs.{Durable.Changes.{PlainChange, after}, Nexts.PlainNext, WorldBooks.WorldBook, Worlds.is_fault}
 use Rattle.pf_store.specs.{Groups.{can_be_wanted, is_group, made_all}, Stores.{FindsRoom, FollowInTurn, HoldsEither}}
-use Rattle.pf_book.specs.Books.{HasRoom, HasNoRoom, IsMore, IsUnkept, left_together, world_book}
-use Rattle.pf_book.proofs.{Finding.{unroomed, unroomed-calm}, Openable.uses-none}
+use Rattle.pf_book.specs.Books.{HasRoom, HasNoRoom, IsMore, IsUnkept, UsesDevice, left_together, world_book}
+use Rattle.pf_book.proofs.Finding.{unroomed, unroomed-calm}
 use Rattle.pf_book.proofs.book.Book.keep_all.Given.{Over}
 use Rattle.pf_book.proofs.book.Book.keep_all.Goals.{After-as_slice-2}
 use Rattle.pf_book.proofs.book.Book.keep_all.Goals as goal
@@ -25,18 +24,13 @@ returns-in_err-find_room-clause-err g c =
     let none : HasNoRoom c.in_err-find_room.field-0.0 b c.args.changes.items = subst (HasNoRoom c.in_err-find_room.field-0.0 b) c.as_slice.ensures.value c.in_err-find_room.ensures.err in
     rw (p.1, p.2) (unroomed c.in_err-find_room.field-0.0 b c.args.changes.items none)
 
-pub returns-in_err-find_room-clause-any_moment : goal.returns-in_err-find_room-clause-any_moment
-returns-in_err-find_room-clause-any_moment g c =
-    let l = c.args.self.now in
-    subst (λ (es : List PlainChange). EachMoment g.D.Disk.moment g.D.Disk.left_since l.disk l.disk (HoldsEither l.whole.durable (after l.whole.durable es))) c.as_slice.ensures.value c.find_room.ensures.still
-
 pub returns-in_err-find_room-clause-device : goal.returns-in_err-find_room-clause-device
 returns-in_err-find_room-clause-device g c =
     let b : WorldBook = world_book c.args.self.now in
     let p = err_from_is_err_and c.from_residual.result c.from_residual.ensures.1 in
     let none : HasNoRoom c.in_err-find_room.field-0.0 b c.args.changes.items = subst (HasNoRoom c.in_err-find_room.field-0.0 b) c.as_slice.ensures.value c.in_err-find_room.ensures.err in
     let now = c.args.self.now in
-    rw (p.1, p.2, unroomed-calm c.in_err-find_room.field-0.0 b c.args.changes.items none) (uses-none g.D.Disk.moment g.D.Disk.left_since g.D.Disk.seen g.D.Disk.fault_count now now c.find_room.ensures.openable refl)
+    rw (p.1, p.2, unroomed-calm c.in_err-find_room.field-0.0 b c.args.changes.items none) (subst (λ (es : List PlainChange). UsesDevice g.D.Disk false now now (HoldsEither now.whole.durable (after now.whole.durable es))) c.as_slice.ensures.value c.find_room.ensures.device)
 
 pub returns-in_err-find_room-clause-ok : goal.returns-in_err-find_room-clause-ok
 returns-in_err-find_room-clause-ok g c = let p = err_from_is_err_and c.from_residual.result c.from_residual.ensures.1 in rw (p.1) tt
@@ -51,7 +45,7 @@ pub returns-in_err-changes-clause-device : goal.returns-in_err-changes-clause-de
 returns-in_err-changes-clause-device g c =
     let p = err_from_is_err_and c.from_residual-in_err-changes.result c.from_residual-in_err-changes.ensures.1 in
     let now = c.args.self.now in
-    rw (p.1, p.2) (uses-none g.D.Disk.moment g.D.Disk.left_since g.D.Disk.seen g.D.Disk.fault_count now now c.find_room.ensures.openable refl)
+    rw (p.1, p.2) (subst (λ (es : List PlainChange). UsesDevice g.D.Disk false now now (HoldsEither now.whole.durable (after now.whole.durable es))) c.as_slice.ensures.value c.find_room.ensures.device)
 
 pub returns-in_err-changes-clause-ok : goal.returns-in_err-changes-clause-ok
 returns-in_err-changes-clause-ok g c = let p = err_from_is_err_and c.from_residual-in_err-changes.result c.from_residual-in_err-changes.ensures.1 in rw (p.1) tt
@@ -74,11 +68,6 @@ returns-in_err-changes-clause-err g c =
     let p = err_from_is_err_and c.from_residual-in_err-changes.result c.from_residual-in_err-changes.ensures.1 in
     rw (p.1, p.2) (refl, subst (HasRoom b) c.as_slice.ensures.value c.in_ok-find_room.ensures.ok)
 
-pub returns-in_err-changes-clause-any_moment : goal.returns-in_err-changes-clause-any_moment
-returns-in_err-changes-clause-any_moment g c =
-    let l = c.args.self.now in
-    subst (λ (es : List PlainChange). EachMoment g.D.Disk.moment g.D.Disk.left_since l.disk l.disk (HoldsEither l.whole.durable (after l.whole.durable es))) c.as_slice.ensures.value c.find_room.ensures.still
-
 -- what is saved are the changes
 shared : (g : Over) (c : After-as_slice-2 g) → map arc_value c.as_slice-2.result.now ≡ c.args.changes.items
 shared g c = ap (map arc_value) c.as_slice-2.ensures.value ∙ c.in_ok-changes.ensures
@@ -97,16 +86,6 @@ save-requires-clause-found g c =
     let l = c.args.self.now in
     subst (FindsRoom l.size l.whole.durable c.args.next.durable) (c.as_slice.ensures.value ∙ sym (shared g (goal.at.save-requires-clause-found g c).After-as_slice-2)) c.in_ok-find_room.ensures.found
 
-pub returns-in_err-save-clause-any_moment : goal.returns-in_err-save-clause-any_moment
-returns-in_err-save-clause-any_moment g c =
-    let l = c.args.self.now in
-    subst (λ (es : List PlainChange). EachMoment g.D.Disk.moment g.D.Disk.left_since l.disk c.save.new.self.disk (HoldsEither l.whole.durable (after l.whole.durable es))) (shared g (goal.at.returns-in_err-save-clause-any_moment g c).After-as_slice-2) c.save.ensures.any_moment
-
-pub returns-clause-any_moment : goal.returns-clause-any_moment
-returns-clause-any_moment g c =
-    let l = c.args.self.now in
-    subst (λ (es : List PlainChange). EachMoment g.D.Disk.moment g.D.Disk.left_since l.disk c.save.new.self.disk (HoldsEither l.whole.durable (after l.whole.durable es))) (shared g (goal.at.returns-clause-any_moment g c).After-as_slice-2) c.save.ensures.any_moment
-
 pub returns-in_err-save-clause-err : goal.returns-in_err-save-clause-err
 returns-in_err-save-clause-err g c =
     let p = err_from_is_err_and c.from_residual-in_err-save.result c.from_residual-in_err-save.ensures.1 in
@@ -116,7 +95,12 @@ pub returns-clause-ok : goal.returns-clause-ok
 returns-clause-ok g c = subst (IsMore (world_book c.args.self.now) (world_book c.save.new.self)) (shared g (goal.at.returns-clause-ok g c).After-as_slice-2) c.in_ok-save.ensures.ok
 
 pub returns-in_err-save-clause-device : goal.returns-in_err-save-clause-device
-returns-in_err-save-clause-device g c = let p = err_from_is_err_and c.from_residual-in_err-save.result c.from_residual-in_err-save.ensures.1 in rw (p.1, p.2) c.in_err-save.ensures.device
+returns-in_err-save-clause-device g c =
+    let now = c.args.self.now in
+    let p = err_from_is_err_and c.from_residual-in_err-save.result c.from_residual-in_err-save.ensures.1 in
+    rw (p.1, p.2)
+    (subst (λ (es : List PlainChange). UsesDevice g.D.Disk (is_fault c.in_err-save.field-0.0) now c.save.new.self (HoldsEither now.whole.durable (after now.whole.durable es)))
+    (shared g (goal.at.returns-in_err-save-clause-device g c).After-as_slice-2) c.in_err-save.ensures.device)
 
 pub returns-in_err-save-clause-ok : goal.returns-in_err-save-clause-ok
 returns-in_err-save-clause-ok g c = let p = err_from_is_err_and c.from_residual-in_err-save.result c.from_residual-in_err-save.ensures.1 in rw (p.1) tt
@@ -128,7 +112,9 @@ pub returns-in_err-save-clause-still : goal.returns-in_err-save-clause-still
 returns-in_err-save-clause-still g c = let p = err_from_is_err_and c.from_residual-in_err-save.result c.from_residual-in_err-save.ensures.1 in rw (p.1, p.2) c.in_err-save.ensures.still
 
 pub returns-clause-device : goal.returns-clause-device
-returns-clause-device g c = c.in_ok-save.ensures.device
+returns-clause-device g c =
+    let now = c.args.self.now in
+    subst (λ (es : List PlainChange). UsesDevice g.D.Disk false now c.save.new.self (HoldsEither now.whole.durable (after now.whole.durable es))) (shared g (goal.at.returns-clause-device g c).After-as_slice-2) c.in_ok-save.ensures.device
 
 pub returns-clause-given : goal.returns-clause-given
 returns-clause-given g c = c.in_ok-changes.ensures

@@ -1,5 +1,4 @@
 use Rattle.std.proofs.Common.{◌≡◌, false, [], ◌∷◌, length, Some, refl, sym, ap, ◌∙◌, subst}
-use Rattle.pf_disk.specs.Disk.{EachMoment}
 use Rattle.pf_core.specs.{Durable.Changes.applied, WorldBooks.WorldBook, Worlds.{flat, is_fault}}
 use Rattle.pf_store.specs.Stores.{HoldsEither}
 use Rattle.pf_book.specs.Books.{world_book, IsMore, UsesDevice}
@@ -30,28 +29,16 @@ returns-else-show_all-clause-given g c =
     added-by (world_book c.args.self.now) (world_book c.keep.new.self) (world_book c.show_all.new.self) c.args.change _ c.in-Ok.ensures.ok (ap (λ (p : WorldBook). p.acked) same) (ap (λ (p : WorldBook). p.pending) same) c.requires.free (ap Some c.in-Ok.ensures.given)
 
 -- the device is as the change left it
-module _ (g : Over) (c : After-show_all g) where
-  device : UsesDevice g.D.Disk.moment g.D.Disk.left_since g.D.Disk.seen g.D.Disk.fault_count false c.args.self.now c.show_all.new.self
-  device =
-      let f = c.show_all.ensures in
-      uses-then g.D.Disk.moment g.D.Disk.left_since g.D.Disk.seen g.D.Disk.fault_count false c.args.self.now c.keep.new.self c.show_all.new.self c.in-Ok.ensures.device f.device f.generation f.size
-
-  any_moment : EachMoment g.D.Disk.moment g.D.Disk.left_since c.args.self.now.disk c.show_all.new.self.disk (HoldsEither c.args.self.now.whole.durable (applied c.args.self.now.whole.durable c.args.change))
-  any_moment =
-      let now = c.args.self.now in
-      subst (λ d. EachMoment g.D.Disk.moment g.D.Disk.left_since now.disk d (HoldsEither now.whole.durable (applied now.whole.durable c.args.change))) (sym c.show_all.ensures.device) c.keep.ensures.any_moment
+device : (g : Over) (c : After-show_all g) → UsesDevice g.D.Disk false c.args.self.now c.show_all.new.self (HoldsEither c.args.self.now.whole.durable (applied c.args.self.now.whole.durable c.args.change))
+device g c =
+    let f = c.show_all.ensures in
+    uses-then c.show_all.new.self c.in-Ok.ensures.device f.device f.generation f.size
 
 pub returns-then-show_all-clause-device : goal.returns-then-show_all-clause-device
 returns-then-show_all-clause-device g c = device g (goal.at.returns-then-show_all-clause-device g c).After-show_all
 
 pub returns-else-show_all-clause-device : goal.returns-else-show_all-clause-device
 returns-else-show_all-clause-device g c = device g (goal.at.returns-else-show_all-clause-device g c).After-show_all
-
-pub returns-then-show_all-clause-any_moment : goal.returns-then-show_all-clause-any_moment
-returns-then-show_all-clause-any_moment g c = any_moment g (goal.at.returns-then-show_all-clause-any_moment g c).After-show_all
-
-pub returns-else-show_all-clause-any_moment : goal.returns-else-show_all-clause-any_moment
-returns-else-show_all-clause-any_moment g c = any_moment g (goal.at.returns-else-show_all-clause-any_moment g c).After-show_all
 
 pub returns-then-show_all-clause-still : goal.returns-then-show_all-clause-still
 returns-then-show_all-clause-still g c = λ e is. absurd (cc (is))
@@ -64,9 +51,6 @@ returns-in-Err-clause-made g c = c.in-Err.ensures.err
 
 pub returns-in-Err-clause-given : goal.returns-in-Err-clause-given
 returns-in-Err-clause-given g c = refl
-
-pub returns-in-Err-clause-any_moment : goal.returns-in-Err-clause-any_moment
-returns-in-Err-clause-any_moment g c = c.keep.ensures.any_moment
 
 pub returns-in-Err-clause-still : goal.returns-in-Err-clause-still
 returns-in-Err-clause-still g c = λ e is quiet. let same : c.in-Err.refusal ≡ e = cc (is) in c.in-Err.ensures.still (ap is_fault same ∙ quiet)

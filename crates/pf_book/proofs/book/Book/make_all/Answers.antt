@@ -1,5 +1,4 @@
-use Rattle.std.proofs.{Common.{false, ◌≡◌, ◌++◌, ℕ, List, inl, inr, length, map, take, drop, refl, sym, subst, ap, ◌∙◌, append-nil, arith}, lemmas.List.{length-map, drop_all, take_all}}
-use Rattle.pf_disk.specs.Disk.{EachMoment}
+use Rattle.std.proofs.{Common.{false, ◌≡◌, ◌++◌, ℕ, List, inl, inr, length, map, take, drop, refl, sym, ap, ◌∙◌, append-nil, arith}, lemmas.List.{length-map, drop_all, take_all}}
 use Rattle.pf_core.specs.{declared.reply.Reply.Reply, Durable.Changes.after, Worlds.as_stored}
 use Rattle.pf_store.specs.Stores.{HoldsEither}
 use Rattle.pf_book.specs.Books.{world_book, UsesDevice}
@@ -24,28 +23,16 @@ returns-else-show_all-clause-made g c =
     (world_book c.keep_all.new.self, c.in-Ok.ensures.ok, inr (all, c.if-show_all.ensures.shown))
 
 -- the device is as the changes left it
-module _ (g : Over) (c : After-show_all g) where
-  device : UsesDevice g.D.Disk.moment g.D.Disk.left_since g.D.Disk.seen g.D.Disk.fault_count false c.args.self.now c.show_all.new.self
-  device =
-      let f = c.show_all.ensures in
-      uses-then g.D.Disk.moment g.D.Disk.left_since g.D.Disk.seen g.D.Disk.fault_count false c.args.self.now c.keep_all.new.self c.show_all.new.self c.in-Ok.ensures.device f.device f.generation f.size
-
-  any_moment : EachMoment g.D.Disk.moment g.D.Disk.left_since c.args.self.now.disk c.show_all.new.self.disk (HoldsEither c.args.self.now.whole.durable (after c.args.self.now.whole.durable c.args.changes.items))
-  any_moment =
-      let now = c.args.self.now in
-      subst (λ d. EachMoment g.D.Disk.moment g.D.Disk.left_since now.disk d (HoldsEither now.whole.durable (after now.whole.durable c.args.changes.items))) (sym c.show_all.ensures.device) c.keep_all.ensures.any_moment
+device : (g : Over) (c : After-show_all g) → UsesDevice g.D.Disk false c.args.self.now c.show_all.new.self (HoldsEither c.args.self.now.whole.durable (after c.args.self.now.whole.durable c.args.changes.items))
+device g c =
+    let f = c.show_all.ensures in
+    uses-then c.show_all.new.self c.in-Ok.ensures.device f.device f.generation f.size
 
 pub returns-then-show_all-clause-device : goal.returns-then-show_all-clause-device
 returns-then-show_all-clause-device g c = device g (goal.at.returns-then-show_all-clause-device g c).After-show_all
 
 pub returns-else-show_all-clause-device : goal.returns-else-show_all-clause-device
 returns-else-show_all-clause-device g c = device g (goal.at.returns-else-show_all-clause-device g c).After-show_all
-
-pub returns-then-show_all-clause-any_moment : goal.returns-then-show_all-clause-any_moment
-returns-then-show_all-clause-any_moment g c = any_moment g (goal.at.returns-then-show_all-clause-any_moment g c).After-show_all
-
-pub returns-else-show_all-clause-any_moment : goal.returns-else-show_all-clause-any_moment
-returns-else-show_all-clause-any_moment g c = any_moment g (goal.at.returns-else-show_all-clause-any_moment g c).After-show_all
 
 pub returns-then-show_all-clause-given : goal.returns-then-show_all-clause-given
 returns-then-show_all-clause-given g c = c.in-Ok.ensures.given
@@ -55,9 +42,6 @@ returns-else-show_all-clause-given g c = c.in-Ok.ensures.given
 
 pub returns-in-Err-clause-made : goal.returns-in-Err-clause-made
 returns-in-Err-clause-made g c = c.in-Err.ensures.err
-
-pub returns-in-Err-clause-any_moment : goal.returns-in-Err-clause-any_moment
-returns-in-Err-clause-any_moment g c = c.keep_all.ensures.any_moment
 
 pub returns-in-Err-clause-still : goal.returns-in-Err-clause-still
 returns-in-Err-clause-still g c = c.in-Err.ensures.still

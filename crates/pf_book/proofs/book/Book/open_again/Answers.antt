@@ -17,12 +17,6 @@ returns-clause-generation g c = rw c.take_apart-store.ensures.device at c.open_a
 pub returns-clause-room : goal.returns-clause-room
 returns-clause-room g c = rw c.take_apart-store.ensures.device at c.open_again.ensures.room
 
-pub returns-clause-any_moment : goal.returns-clause-any_moment
-returns-clause-any_moment g c = rw c.take_apart-store.ensures.device at c.open_again.ensures.any_moment
-
-pub returns-clause-any_moment_err : goal.returns-clause-any_moment_err
-returns-clause-any_moment_err g c = rw c.take_apart-store.ensures.device at c.open_again.ensures.any_moment_err
-
 pub returns-clause-refused : goal.returns-clause-refused
 returns-clause-refused g c = rw c.take_apart-store.ensures.device at c.open_again.ensures.refused
 
@@ -32,17 +26,5 @@ returns-clause-untouched g c = rw c.take_apart-store.ensures.device at c.open_ag
 pub returns-clause-unchanged_at_bad_size : goal.returns-clause-unchanged_at_bad_size
 returns-clause-unchanged_at_bad_size g c = rw c.take_apart-store.ensures.device at c.open_again.ensures.unchanged_at_bad_size
 
-pub returns-clause-same_size : goal.returns-clause-same_size
-returns-clause-same_size g c = rw c.take_apart-store.ensures.device at c.open_again.ensures.same_size
-
-pub returns-clause-moments : goal.returns-clause-moments
-returns-clause-moments g c = rw c.take_apart-store.ensures.device at c.open_again.ensures.moments
-
-pub returns-clause-moments_err : goal.returns-clause-moments_err
-returns-clause-moments_err g c = rw c.take_apart-store.ensures.device at c.open_again.ensures.moments_err
-
-pub returns-clause-no_fault : goal.returns-clause-no_fault
-returns-clause-no_fault g c = rw c.take_apart-store.ensures.device at c.open_again.ensures.no_fault
-
-pub returns-clause-fault : goal.returns-clause-fault
-returns-clause-fault g c = rw c.take_apart-store.ensures.device at c.open_again.ensures.fault
+pub returns-clause-writes : goal.returns-clause-writes
+returns-clause-writes g c = rw c.take_apart-store.ensures.device at c.open_again.ensures.writes

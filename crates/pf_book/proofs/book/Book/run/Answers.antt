@@ -21,9 +21,6 @@ returns-clause-shown g c = (c.call-reply.ensures.leads (own (world_book c.args.s
 pub returns-clause-legal : goal.returns-clause-legal
 returns-clause-legal g c = λ h at. (c.call-reply.ensures.leads h at).legal.reply
 
-pub returns-clause-any_moment : goal.returns-clause-any_moment
-returns-clause-any_moment g c = c.call-reply.ensures.any_moment
-
 pub returns-clause-fold : goal.returns-clause-fold
 returns-clause-fold g c = (folded-of c.self.invariant c.self.view_is).durable
 
@@ -39,20 +36,8 @@ returns-clause-judged g c = c.call-reply.ensures.judged
 pub returns-clause-stays : goal.returns-clause-stays
 returns-clause-stays g c = c.call-reply.ensures.stays
 
-pub returns-clause-base : goal.returns-clause-base
-returns-clause-base g c = c.call-reply.ensures.opening.base
+pub returns-clause-device : goal.returns-clause-device
+returns-clause-device g c = c.call-reply.ensures.device
 
-pub returns-clause-setting : goal.returns-clause-setting
-returns-clause-setting g c = c.call-reply.ensures.opening.setting
-
-pub returns-clause-openable : goal.returns-clause-openable
-returns-clause-openable g c = c.call-reply.ensures.device.openable
-
-pub returns-clause-moments : goal.returns-clause-moments
-returns-clause-moments g c = c.call-reply.ensures.device.moments
-
-pub returns-clause-same_size : goal.returns-clause-same_size
-returns-clause-same_size g c = c.call-reply.ensures.device.same_size
-
-pub returns-clause-faults : goal.returns-clause-faults
-returns-clause-faults g c = c.call-reply.ensures.device.faults
+pub returns-clause-opening : goal.returns-clause-opening
+returns-clause-opening g c = c.call-reply.ensures.opening

@@ -1,13 +1,14 @@
 use Rattle.std.proofs.{Common.{Bool, true, false, ◌≡◌, ◌+◌, ◌≤◌, ℕ, List, [], ◌∷◌, ◌++◌, length, map, refl, sym, ap, ◌∙◌, subst, arith}, lemmas.{List.{length-map, map-append}, Result.err_from_is_err_and}}
-use Rattle.std.specs.{Arc.arc_value, Prelude.if◌then◌else◌}
-use Rattle.pf_disk.specs.Disk.{EachMoment, IsImage}
+use Rattle.std.specs.Arc.{arc_value}
+use Rattle.pf_disk.specs.{Disk.IsImage, Runs.MayWrite}
+use Rattle.pf_disk.proofs.Writing.{read_is, weakened}
 use Rattle.pf_ticket.specs.{Laws.Tickets.IsWithin as AreTicketsWithin, Mentions.{after as moved_by, switches}}
 use Rattle.pf_ticket.proofs.TicketLimits.{keeps_the_limits}
 use Rattle.pf_core.specs.{Durable.Changes.{PlainDurable, PlainChange, after}, Nexts.PlainNext, WorldBooks.WorldBook, Cores.PlainCore}
-use Rattle.pf_store.specs.{Groups.made_all, Openings.{IsNoLaterThan, LeavesRoom}, Rooms.on_device, Stores.{FollowInTurn, Holds, HoldsEither, FindsRoom, IsRoomy}, StoreKept.{Stands, PlainStore}}
+use Rattle.pf_store.specs.{Groups.made_all, Openings.{IsNoLaterThan, IsOfSave, LeavesRoom}, Rooms.on_device, Stores.{FollowInTurn, Holds, HoldsEither, FindsRoom, IsRoomy}, StoreKept.{Stands, PlainStore}}
 use Rattle.pf_store.proofs.Leading.{left_by_made}
-use Rattle.pf_book.specs.Books.{PlainBook, cut, book_of, world_book, world_book_of, IsMore, IsPending, StaysOpenable, UsesDevice}
-use Rattle.pf_book.proofs.{Finding.{same-room, few-formed, some-formed}, BookInvariant.{with-pending, more-book, fault-book}, OpenedBooks.{parts, left-of, room-of, same-of, disk-of, quiet-of, none-of, all-of, flat-of, going-of, either-of}, Openable.{itself, later, saved-openable, then-still}, HistoryGroups.{grouped-some, IsGrown, grown-acked, grown-pending}}
+use Rattle.pf_book.specs.Books.{PlainBook, cut, book_of, world_book, world_book_of, IsMore, IsOfCall, IsPending, UsesDevice}
+use Rattle.pf_book.proofs.{Finding.{same-room, few-formed, some-formed}, BookInvariant.{with-pending, more-book, fault-book}, OpenedBooks.{parts, left-of, room-of, same-of, disk-of, quiet-of, none-of, all-of, flat-of, going-of, either-of}, Openable.{later}, HistoryGroups.{grouped-some, IsGrown, grown-acked, grown-pending}}
 use Rattle.pf_book.proofs.book.Book.save.Given.{Over}
 use Rattle.pf_book.proofs.book.Book.save.Goals.{After-save, After-accept, In-Err-Halted}
 use Rattle.pf_book.proofs.book.Book.save.Goals as goal
@@ -19,10 +20,6 @@ logged-behind f old mid new copies given same put is = ap (map f) put ∙ map-ap
 -- a later generation is at most one later
 one-more : (g h : ℕ) → g ≤ h → g + 1 ≤ h + 1
 one-more g h le = omega arith
-
--- a device that is the same before and after a call is at most ten moments later
-moments-on : {D : Type 0} (moment : D → ℕ) (old was now new : D) → old ≡ was → new ≡ now → moment now ≤ moment was + 10 → moment new ≤ moment old + 10
-moments-on moment old was now new before after le = omega (arith, ap moment before, ap moment after)
 
 pub save-requires-clause-stands : goal.save-requires-clause-stands
 save-requires-clause-stands g c going =
@@ -43,10 +40,6 @@ save-requires-clause-early g c going =
     let room = room-of i c.self.view_is (map arc_value c.args.changes.now) c.requires.room in
     omega (arith, i.early going, i.limit, room.few, ap length (flat-of i c.self.view_is c.requires.free))
 
-pub returns-in_err-logged-clause-any_moment : goal.returns-in_err-logged-clause-any_moment
-returns-in_err-logged-clause-any_moment g c =
-    either-of c.self.invariant c.self.view_is c.requires.free g.D.Disk.moment g.D.Disk.left_since (g.met.D.Disk.only_now c.self.inside.store.disk) (map arc_value c.args.changes.now) c.self.inside.store.disk refl
-
 pub returns-in_err-logged-clause-err : goal.returns-in_err-logged-clause-err
 returns-in_err-logged-clause-err g c =
     let p = err_from_is_err_and c.from_residual.result c.from_residual.ensures.1 in
@@ -56,7 +49,7 @@ returns-in_err-logged-clause-err g c =
 pub returns-in_err-logged-clause-device : goal.returns-in_err-logged-clause-device
 returns-in_err-logged-clause-device g c =
     let p = err_from_is_err_and c.from_residual.result c.from_residual.ensures.1 in
-    rw (p.1, p.2) (quiet-of c.self.invariant c.self.view_is g.D.Disk.moment g.D.Disk.left_since (g.met.D.Disk.only_now c.self.inside.store.disk) g.D.Disk.fault_count _ refl refl refl)
+    rw (p.1, p.2) (quiet-of g.D.Disk c.self.invariant c.self.view_is (g.met.D.Disk.only_now c.self.inside.store.disk) (either-of c.self.invariant c.self.view_is c.requires.free (map arc_value c.args.changes.now)) _ refl refl refl)
 
 pub returns-in_err-logged-clause-ok : goal.returns-in_err-logged-clause-ok
 returns-in_err-logged-clause-ok g c = let p = err_from_is_err_and c.from_residual.result c.from_residual.ensures.1 in rw (p.1) tt
@@ -73,56 +66,49 @@ module _ (g : Over) (c : After-save g) where
   abbrev Each : (List ℕ → Type 0) → Type 0
   Each P = (image : List ℕ) → IsImage (g.D.Disk.seen c.save.new.self.disk) (g.D.Disk.unsynced c.save.new.self.disk) image → P image
 
-  abbrev Moments : (List ℕ → Type 0) → Type 0
-  Moments P = EachMoment g.D.Disk.moment g.D.Disk.left_since c.self.inside.store.disk c.save.new.self.disk P
-
   going : c.self.inside.store.halted ≡ false
   going = going-of c.self.invariant c.self.view_is c.requires.free
 
   left : c.args.next.durable ≡ after c.self.inside.core.durable (map arc_value c.args.changes.now)
   left = left-of c.self.invariant c.self.view_is c.args.next (map arc_value c.args.changes.now) c.requires.made
 
-  run : Moments (HoldsEither c.self.inside.core.durable (after c.self.inside.core.durable (map arc_value c.args.changes.now)))
-  run = subst (λ (k : PlainDurable). Moments (HoldsEither c.self.inside.core.durable k)) (c.deref.ensures ∙ c.in_ok-logged.ensures.after ∙ left)
-      (subst (λ (k : PlainDurable). Moments (HoldsEither k c.deref.result.now)) c.durable.ensures (c.save.ensures.any_moment going))
+  -- each image of the save
+  abbrev Saves : List ℕ → Type 0
+  Saves = IsOfSave (g.D.Disk.seen c.self.inside.store.disk) (c.self.inside.store.generation + 1) c.durable.result.now c.deref.result.now
 
-  early : Moments (IsNoLaterThan (c.self.inside.store.generation + 1))
-  early = c.save.ensures.generations going
+  saves : Each Saves
+  saves image is = c.save.ensures.writes.any_moment.each image (g.met.D.Disk.counts_now c.save.new.self.disk (g.D.Disk.moment c.self.inside.store.disk) image c.save.ensures.writes.any_moment.later is) going
 
-  leaves : IsRoomy c.self.inside.store.size g.J.Naming.base → Moments LeavesRoom
-  leaves room =
+  holds : (image : List ℕ) → Saves image → HoldsEither c.self.inside.core.durable (after c.self.inside.core.durable (map arc_value c.args.changes.now)) image
+  holds image it = subst (λ (k : PlainDurable). HoldsEither c.self.inside.core.durable k image) (c.deref.ensures ∙ c.in_ok-logged.ensures.after ∙ left)
+      (subst (λ (k : PlainDurable). HoldsEither k c.deref.result.now image) c.durable.ensures it.by.holds)
+
+  leaves : IsRoomy c.self.inside.store.size g.J.Naming.base → (image : List ℕ) → Saves image → LeavesRoom image
+  leaves room image it =
       let disk = c.self.inside.store.disk in
-      c.save.ensures.roomy going (c.self.invariant.roomy room (g.D.Disk.seen disk) (itself (g.D.Disk.seen disk) (g.D.Disk.unsynced disk)))
-
-  each : (P : List ℕ → Type 0) → Moments P → Each P
-  each P so image is = so.each image (g.met.D.Disk.counts_now c.save.new.self.disk (g.D.Disk.moment c.self.inside.store.disk) image so.later is)
+      it.roomy (c.self.invariant.roomy room (g.D.Disk.seen disk) (read_is (g.D.Disk.seen disk) (g.D.Disk.unsynced disk)))
 
   generations : Each (IsNoLaterThan (c.save.new.self.generation + 1))
-  generations image is =
-      later (c.self.inside.store.generation + 1) (c.save.new.self.generation + 1) (one-more c.self.inside.store.generation c.save.new.self.generation c.save.ensures.generation_stays) image (each (IsNoLaterThan (c.self.inside.store.generation + 1)) early image is)
+  generations image is = later (c.self.inside.store.generation + 1) (c.save.new.self.generation + 1) (one-more c.self.inside.store.generation c.save.new.self.generation c.save.ensures.generation_stays) image (saves image is).by.generation
 
   roomy : IsRoomy c.save.new.self.size g.J.Naming.base → Each LeavesRoom
-  roomy room = each LeavesRoom (leaves (subst (λ (n : ℕ). IsRoomy n g.J.Naming.base) c.save.ensures.size room))
-
-  any_moment : EachMoment g.D.Disk.moment g.D.Disk.left_since c.args.self.now.disk c.save.new.self.disk (HoldsEither c.args.self.now.whole.durable (after c.args.self.now.whole.durable (map arc_value c.args.changes.now)))
-  any_moment = subst (λ (l : PlainBook g.row.D.Denot). EachMoment g.D.Disk.moment g.D.Disk.left_since l.disk c.save.new.self.disk (HoldsEither l.whole.durable (after l.whole.durable (map arc_value c.args.changes.now)))) c.self.view_is run
-
-  openable : (new : PlainBook g.row.D.Denot) → new.disk ≡ c.save.new.self.disk → new.generation ≡ c.save.new.self.generation → new.size ≡ c.save.new.self.size → StaysOpenable g.D.Disk.moment g.D.Disk.left_since c.args.self.now new
-  openable new = then-still g.D.Disk.seen g.D.Disk.unsynced g.D.Disk.moment g.D.Disk.left_since c.args.self.now (book_of (record (parts c.self.invariant) { store = c.save.new.self })) new
-      (saved-openable g.D.Disk.seen g.D.Disk.unsynced g.D.Disk.moment g.D.Disk.left_since (book_of (parts c.self.invariant)) c.args.self.now _ c.self.view_is c.save.ensures.generation_stays c.save.ensures.generation c.save.ensures.size early leaves)
+  roomy room image is = leaves (subst (λ (n : ℕ). IsRoomy n g.J.Naming.base) c.save.ensures.size room) image (saves image is)
 
   -- the device is as the store left it
-  device : (failed : Bool) (new : PlainBook g.row.D.Denot) → new.disk ≡ c.save.new.self.disk → new.generation ≡ c.save.new.self.generation → new.size ≡ c.save.new.self.size
-      → g.D.Disk.fault_count c.save.new.self.disk ≡ g.D.Disk.fault_count c.self.inside.store.disk + (if failed then 1 else 0)
-      → UsesDevice g.D.Disk.moment g.D.Disk.left_since g.D.Disk.seen g.D.Disk.fault_count failed c.args.self.now new
-  device failed new disk generation size faults =
-      let was : c.args.self.now.disk ≡ c.self.inside.store.disk = disk-of c.self.invariant c.self.view_is in
-      record {
-        openable = openable new disk generation size;
-        moments = moments-on g.D.Disk.moment c.args.self.now.disk c.self.inside.store.disk c.save.new.self.disk new.disk was disk c.save.ensures.moments;
-        same_size = ap (λ d. length (g.D.Disk.seen d)) disk ∙ c.save.ensures.same_size ∙ sym (ap (λ d. length (g.D.Disk.seen d)) was);
-        faults = ap g.D.Disk.fault_count disk ∙ faults ∙ ap (λ d. g.D.Disk.fault_count d + (if failed then 1 else 0)) (sym was);
-      }
+  device : (failed : Bool) → MayWrite g.D.Disk c.self.inside.store.disk c.save.new.self.disk 10 failed (λ image. c.self.inside.store.halted ≡ false → Saves image)
+      → (new : PlainBook g.row.D.Denot) → new.disk ≡ c.save.new.self.disk → new.generation ≡ c.save.new.self.generation → new.size ≡ c.save.new.self.size
+      → UsesDevice g.D.Disk failed c.args.self.now new (HoldsEither c.args.self.now.whole.durable (after c.args.self.now.whole.durable (map arc_value c.args.changes.now)))
+  device failed run new disk generation size =
+      let old = book_of (parts c.self.invariant) in
+      let P = HoldsEither old.whole.durable (after old.whole.durable (map arc_value c.args.changes.now)) in
+      let all : MayWrite g.D.Disk old.disk c.save.new.self.disk 10 failed (IsOfCall old P) =
+      weakened {Q = IsOfCall old P} run (λ image it. record { holds = holds image (it going); early = (it going).by.generation; roomy = λ room. leaves room image (it going) }) in
+      subst (λ (l : PlainBook g.row.D.Denot). UsesDevice g.D.Disk failed l new (HoldsEither l.whole.durable (after l.whole.durable (map arc_value c.args.changes.now)))) c.self.view_is (record {
+        run = subst (λ d. MayWrite g.D.Disk old.disk d 10 failed (IsOfCall old P)) (sym disk) all;
+        stays = omega (arith, c.save.ensures.generation_stays, generation);
+        one_more = omega (arith, c.save.ensures.generation, generation);
+        size = size ∙ c.save.ensures.size;
+      })
 
 -- the changes are one group more
 grown : (g : Over) (c : After-accept g) → IsGrown (parts c.self.invariant) (map arc_value c.put_all.new.log.items) c.push_reserved.new.self.items (c.self.inside.acked + length c.args.changes.now) (map arc_value c.args.changes.now)
@@ -176,17 +162,8 @@ returns-in-Ok-clause-ok g c =
       shown = refl;
     })
 
-pub returns-in-Ok-clause-any_moment : goal.returns-in-Ok-clause-any_moment
-returns-in-Ok-clause-any_moment g c = any_moment g (goal.at.returns-in-Ok-clause-any_moment g c).After-save
-
 pub returns-in-Ok-clause-device : goal.returns-in-Ok-clause-device
-returns-in-Ok-clause-device g c = device g (goal.at.returns-in-Ok-clause-device g c).After-save false _ refl refl refl c.in-Ok.ensures.faults
-
-pub returns-in-Err-Memory-clause-any_moment : goal.returns-in-Err-Memory-clause-any_moment
-returns-in-Err-Memory-clause-any_moment g c =
-    let f = rw c.in-Err-Memory.field-0-is at c.in-Err-Memory.ensures in
-    let same : c.save.new.self ≡ c.self.inside.store = f.unchanged (λ x. cc (x)) in
-    either-of c.self.invariant c.self.view_is c.requires.free g.D.Disk.moment g.D.Disk.left_since (g.met.D.Disk.only_now c.self.inside.store.disk) (map arc_value c.args.changes.now) c.save.new.self.disk (ap (λ (x : PlainStore g.row.D.Denot). x.disk) same)
+returns-in-Ok-clause-device g c = device g (goal.at.returns-in-Ok-clause-device g c).After-save false c.in-Ok.ensures.writes _ refl refl refl
 
 pub returns-in-Err-Memory-clause-err : goal.returns-in-Err-Memory-clause-err
 returns-in-Err-Memory-clause-err g c =
@@ -196,7 +173,7 @@ returns-in-Err-Memory-clause-err g c =
 
 pub returns-in-Err-Memory-clause-device : goal.returns-in-Err-Memory-clause-device
 returns-in-Err-Memory-clause-device g c =
-    let f = rw c.in-Err-Memory.field-0-is at c.in-Err-Memory.ensures in device g (goal.at.returns-in-Err-Memory-clause-device g c).After-save false _ refl refl refl f.faults
+    let f = rw c.in-Err-Memory.field-0-is at c.in-Err-Memory.ensures in device g (goal.at.returns-in-Err-Memory-clause-device g c).After-save false f.writes _ refl refl refl
 
 pub invariant_of-self-in-Err-Memory : goal.invariant_of-self-in-Err-Memory
 invariant_of-self-in-Err-Memory g c =
@@ -232,7 +209,7 @@ invariant_of-self-in-Err-Fault g c =
     fault-book i c.save.new.self (map arc_value c.put_all-in-Err-Fault.new.log.items) c.prepare.new.sizes.items c.note_all-in-Err-Fault.new.tip es
     (all-of i c.self.view_is c.requires.free) (some-formed es found.formed) (few-formed es found.formed) (room-of i c.self.view_is es c.requires.room) logged c.prepare.ensures.sizes
     (c.note_all-in-Err-Fault.ensures.front ∙ ap (λ (l : List PlainChange). s.tip.front ++ l) c.in_ok-logged.ensures.noted) (omega (arith, c.note_all-in-Err-Fault.ensures.acked)) c.note_all-in-Err-Fault.ensures.shown (f.halts refl)
-    (each g saved _ (run g saved)) (generations g saved) (roomy g saved)
+    (λ image is. holds g saved image (saves g saved image is)) (generations g saved) (roomy g saved)
 
 pub returns-in-Err-Fault-clause-err : goal.returns-in-Err-Fault-clause-err
 returns-in-Err-Fault-clause-err g c =
@@ -247,12 +224,9 @@ returns-in-Err-Fault-clause-err g c =
       same = with-pending (parts i) c.save.new.self (map arc_value c.put_all-in-Err-Fault.new.log.items) es c.prepare.new.sizes.items i.cuts (all-of i c.self.view_is c.requires.free) logged c.prepare.ensures.sizes f.size;
     })
 
-pub returns-in-Err-Fault-clause-any_moment : goal.returns-in-Err-Fault-clause-any_moment
-returns-in-Err-Fault-clause-any_moment g c = any_moment g (goal.at.returns-in-Err-Fault-clause-any_moment g c).After-save
-
 pub returns-in-Err-Fault-clause-device : goal.returns-in-Err-Fault-clause-device
 returns-in-Err-Fault-clause-device g c =
-    let f = rw c.in-Err-Fault.field-0-is at c.in-Err-Fault.ensures in device g (goal.at.returns-in-Err-Fault-clause-device g c).After-save true _ refl refl refl f.faults
+    let f = rw c.in-Err-Fault.field-0-is at c.in-Err-Fault.ensures in device g (goal.at.returns-in-Err-Fault-clause-device g c).After-save true f.writes _ refl refl refl
 
 pub returns-in-Err-Fault-clause-still : goal.returns-in-Err-Fault-clause-still
 returns-in-Err-Fault-clause-still g c = λ is. absurd (cc (is))
@@ -267,9 +241,6 @@ never g c =
 
 pub returns-clause-err : goal.returns-clause-err
 returns-clause-err g c = absurd (never g (goal.at.returns-clause-err g c).In-Err-Halted)
-
-pub returns-clause-any_moment : goal.returns-clause-any_moment
-returns-clause-any_moment g c = absurd (never g (goal.at.returns-clause-any_moment g c).In-Err-Halted)
 
 pub returns-clause-device : goal.returns-clause-device
 returns-clause-device g c = absurd (never g (goal.at.returns-clause-device g c).In-Err-Halted)

@@ -1,8 +1,9 @@
 use Rattle.std.specs.Arc.{arc_value}
-use Rattle.std.proofs.{Common.{sym, ap, subst, ◌∙◌}, lemmas.Result.err_from_is_err_and}
+use Rattle.std.proofs.{Common.{false, sym, ap, subst, ◌∙◌}, lemmas.Result.err_from_is_err_and}
 use Rattle.pf_core.specs.{Durable.Changes.PlainDurable, Laws.Durable.IsWithin}
 use Rattle.pf_store.specs.Banks.{bank_size}
-use Rattle.pf_store.specs.{Stores.Holds, StoreKept.Stands}
+use Rattle.pf_disk.specs.Runs.{MayWrite}
+use Rattle.pf_store.specs.{Openings.IsOfOpening, Stores.Holds, StoreKept.Stands}
 use Rattle.pf_store.proofs.Refusing.{held_in_want, one_held}
 use Rattle.pf_book.proofs.Openable.{roomy_images}
 use Rattle.pf_book.proofs.opening.Opening.open_again.Goals as goal
@@ -19,7 +20,7 @@ invariant_of-result g c =
       early = e.early;
       images = λ i image. subst (λ (k : PlainDurable). Holds i k) (sym same) (e.images i image);
       generations = e.generations;
-      roomy = roomy_images (g.D.Disk.seen disk) (g.D.Disk.unsynced disk) store.size (arc_value c.in-Ok.durable) (e.size ∙ ap bank_size (sym e.same_size))
+      roomy = roomy_images (g.D.Disk.seen disk) (g.D.Disk.unsynced disk) store.size (arc_value c.in-Ok.durable) (e.size ∙ ap bank_size (sym e.writes.same_size))
           (λ i image k holds. one_held i k _ holds (subst (λ (k : PlainDurable). Holds i k) (sym same) (e.images i image)));
       within = subst IsWithin (sym same) e.within;
       epoch = record { before = e.opened.0; raises = same ∙ e.opened.2; low = e.opened.3 };
@@ -64,32 +65,20 @@ returns-in_err-durable-clause-size g c = let p = err_from_is_err_and c.from_resi
 pub returns-in_err-durable-clause-room : goal.returns-in_err-durable-clause-room
 returns-in_err-durable-clause-room g c = let p = err_from_is_err_and c.from_residual.result c.from_residual.ensures.1 in rw (p.1) tt
 
-pub returns-in_err-durable-clause-any_moment : goal.returns-in_err-durable-clause-any_moment
-returns-in_err-durable-clause-any_moment g c = let p = err_from_is_err_and c.from_residual.result c.from_residual.ensures.1 in rw (p.1) tt
-
-pub returns-in_err-durable-clause-same_size : goal.returns-in_err-durable-clause-same_size
-returns-in_err-durable-clause-same_size g c = let p = err_from_is_err_and c.from_residual.result c.from_residual.ensures.1 in rw (p.1) tt
-
-pub returns-in_err-durable-clause-moments : goal.returns-in_err-durable-clause-moments
-returns-in_err-durable-clause-moments g c = let p = err_from_is_err_and c.from_residual.result c.from_residual.ensures.1 in rw (p.1) tt
-
-pub returns-in_err-durable-clause-no_fault : goal.returns-in_err-durable-clause-no_fault
-returns-in_err-durable-clause-no_fault g c = let p = err_from_is_err_and c.from_residual.result c.from_residual.ensures.1 in rw (p.1) tt
-
-pub returns-in_err-durable-clause-any_moment_err : goal.returns-in_err-durable-clause-any_moment_err
-returns-in_err-durable-clause-any_moment_err g c = let p = err_from_is_err_and c.from_residual.result c.from_residual.ensures.1 in rw (p.1, p.2) c.in_err-durable.ensures.any_moment_err
-
 pub returns-in_err-durable-clause-refused : goal.returns-in_err-durable-clause-refused
 returns-in_err-durable-clause-refused g c = let p = err_from_is_err_and c.from_residual.result c.from_residual.ensures.1 in rw (p.1, p.2) c.in_err-durable.ensures.refused
 
 pub returns-in_err-durable-clause-unchanged_at_bad_size : goal.returns-in_err-durable-clause-unchanged_at_bad_size
 returns-in_err-durable-clause-unchanged_at_bad_size g c = let p = err_from_is_err_and c.from_residual.result c.from_residual.ensures.1 in rw (p.1, p.2) c.in_err-durable.ensures.unchanged_at_bad_size
 
-pub returns-in_err-durable-clause-moments_err : goal.returns-in_err-durable-clause-moments_err
-returns-in_err-durable-clause-moments_err g c = let p = err_from_is_err_and c.from_residual.result c.from_residual.ensures.1 in rw (p.1, p.2) c.in_err-durable.ensures.moments_err
-
-pub returns-in_err-durable-clause-fault : goal.returns-in_err-durable-clause-fault
-returns-in_err-durable-clause-fault g c = let p = err_from_is_err_and c.from_residual.result c.from_residual.ensures.1 in rw (p.1, p.2) c.in_err-durable.ensures.fault
-
 pub returns-in_err-durable-clause-untouched : goal.returns-in_err-durable-clause-untouched
 returns-in_err-durable-clause-untouched g c = let p = err_from_is_err_and c.from_residual.result c.from_residual.ensures.1 in rw (p.1, p.2) (λ calm memory. c.in_err-durable.ensures.untouched calm)
+
+pub returns-in_err-durable-clause-writes : goal.returns-in_err-durable-clause-writes
+returns-in_err-durable-clause-writes g c = let p = err_from_is_err_and c.from_residual.result c.from_residual.ensures.1 in rw (p.1, p.2) c.in_err-durable.ensures.writes
+
+pub returns-clause-writes : goal.returns-clause-writes
+returns-clause-writes g c =
+    let d = g.D.Disk in
+    let old = c.args.before.disk in
+    subst (λ x. MayWrite d old x 15 false (IsOfOpening (d.seen old) (d.unsynced old))) (sym c.into_disk.ensures) c.in_ok-durable.ensures.writes

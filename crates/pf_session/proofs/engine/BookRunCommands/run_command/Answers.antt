@@ -16,8 +16,8 @@ returns g c =
         upshot = upshot c.run-reply.new.self.shown (nat_lt old new);
         told = refl;
         worlds = c.run-reply.ensures.worlds;
-        setting = c.run-reply.ensures.setting;
-        failed = one-failed old new (is_fault_reply c.run-reply.result) c.run-reply.ensures.faults;
+        setting = c.run-reply.ensures.opening.setting;
+        failed = one-failed old new (is_fault_reply c.run-reply.result) c.run-reply.ensures.device.run.faults;
       },
       c.tell.ensures,
     )

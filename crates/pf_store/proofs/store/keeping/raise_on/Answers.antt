@@ -1,22 +1,90 @@
-use Rattle.std.proofs.Common.{◌+◌, ⊎_elim, ℕ, List, [], ◌∷◌, arith, length, Err, refl, sym, ◌∙◌, ap, subst}
-use Rattle.pf_disk.specs.Disk.{EachMoment}
-use Rattle.pf_disk.proofs.Images.{only_read}
+use Rattle.std.proofs.Common.{◌≡◌, ◌+◌, ⊎_elim, ℕ, false, List, [], ◌∷◌, arith, length, Err, refl, sym, ◌∙◌, ap, subst}
+use Rattle.pf_disk.proofs.{Images.only_read, Writing.{told, unmoved, weakened}}
+use Rattle.pf_disk.specs.Runs.{MayWrite}
 use Rattle.pf_snap.specs.Banks as snap
 use Rattle.pf_core.specs.{Durable.Changes.PlainDurable, Worlds.raised}
-use Rattle.pf_store.specs.{Openings.{IsAsLongAs, IsNoLaterThan, IsUnopened}, Stores.{Holds, HoldsEither}}
-use Rattle.pf_store.specs.declared.groups.recorded.Recorded.TheVariants.{Opens as opens}
+use Rattle.pf_store.specs.{Openings.{HoldsBy, IsUnopened}, StoreFaults.{is_add_fault, is_fault, unadded}, Stores.{Holds, HoldsEither}}
+use Rattle.pf_store.specs.declared.{groups.recorded.Recorded.TheVariants.Opens as opens, store.fault.{AddFault.AddFault, OpenFault.TheVariants.BadSize}}
+use Rattle.pf_store.specs.declared.store.fault.AddFault.TheVariants as adding
+use Rattle.pf_store.specs.declared.store.fault.OpenFault.TheVariants as opening
 use Rattle.pf_store.proofs.Refusing.{held_in_want}
-use Rattle.pf_store.proofs.Saving.{before, by_generation, by_version, have_held, is_full, no_later, no_room_here, room_here, stores, tells_full, unmoved, unmoved_generations, unmoved_lengths}
+use Rattle.pf_store.proofs.Saving.{by_generation, by_version, either_added, either_yet, have_held, is_full, no_later, no_room_here, not_called, room_here, tells_full}
 use Rattle.pf_store.proofs.store.keeping.raise_on.Goals as goal
 
-pub returns-in-Err-clause-any_moment_err : goal.returns-in-Err-clause-any_moment_err
-returns-in-Err-clause-any_moment_err g c =
+-- the error that the record wasn't added for, as that of the opening
+
+same_fault : (fault : AddFault) → is_fault (unadded fault) ≡ is_add_fault {T = Unit {0}} (Err fault)
+same_fault adding.Memory = refl
+same_fault adding.Full = refl
+same_fault adding.Fault = refl
+
+no_size : (fault : AddFault) → unadded fault ≡ BadSize → ⊥
+no_size adding.Memory is = cc (is)
+no_size adding.Full is = cc (is)
+no_size adding.Fault is = cc (is)
+
+refused : (fault : AddFault) (seen : List ℕ) → IsUnopened opening.Memory seen → (fault ≡ adding.Full → IsUnopened opening.Full seen) → IsUnopened opening.Fault seen → IsUnopened (unadded fault) seen
+refused adding.Memory seen memory full failed = memory
+refused adding.Full seen memory full failed = full refl
+refused adding.Fault seen memory full failed = failed
+
+-- no call was made
+pub returns-in-Err-clause-writes : goal.returns-in-Err-clause-writes
+returns-in-Err-clause-writes g c =
     let d = g.D.Disk in
     let b = c.args.banks in
+    let old = b.journal.disk in
     let k = c.args.durable.now in
-    let run = unmoved d.seen d.unsynced d.moment d.left_since b.journal.disk k c.requires.ready.journal.synced (have_held d.seen d.unsynced d.fault_count b k c.requires.kept) (g.met.D.Disk.only_now b.journal.disk) in
-    subst (λ e. EachMoment d.moment d.left_since b.journal.disk e (HoldsEither k (raised k))) (sym c.into_disk.ensures)
-    (before d.seen d.unsynced d.moment d.left_since b.journal.disk b.journal.disk k (raised k) run)
+    let none : is_fault c.in-Err.fault ≡ false = ⊎_elim (λ is. ap is_fault is.0) (λ last. ap is_fault last.0) c.in-Err.ensures.refused in
+    told none
+    (subst (λ x. MayWrite d old x 10 false (HoldsBy (d.seen old) (b.generation + 1) (HoldsEither k (raised k)))) (sym c.into_disk.ensures)
+    (unmoved d old (g.met.D.Disk.only_now old) (λ i image. either_yet k (raised k) i (not_called c.requires.kept c.requires.ready i image))))
+
+pub returns-in-Ok-add-clause-writes : goal.returns-in-Ok-add-clause-writes
+returns-in-Ok-add-clause-writes g c =
+    let k = c.args.durable.now in
+    weakened c.in-Ok-add.ensures.writes (either_added (raised k) (opens (k.epoch + 1) ∷ []) c.in-Ok.ensures.made (refl, tt) refl)
+
+pub returns-in-Err-add-clause-writes : goal.returns-in-Err-add-clause-writes
+returns-in-Err-add-clause-writes g c =
+    let d = g.D.Disk in
+    let b = c.args.banks in
+    let old = b.journal.disk in
+    let k = c.args.durable.now in
+    let fault = c.in-Err-add.fault in
+    told (ap is_fault c.into.ensures ∙ same_fault fault)
+    (subst (λ x. MayWrite d old x 10 (is_add_fault {T = Unit {0}} (Err fault)) (HoldsBy (d.seen old) (b.generation + 1) (HoldsEither k (raised k)))) (sym c.into_disk-in-Err-add.ensures)
+    (weakened c.in-Err-add.ensures.writes (either_added (raised k) (opens (k.epoch + 1) ∷ []) c.in-Ok.ensures.made (refl, tt) refl)))
+
+pub returns-in-Err-add-clause-untouched : goal.returns-in-Err-add-clause-untouched
+returns-in-Err-add-clause-untouched g c none =
+    let fault = c.in-Err-add.fault in
+    c.into_disk-in-Err-add.ensures ∙ ap (λ b. b.journal.disk) (c.in-Err-add.ensures.refused (sym (ap is_fault c.into.ensures ∙ same_fault fault) ∙ none))
+
+pub returns-in-Err-add-clause-not_size : goal.returns-in-Err-add-clause-not_size
+returns-in-Err-add-clause-not_size g c is = no_size c.in-Err-add.fault (sym c.into.ensures ∙ is)
+
+pub returns-in-Err-add-clause-refused : goal.returns-in-Err-add-clause-refused
+returns-in-Err-add-clause-refused g c =
+    let seen = g.D.Disk.seen c.args.banks.journal.disk in
+    let k = c.requires.kept in
+    let fault = c.in-Err-add.fault in
+    subst (λ e. IsUnopened e seen) (sym c.into.ensures)
+    (refused fault seen (held_in_want seen c.args.durable.now (have_held k) (omega (arith, c.requires.early, k.keeps.generation)))
+    (λ full. (
+      c.args.durable.now,
+      is_full c.requires.ready k (length c.in-Ok.raised.1.behind.items + 1) c.in-Ok.ensures.long c.requires.early c.in-Ok.ensures.next (c.in-Err-add.ensures.full.0 (ap Err full)),
+    )) k.keeps.holds.size)
+
+pub returns-in-Err-clause-refused : goal.returns-in-Err-clause-refused
+returns-in-Err-clause-refused g c =
+    let seen = g.D.Disk.seen c.args.banks.journal.disk in
+    let k = c.requires.kept in
+    let mine = have_held k in
+    ⊎_elim
+    (λ is. subst (λ e. IsUnopened e seen) (sym is.0) (held_in_want seen c.args.durable.now mine (omega (arith, c.requires.early, k.keeps.generation))))
+    (λ last. subst (λ e. IsUnopened e seen) (sym last.0) (c.args.durable.now, mine, omega (arith, c.requires.early, k.keeps.generation), last.1))
+    c.in-Err.ensures.refused
 
 pub add-requires-clause-made : goal.add-requires-clause-made
 add-requires-clause-made g c =
@@ -25,170 +93,43 @@ add-requires-clause-made g c =
 
 pub invariant_of-result : goal.invariant_of-result
 invariant_of-result g c going =
-    let d = g.D.Disk in
     let k = c.args.durable.now in
-    let is = c.in-Ok.ensures.made in
-    stores d.seen d.unsynced d.fault_count c.add.new.banks (raised k) c.in-Ok-add.ensures.ready (c.in-Ok-add.ensures.kept (opens (k.epoch + 1) ∷ []) is (refl, tt))
-    (omega (arith, c.requires.few, c.in-Ok-add.ensures.faults))
+    let kept = c.in-Ok-add.ensures.kept (opens (k.epoch + 1) ∷ []) c.in-Ok.ensures.made (refl, tt) in
+    record { ready = c.in-Ok-add.ensures.ready; content = kept.content; keeps = kept.keeps; few = omega (arith, c.requires.few, c.in-Ok-add.ensures.writes.faults) }
 
 pub returns-in-Ok-add-clause-room : goal.returns-in-Ok-add-clause-room
 returns-in-Ok-add-clause-room g c e full =
-    let d = g.D.Disk in
-    let twelve = c.in-Ok.ensures.long in
-    cc (c.in-Ok-add.ensures.full.1 (tells_full d.seen d.unsynced d.fault_count c.args.banks c.args.durable.now c.requires.ready c.requires.kept (length c.in-Ok.raised.1.behind.items + 1) twelve e full))
+    cc (c.in-Ok-add.ensures.full.1 (tells_full c.requires.ready c.requires.kept (length c.in-Ok.raised.1.behind.items + 1) c.in-Ok.ensures.long e full))
 
 pub returns-in-Ok-add-clause-here : goal.returns-in-Ok-add-clause-here
 returns-in-Ok-add-clause-here g c e held room =
-    let d = g.D.Disk in
-    let b = c.args.banks in
+    let r = c.requires in
+    let n = length c.in-Ok.raised.1.behind.items + 1 in
     let twelve = c.in-Ok.ensures.long in
-    let here = room_here d.seen d.unsynced d.fault_count b c.args.durable.now c.requires.ready c.requires.kept (length c.in-Ok.raised.1.behind.items + 1) twelve e held room in
-    let by = by_generation d.seen d.unsynced d.fault_count b c.args.durable.now c.requires.ready c.requires.kept (length c.in-Ok.raised.1.behind.items + 1) twelve e held in
-    let version = by_version d.seen d.unsynced d.fault_count b c.args.durable.now c.requires.ready c.requires.kept (length c.in-Ok.raised.1.behind.items + 1) twelve e held in
-    let both = c.in-Ok-add.ensures.here here in
-    (both.0 ∙ sym by, both.1 ∙ sym version)
+    let both = c.in-Ok-add.ensures.here (room_here r.ready r.kept n twelve e held room) in
+    (both.0 ∙ sym (by_generation r.ready r.kept n twelve e held), both.1 ∙ sym (by_version r.ready r.kept n twelve e held))
 
 pub returns-in-Ok-add-clause-there : goal.returns-in-Ok-add-clause-there
 returns-in-Ok-add-clause-there g c e held full =
-    let d = g.D.Disk in
-    let b = c.args.banks in
+    let r = c.requires in
+    let n = length c.in-Ok.raised.1.behind.items + 1 in
     let twelve = c.in-Ok.ensures.long in
-    let there = no_room_here d.seen d.unsynced d.fault_count b c.args.durable.now c.requires.ready c.requires.kept (length c.in-Ok.raised.1.behind.items + 1) twelve e held full in
-    let by = by_generation d.seen d.unsynced d.fault_count b c.args.durable.now c.requires.ready c.requires.kept (length c.in-Ok.raised.1.behind.items + 1) twelve e held in
-    let both = c.in-Ok-add.ensures.there there in
-    (both.0 ∙ ap (λ (n : ℕ). n + 1) (sym by), both.1)
+    let both = c.in-Ok-add.ensures.there (no_room_here r.ready r.kept n twelve e held full) in
+    (both.0 ∙ ap (λ (n : ℕ). n + 1) (sym (by_generation r.ready r.kept n twelve e held)), both.1)
 
 pub returns-in-Ok-add-clause-stands : goal.returns-in-Ok-add-clause-stands
 returns-in-Ok-add-clause-stands g c =
-    let d = g.D.Disk in
     let k = c.args.durable.now in
     let disk = c.add.new.banks.journal.disk in
-    let is = c.in-Ok.ensures.made in
-    let holds = have_held d.seen d.unsynced d.fault_count c.add.new.banks (raised k) (c.in-Ok-add.ensures.kept (opens (k.epoch + 1) ∷ []) is (refl, tt)) in
-    record { holds = subst (λ (x : PlainDurable). Holds (d.seen disk) x) (sym c.in-Ok.ensures.raised) holds; synced = c.in-Ok-add.ensures.ready.journal.synced }
-
-pub returns-in-Err-Full-clause-refused : goal.returns-in-Err-Full-clause-refused
-returns-in-Err-Full-clause-refused g c =
-    let d = g.D.Disk in
-    let twelve = c.in-Ok.ensures.long in (
-      c.args.durable.now,
-      is_full d.seen d.unsynced d.fault_count c.args.banks c.args.durable.now c.requires.ready c.requires.kept (length c.in-Ok.raised.1.behind.items + 1) twelve c.requires.early c.in-Ok.ensures.next
-          (c.in-Err-Full.ensures.full.0 (ap Err c.in-Err-Full.field-0-is)),
-    )
-
-pub returns-in-Err-clause-refused : goal.returns-in-Err-clause-refused
-returns-in-Err-clause-refused g c =
-    let d = g.D.Disk in
-    let seen = d.seen c.args.banks.journal.disk in
-    let k = c.requires.kept in
-    let mine = have_held d.seen d.unsynced d.fault_count c.args.banks c.args.durable.now k in
-    ⊎_elim
-    (λ is. subst (λ e. IsUnopened e seen) (sym is.0) (held_in_want seen c.args.durable.now mine (omega (arith, c.requires.early, k.keeps.generation))))
-    (λ last. subst (λ e. IsUnopened e seen) (sym last.0) (c.args.durable.now, mine, omega (arith, c.requires.early, k.keeps.generation), last.1))
-    c.in-Err.ensures.refused
+    let holds = have_held (c.in-Ok-add.ensures.kept (opens (k.epoch + 1) ∷ []) c.in-Ok.ensures.made (refl, tt)) in
+    record { holds = subst (λ (x : PlainDurable). Holds (g.D.Disk.seen disk) x) (sym c.in-Ok.ensures.raised) holds; synced = c.in-Ok-add.ensures.ready.journal.synced }
 
 pub returns-in-Ok-add-clause-generations : goal.returns-in-Ok-add-clause-generations
 returns-in-Ok-add-clause-generations g c image is_image =
     let d = g.D.Disk in
     let k = c.args.durable.now in
     let new = c.add.new.banks in
-    let is = c.in-Ok.ensures.made in
-    let kept = c.in-Ok-add.ensures.kept (opens (k.epoch + 1) ∷ []) is (refl, tt) in
+    let kept = c.in-Ok-add.ensures.kept (opens (k.epoch + 1) ∷ []) c.in-Ok.ensures.made (refl, tt) in
     let same = only_read (d.seen new.journal.disk) (d.unsynced new.journal.disk) image c.in-Ok-add.ensures.ready.journal.synced is_image in
     no_later new.generation kept.content (omega (arith, kept.keeps.generation)) image
     (subst (λ (l : List ℕ). snap.Holds l kept.content) (sym same) (record { at = new.at; other = new.other; holds = kept.keeps.holds }))
-
-pub returns-in-Err-Memory-clause-refused : goal.returns-in-Err-Memory-clause-refused
-returns-in-Err-Memory-clause-refused g c =
-    let d = g.D.Disk in
-    held_in_want (d.seen c.args.banks.journal.disk) c.args.durable.now
-    (have_held d.seen d.unsynced d.fault_count c.args.banks c.args.durable.now c.requires.kept) (omega (arith, c.requires.early, c.requires.kept.keeps.generation))
-
-pub returns-clause-refused : goal.returns-clause-refused
-returns-clause-refused g c = c.requires.kept.keeps.holds.size
-
-pub returns-in-Ok-add-clause-any_moment : goal.returns-in-Ok-add-clause-any_moment
-returns-in-Ok-add-clause-any_moment g c =
-    let k = c.args.durable.now in
-    let is = c.in-Ok.ensures.made in
-    c.add.ensures.any_moment (opens (k.epoch + 1) ∷ []) is (refl, tt)
-
-pub returns-in-Err-Memory-clause-any_moment_err : goal.returns-in-Err-Memory-clause-any_moment_err
-returns-in-Err-Memory-clause-any_moment_err g c =
-    let d = g.D.Disk in
-    let b = c.args.banks in
-    let k = c.args.durable.now in
-    let is = c.in-Ok.ensures.made in
-    subst (λ e. EachMoment d.moment d.left_since b.journal.disk e (HoldsEither k (raised k))) (sym c.into_disk-in-Err-Memory.ensures)
-    (c.add.ensures.any_moment (opens (k.epoch + 1) ∷ []) is (refl, tt))
-
-pub returns-in-Err-Full-clause-any_moment_err : goal.returns-in-Err-Full-clause-any_moment_err
-returns-in-Err-Full-clause-any_moment_err g c =
-    let d = g.D.Disk in
-    let b = c.args.banks in
-    let k = c.args.durable.now in
-    let is = c.in-Ok.ensures.made in
-    subst (λ e. EachMoment d.moment d.left_since b.journal.disk e (HoldsEither k (raised k))) (sym c.into_disk-in-Err-Full.ensures)
-    (c.add.ensures.any_moment (opens (k.epoch + 1) ∷ []) is (refl, tt))
-
-pub returns-clause-any_moment_err : goal.returns-clause-any_moment_err
-returns-clause-any_moment_err g c =
-    let d = g.D.Disk in
-    let b = c.args.banks in
-    let k = c.args.durable.now in
-    let is = c.in-Ok.ensures.made in
-    subst (λ e. EachMoment d.moment d.left_since b.journal.disk e (HoldsEither k (raised k))) (sym c.into_disk-in-Err-Fault.ensures)
-    (c.add.ensures.any_moment (opens (k.epoch + 1) ∷ []) is (refl, tt))
-
--- no call was made
-pub returns-in-Err-clause-by_err : goal.returns-in-Err-clause-by_err
-returns-in-Err-clause-by_err g c =
-    let d = g.D.Disk in
-    let b = c.args.banks in
-    let k = c.requires.kept in
-    subst (λ e. EachMoment d.moment d.left_since b.journal.disk e (IsNoLaterThan (b.generation + 1))) (sym c.into_disk.ensures)
-    (unmoved_generations d.seen d.unsynced d.moment d.left_since b.journal.disk (b.generation + 1) k.content (omega (arith, k.keeps.generation)) c.requires.ready.journal.synced
-    (record { at = b.at; other = b.other; holds = k.keeps.holds }) (g.met.D.Disk.only_now b.journal.disk))
-
-pub returns-in-Err-clause-lengths_err : goal.returns-in-Err-clause-lengths_err
-returns-in-Err-clause-lengths_err g c =
-    let d = g.D.Disk in
-    let b = c.args.banks in
-    subst (λ e. EachMoment d.moment d.left_since b.journal.disk e (IsAsLongAs (d.seen b.journal.disk))) (sym c.into_disk.ensures)
-    (unmoved_lengths d.seen d.unsynced d.moment d.left_since b.journal.disk (g.met.D.Disk.only_now b.journal.disk))
-
-pub returns-in-Err-Memory-clause-by_err : goal.returns-in-Err-Memory-clause-by_err
-returns-in-Err-Memory-clause-by_err g c =
-    let d = g.D.Disk in
-    let b = c.args.banks in
-    subst (λ e. EachMoment d.moment d.left_since b.journal.disk e (IsNoLaterThan (b.generation + 1))) (sym c.into_disk-in-Err-Memory.ensures) c.add.ensures.generations
-
-pub returns-in-Err-Memory-clause-lengths_err : goal.returns-in-Err-Memory-clause-lengths_err
-returns-in-Err-Memory-clause-lengths_err g c =
-    let d = g.D.Disk in
-    let b = c.args.banks in
-    subst (λ e. EachMoment d.moment d.left_since b.journal.disk e (IsAsLongAs (d.seen b.journal.disk))) (sym c.into_disk-in-Err-Memory.ensures) c.add.ensures.lengths
-
-pub returns-in-Err-Full-clause-by_err : goal.returns-in-Err-Full-clause-by_err
-returns-in-Err-Full-clause-by_err g c =
-    let d = g.D.Disk in
-    let b = c.args.banks in
-    subst (λ e. EachMoment d.moment d.left_since b.journal.disk e (IsNoLaterThan (b.generation + 1))) (sym c.into_disk-in-Err-Full.ensures) c.add.ensures.generations
-
-pub returns-in-Err-Full-clause-lengths_err : goal.returns-in-Err-Full-clause-lengths_err
-returns-in-Err-Full-clause-lengths_err g c =
-    let d = g.D.Disk in
-    let b = c.args.banks in
-    subst (λ e. EachMoment d.moment d.left_since b.journal.disk e (IsAsLongAs (d.seen b.journal.disk))) (sym c.into_disk-in-Err-Full.ensures) c.add.ensures.lengths
-
-pub returns-clause-by_err : goal.returns-clause-by_err
-returns-clause-by_err g c =
-    let d = g.D.Disk in
-    let b = c.args.banks in
-    subst (λ e. EachMoment d.moment d.left_since b.journal.disk e (IsNoLaterThan (b.generation + 1))) (sym c.into_disk-in-Err-Fault.ensures) c.add.ensures.generations
-
-pub returns-clause-lengths_err : goal.returns-clause-lengths_err
-returns-clause-lengths_err g c =
-    let d = g.D.Disk in
-    let b = c.args.banks in
-    subst (λ e. EachMoment d.moment d.left_since b.journal.disk e (IsAsLongAs (d.seen b.journal.disk))) (sym c.into_disk-in-Err-Fault.ensures) c.add.ensures.lengths

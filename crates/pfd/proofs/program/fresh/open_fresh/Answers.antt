@@ -13,7 +13,7 @@ returns-in-Ok-clause-given g c =
     given-is seen d c.in-Ok.opening.given held nothing is
 
 pub returns-in-Ok-clause-half : goal.returns-in-Ok-clause-half
-returns-in-Ok-clause-half g c = c.in-Ok.ensures.size ∙ ap bank_size (c.in-Ok.ensures.same_size ∙ c.format.ensures.same_size)
+returns-in-Ok-clause-half g c = c.in-Ok.ensures.size ∙ ap bank_size (c.in-Ok.ensures.writes.same_size ∙ c.format.ensures.writes.same_size)
 
 pub returns-in-Err-clause-hindered : goal.returns-in-Err-clause-hindered
 returns-in-Err-clause-hindered g c =
@@ -23,4 +23,4 @@ returns-in-Err-clause-hindered g c =
     let nothing = c.in_ok-format.ensures.holds seen own in
     let is : IsSize size = subst IsSize c.size.ensures (c.if-not-is_size.ensures.0 refl) in
     subst (λ (f : Fault). Hinders size f) (sym c.from.ensures)
-    (unopened-hinders seen size is c.format.ensures.same_size nothing (c.in_ok-format.ensures.first seen own nothing).0 c.in-Err.fault c.in-Err.ensures.refused)
+    (unopened-hinders seen size is c.format.ensures.writes.same_size nothing (c.in_ok-format.ensures.first seen own nothing).0 c.in-Err.fault c.in-Err.ensures.refused)

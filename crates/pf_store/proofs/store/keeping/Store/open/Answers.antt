@@ -1,9 +1,12 @@
-use Rattle.std.proofs.Common.{◌≡◌, ◌≤◌, ◌+◌, ℕ, true, List, length, sym, ap, subst, arith}
+use Rattle.std.proofs.Common.{◌≡◌, ◌+◌, ◌∙◌, ℕ, true, false, List, inl, refl, sym, ap, subst, arith}
+use Rattle.pf_disk.proofs.Writing.{at_most, told, weakened}
+use Rattle.pf_disk.specs.Runs.{MayWrite}
+use Rattle.pf_snap.specs.{Faults.is_fault as looked_fault, declared.fault.{LookFault.LookFault, LookFault.TheVariants.{BadSize, NoBank, Corrupt, Memory, Fault}}}
 use Rattle.pf_snap.specs.{Looked.content_of, declared.header.TheConstants.NEWEST}
 use Rattle.pf_snap.specs.Banks as snap
 use Rattle.pf_core.specs.Durable.Changes.{PlainDurable}
-use Rattle.pf_store.specs.{Openings.{HasRoomHere, IsFull, generation_of, version_of}, Stores.Holds}
-use Rattle.pf_store.proofs.{WithinLimits.made_within, Refusing.unopened, Saving.{on_ok, on_both, on_three, on_three_err, opened, standing}}
+use Rattle.pf_store.specs.{Openings.{HasRoomHere, IsFull, IsOfOpening, MakesNone, generation_of, version_of}, StoreFaults.{is_fault, unlooked}, Stores.Holds}
+use Rattle.pf_store.proofs.{WithinLimits.made_within, Refusing.{calm, unopened}, Saving.{on_ok, on_both, opened, standing}}
 use Rattle.pf_store.proofs.store.keeping.Store.open.Goals as goal
 
 pub returns-in-Ok-replay-clause-opened : goal.returns-in-Ok-replay-clause-opened
@@ -22,8 +25,7 @@ returns-in-Ok-replay-clause-opened g c =
 
 pub returns-in-Ok-replay-clause-images : goal.returns-in-Ok-replay-clause-images
 returns-in-Ok-replay-clause-images g c =
-    let d = g.D.Disk in
-    on_ok c.raise_on.result _ _ (λ r s. standing d.seen d.unsynced r.1 r.0 s) c.raise_on.ensures.stands
+    on_ok c.raise_on.result _ _ (λ r s. standing s) c.raise_on.ensures.stands
 
 pub returns-in-Ok-replay-clause-within : goal.returns-in-Ok-replay-clause-within
 returns-in-Ok-replay-clause-within g c = on_ok c.raise_on.result _ _ (λ r s. made_within s.holds.content r.0 s.holds.makes) c.raise_on.ensures.stands
@@ -44,41 +46,41 @@ returns-in-Ok-replay-clause-there g c =
     (λ r there. subst (λ (x : List ℕ). (e : PlainDurable) (held : Holds x e) → ¬ HasRoomHere x e held → (r.1.generation ≡ generation_of x e held + 1) × (r.1.version ≡ NEWEST)) c.in-Ok.ensures.unwritten.seen there)
     c.raise_on.ensures.there
 
-pub returns-in-Ok-replay-clause-any_moment : goal.returns-in-Ok-replay-clause-any_moment
-returns-in-Ok-replay-clause-any_moment g c =
-    let d = g.D.Disk in
+pub returns-in-Ok-replay-clause-writes : goal.returns-in-Ok-replay-clause-writes
+returns-in-Ok-replay-clause-writes g c =
     let l = c.in-Ok.looked in
     let b = c.in-Ok.banks in
-    let k = c.in-Ok-replay.durable in
     let keeps = c.in-Ok.ensures.keeps c.in-Ok-replay.ensures.whole in
-    let held : Holds (d.seen c.args.disk) k = record {
+    let held : Holds (g.D.Disk.seen c.args.disk) c.in-Ok-replay.durable = record {
       content = content_of l;
       bank = subst (λ (x : List ℕ). snap.Holds x (content_of l)) c.in-Ok.ensures.unwritten.seen (record { at = b.at; other = b.other; holds = keeps.holds });
       makes = c.in-Ok-replay.ensures.made;
     } in
-    let low : b.generation + 1 ≤ generation_of (d.seen c.args.disk) k held + 1 = omega (arith, keeps.generation) in
-    let same : length (d.seen b.journal.disk) ≡ length (d.seen c.args.disk) = ap length c.in-Ok.ensures.unwritten.seen in
-    on_three c.raise_on.result _ _ _ _
-    (λ r run by long. opened d.seen d.unsynced d.moment d.left_since c.args.disk b.journal.disk r.1.disk k held (b.generation + 1) low same c.in-Ok.ensures.unwritten.any_moment run by long)
-    c.raise_on.ensures.any_moment c.raise_on.ensures.by c.raise_on.ensures.lengths
+    opened c.in-Ok.ensures.unwritten held (omega (arith, keeps.generation)) c.raise_on.ensures.writes
 
-pub returns-in-Ok-replay-clause-any_moment_err : goal.returns-in-Ok-replay-clause-any_moment_err
-returns-in-Ok-replay-clause-any_moment_err g c =
+-- it was read, and isn't opened
+pub returns-in-Ok-clause-writes : goal.returns-in-Ok-clause-writes
+returns-in-Ok-clause-writes g c =
     let d = g.D.Disk in
+    let old = c.args.disk in
     let l = c.in-Ok.looked in
-    let b = c.in-Ok.banks in
-    let k = c.in-Ok-replay.durable in
-    let keeps = c.in-Ok.ensures.keeps c.in-Ok-replay.ensures.whole in
-    let held : Holds (d.seen c.args.disk) k = record {
-      content = content_of l;
-      bank = subst (λ (x : List ℕ). snap.Holds x (content_of l)) c.in-Ok.ensures.unwritten.seen (record { at = b.at; other = b.other; holds = keeps.holds });
-      makes = c.in-Ok-replay.ensures.made;
-    } in
-    let low : b.generation + 1 ≤ generation_of (d.seen c.args.disk) k held + 1 = omega (arith, keeps.generation) in
-    let same : length (d.seen b.journal.disk) ≡ length (d.seen c.args.disk) = ap length c.in-Ok.ensures.unwritten.seen in
-    on_three_err c.raise_on.result _ _ _ _
-    (λ e run by long. opened d.seen d.unsynced d.moment d.left_since c.args.disk b.journal.disk e.1 k held (b.generation + 1) low same c.in-Ok.ensures.unwritten.any_moment run by long)
-    c.raise_on.ensures.any_moment_err c.raise_on.ensures.by_err c.raise_on.ensures.lengths_err
+    let P = IsOfOpening (d.seen old) (d.unsynced old) in
+    told (calm c.in-Err-replay.fault (MakesNone (l.broken ≡ true) l.at (content_of l)) c.in-Err-replay.ensures.refused)
+    (subst (λ x. MayWrite d old x 15 false P) (sym c.into_disk.ensures) (at_most {most = 15} (weakened {Q = P} c.in-Ok.ensures.unwritten.run (λ i image. inl image)) (omega arith)))
+
+same_fault : (fault : LookFault) → is_fault (unlooked fault) ≡ looked_fault fault
+same_fault BadSize = refl
+same_fault NoBank = refl
+same_fault (Corrupt at) = refl
+same_fault Memory = refl
+same_fault Fault = refl
+
+pub returns-clause-writes : goal.returns-clause-writes
+returns-clause-writes g c =
+    let d = g.D.Disk in
+    let old = c.args.disk in
+    told (ap is_fault c.into.ensures ∙ same_fault c.in-Err.fault)
+    (at_most {most = 15} (weakened {Q = IsOfOpening (d.seen old) (d.unsynced old)} c.in-Err.ensures.unwritten_err.run (λ i image. inl image)) (omega arith))
 
 pub returns-in-Ok-clause-refused : goal.returns-in-Ok-clause-refused
 returns-in-Ok-clause-refused g c =

@@ -1,28 +1,16 @@
-use Rattle.std.proofs.Common.{◌≡◌, ◌+◌, ◌-◌, ◌<◌, ◌≤◌, ◌∙◌, ℕ, Err, true, false, length, map, sym, ap, subst, inl, inr, arith}
-use Rattle.std.specs.Prelude.{◌⊎◌}
-use Rattle.pf_disk.specs.Disk.{EachMoment}
+use Rattle.std.proofs.Common.{◌≡◌, ◌+◌, ◌-◌, ◌<◌, ◌≤◌, ◌∙◌, ℕ, Err, List, true, false, length, map, sym, ap, subst, inl, inr, arith}
+use Rattle.std.specs.Prelude.{◌⊎◌, if◌then◌else◌}
+use Rattle.pf_disk.proofs.Writing.{told, unmoved}
+use Rattle.pf_disk.specs.Runs.{MayWrite}
 use Rattle.pf_core.specs.Durable.Changes.{PlainDurable}
 use Rattle.pf_snap.specs.{Banks.bank_size, declared.{banks.Banks.Banks, header.TheConstants.NEWEST}}
-use Rattle.pf_store.specs.{Groups.{allows_group, made_all, IsRecordOf}, Lengths.payload_length, Openings.{IsNoLaterThan, LeavesRoom}, Stores.{FindsRoom, Holds, HoldsEither, IsRoomy, left_by_all}, StoreKept.{PlainStore, store_with}}
+use Rattle.pf_store.specs.declared.groups.recorded.Recorded.{Recorded}
+use Rattle.pf_store.specs.{Groups.{allows_group, made_all, IsRecordOf}, Lengths.payload_length, Openings.IsOfSave, StoreFaults.is_add_fault, Stores.{FindsRoom, Holds}, StoreKept.{PlainStore, store_with}}
 use Rattle.pf_store.proofs.{Allowing.{allowed_there, elsewhere}, Sized.{spare_roomy}}
-use Rattle.pf_store.proofs.Saving.{before, have_held, held_synced, run_roomy, store_has, stores, unmoved, unmoved_generations, unmoved_roomy}
+use Rattle.pf_store.proofs.Saving.{have_held, held_synced, saved, store_has, unsaved}
+use Rattle.pf_store.proofs.store.keeping.Store.save.Given.{Over}
+use Rattle.pf_store.proofs.store.keeping.Store.save.Goals.{After-add_to}
 use Rattle.pf_store.proofs.store.keeping.Store.save.Goals as goal
-
-pub returns-then-not-has_room-clause-any_moment : goal.returns-then-not-has_room-clause-any_moment
-returns-then-not-has_room-clause-any_moment g c going =
-    let d = g.D.Disk in
-    let old = c.args.self.now in
-    let s = c.requires.stands going in
-    before d.seen d.unsynced d.moment d.left_since old.disk old.disk c.args.before.now c.args.after.now
-    (unmoved d.seen d.unsynced d.moment d.left_since old.disk c.args.before.now s.synced s.holds (g.met.D.Disk.only_now old.disk))
-
-pub returns-in-Err-clause-any_moment : goal.returns-in-Err-clause-any_moment
-returns-in-Err-clause-any_moment g c going =
-    let d = g.D.Disk in
-    let old = c.args.self.now in
-    let s = c.requires.stands going in
-    before d.seen d.unsynced d.moment d.left_since old.disk old.disk c.args.before.now c.args.after.now
-    (unmoved d.seen d.unsynced d.moment d.left_since old.disk c.args.before.now s.synced s.holds (g.met.D.Disk.only_now old.disk))
 
 pub room-requires : goal.room-requires
 room-requires g c = omega (arith, (c.self.invariant c.if-self.false).ready.journal.gate)
@@ -54,160 +42,45 @@ add_to-requires-clause-room g c here =
 pub add_to-requires-clause-kept : goal.add_to-requires-clause-kept
 add_to-requires-clause-kept g c =
     let d = g.D.Disk in
-    let banks = c.self.inside.banks in
     let going : c.args.self.now.halted ≡ false = ap (λ (v : PlainStore g.row.D.Denot). v.halted) (sym c.self.view_is) ∙ c.if-self.false in
-    store_has d.seen d.unsynced d.fault_count banks c.args.before.now (c.self.invariant c.if-self.false)
+    store_has (c.self.invariant c.if-self.false)
     (subst (λ (v : PlainStore g.row.D.Denot). Holds (d.seen v.disk) c.args.before.now) (sym c.self.view_is) (c.requires.stands going).holds)
+
+-- the record was added, or the device failed
+module _ (g : Over) (c : After-add_to g) where
+  abbrev es : List Recorded
+  es = made_all (map g.C.AsChange.as_plain c.args.changes.now)
+
+  of_these : IsRecordOf (if c.goes_here-here.result then c.self.inside.banks.version else NEWEST) es c.in-Ok.record
+  of_these = subst (λ (v : ℕ). IsRecordOf v es c.in-Ok.record) c.version_for-version.ensures c.in-Ok.ensures.made
+
+  adds : MayWrite g.D.Disk c.args.self.now.disk c.add_to.new.banks.journal.disk 10 (is_add_fault c.add_to.result)
+      (λ image. c.args.self.now.halted ≡ false → IsOfSave (g.D.Disk.seen c.args.self.now.disk) (c.args.self.now.generation + 1) c.args.before.now c.args.after.now image)
+  adds =
+      let going = ap (λ (v : PlainStore g.row.D.Denot). v.halted) (sym c.self.view_is) ∙ c.if-self.false in
+      let found = (c.has_room.ensures.found.0 c.if-not-has_room.false).1 in
+      saved c.self.inside.banks c.self.inside.halted c.self.view_is es of_these c.requires.fit c.requires.leads (c.requires.stands going).holds (spare_roomy c.args.self.now.size c.args.after.now found.room.then) c.add_to.ensures.writes
 
 pub invariant_of-self : goal.invariant_of-self
 invariant_of-self g c going =
-    let d = g.D.Disk in
-    let es = map g.C.AsChange.as_plain c.args.changes.now in
-    let is = subst (λ (v : ℕ). IsRecordOf v (made_all es) c.in-Ok.record) c.version_for-version.ensures c.in-Ok.ensures.made in
-    let kept = c.in-Ok-add_to.ensures.kept (made_all es) is c.requires.fit in
-    stores d.seen d.unsynced d.fault_count c.add_to.new.banks (left_by_all c.args.before.now (made_all es)) c.in-Ok-add_to.ensures.ready kept
-    (omega (arith, (c.self.invariant c.if-self.false).few, c.in-Ok-add_to.ensures.faults))
-
-pub returns-in-Ok-add_to-clause-images : goal.returns-in-Ok-add_to-clause-images
-returns-in-Ok-add_to-clause-images g c image is_image =
-    let d = g.D.Disk in
-    let es = map g.C.AsChange.as_plain c.args.changes.now in
-    let disk = c.add_to.new.banks.journal.disk in
-    let is = subst (λ (v : ℕ). IsRecordOf v (made_all es) c.in-Ok.record) c.version_for-version.ensures c.in-Ok.ensures.made in
-    let holds = have_held d.seen d.unsynced d.fault_count c.add_to.new.banks (left_by_all c.args.before.now (made_all es)) (c.in-Ok-add_to.ensures.kept (made_all es) is c.requires.fit) in
-    held_synced (d.seen disk) (d.unsynced disk) c.args.after.now c.in-Ok-add_to.ensures.ready.journal.synced (subst (λ (k : PlainDurable). Holds (d.seen disk) k) (sym c.requires.leads) holds) image is_image
+    let here = (goal.at.invariant_of-self g c).After-add_to in
+    let kept = c.in-Ok-add_to.ensures.kept (es g here) (of_these g here) c.requires.fit in
+    record { ready = c.in-Ok-add_to.ensures.ready; content = kept.content; keeps = kept.keeps; few = omega (arith, (c.self.invariant c.if-self.false).few, c.in-Ok-add_to.ensures.writes.faults) }
 
 pub returns-in-Ok-add_to-clause-stands : goal.returns-in-Ok-add_to-clause-stands
 returns-in-Ok-add_to-clause-stands g c =
-    let d = g.D.Disk in
-    let es = map g.C.AsChange.as_plain c.args.changes.now in
+    let here = (goal.at.returns-in-Ok-add_to-clause-stands g c).After-add_to in
     let disk = c.add_to.new.banks.journal.disk in
-    let is = subst (λ (v : ℕ). IsRecordOf v (made_all es) c.in-Ok.record) c.version_for-version.ensures c.in-Ok.ensures.made in
-    let holds = have_held d.seen d.unsynced d.fault_count c.add_to.new.banks (left_by_all c.args.before.now (made_all es)) (c.in-Ok-add_to.ensures.kept (made_all es) is c.requires.fit) in
-    record { holds = subst (λ (k : PlainDurable). Holds (d.seen disk) k) (sym c.requires.leads) holds; synced = c.in-Ok-add_to.ensures.ready.journal.synced }
+    let holds = have_held (c.in-Ok-add_to.ensures.kept (es g here) (of_these g here) c.requires.fit) in
+    record { holds = subst (λ (k : PlainDurable). Holds (g.D.Disk.seen disk) k) (sym c.requires.leads) holds; synced = c.in-Ok-add_to.ensures.ready.journal.synced }
 
-pub returns-then-not-has_room-clause-generations : goal.returns-then-not-has_room-clause-generations
-returns-then-not-has_room-clause-generations g c going =
+pub returns-in-Ok-add_to-clause-images : goal.returns-in-Ok-add_to-clause-images
+returns-in-Ok-add_to-clause-images g c =
     let d = g.D.Disk in
-    let b = c.self.inside.banks in
-    let s = c.self.invariant c.if-self.false in
-    subst (λ (v : PlainStore g.row.D.Denot). EachMoment d.moment d.left_since v.disk v.disk (IsNoLaterThan (v.generation + 1))) c.self.view_is
-    (unmoved_generations d.seen d.unsynced d.moment d.left_since b.journal.disk (b.generation + 1) s.content (omega (arith, s.keeps.generation)) s.ready.journal.synced
-    (record { at = b.at; other = b.other; holds = s.keeps.holds }) (g.met.D.Disk.only_now b.journal.disk))
-
-pub returns-in-Err-clause-generations : goal.returns-in-Err-clause-generations
-returns-in-Err-clause-generations g c going =
-    let d = g.D.Disk in
-    let b = c.self.inside.banks in
-    let s = c.self.invariant c.if-self.false in
-    subst (λ (v : PlainStore g.row.D.Denot). EachMoment d.moment d.left_since v.disk v.disk (IsNoLaterThan (v.generation + 1))) c.self.view_is
-    (unmoved_generations d.seen d.unsynced d.moment d.left_since b.journal.disk (b.generation + 1) s.content (omega (arith, s.keeps.generation)) s.ready.journal.synced
-    (record { at = b.at; other = b.other; holds = s.keeps.holds }) (g.met.D.Disk.only_now b.journal.disk))
-
-pub returns-then-not-has_room-clause-roomy : goal.returns-then-not-has_room-clause-roomy
-returns-then-not-has_room-clause-roomy g c going leaves =
-    let d = g.D.Disk in
-    let disk = c.args.self.now.disk in
-    unmoved_roomy d.seen d.unsynced d.moment d.left_since disk (c.requires.stands going).synced leaves (g.met.D.Disk.only_now disk)
-
-pub returns-in-Err-clause-roomy : goal.returns-in-Err-clause-roomy
-returns-in-Err-clause-roomy g c going leaves =
-    let d = g.D.Disk in
-    let disk = c.args.self.now.disk in
-    unmoved_roomy d.seen d.unsynced d.moment d.left_since disk (c.requires.stands going).synced leaves (g.met.D.Disk.only_now disk)
-
-pub returns-in-Ok-add_to-clause-any_moment : goal.returns-in-Ok-add_to-clause-any_moment
-returns-in-Ok-add_to-clause-any_moment g c going =
-    let d = g.D.Disk in
-    let b = c.self.inside.banks in
-    let es = map g.C.AsChange.as_plain c.args.changes.now in
-    let before = c.args.before.now in
-    let is = subst (λ (v : ℕ). IsRecordOf v (made_all es) c.in-Ok.record) c.version_for-version.ensures c.in-Ok.ensures.made in
-    let run = c.add_to.ensures.any_moment (made_all es) is c.requires.fit in
-    subst (λ (v : PlainStore g.row.D.Denot). EachMoment d.moment d.left_since v.disk c.add_to.new.banks.journal.disk (HoldsEither before c.args.after.now)) c.self.view_is
-    (subst (λ (k : PlainDurable). EachMoment d.moment d.left_since b.journal.disk c.add_to.new.banks.journal.disk (HoldsEither before k)) (sym c.requires.leads) run)
-
-pub returns-in-Err-Memory-clause-any_moment : goal.returns-in-Err-Memory-clause-any_moment
-returns-in-Err-Memory-clause-any_moment g c going =
-    let d = g.D.Disk in
-    let b = c.self.inside.banks in
-    let es = map g.C.AsChange.as_plain c.args.changes.now in
-    let before = c.args.before.now in
-    let is = subst (λ (v : ℕ). IsRecordOf v (made_all es) c.in-Ok.record) c.version_for-version.ensures c.in-Ok.ensures.made in
-    let run = c.add_to.ensures.any_moment (made_all es) is c.requires.fit in
-    subst (λ (v : PlainStore g.row.D.Denot). EachMoment d.moment d.left_since v.disk c.add_to.new.banks.journal.disk (HoldsEither before c.args.after.now)) c.self.view_is
-    (subst (λ (k : PlainDurable). EachMoment d.moment d.left_since b.journal.disk c.add_to.new.banks.journal.disk (HoldsEither before k)) (sym c.requires.leads) run)
-
-pub returns-clause-any_moment : goal.returns-clause-any_moment
-returns-clause-any_moment g c going =
-    let d = g.D.Disk in
-    let b = c.self.inside.banks in
-    let es = map g.C.AsChange.as_plain c.args.changes.now in
-    let before = c.args.before.now in
-    let is = subst (λ (v : ℕ). IsRecordOf v (made_all es) c.in-Ok.record) c.version_for-version.ensures c.in-Ok.ensures.made in
-    let run = c.add_to.ensures.any_moment (made_all es) is c.requires.fit in
-    subst (λ (v : PlainStore g.row.D.Denot). EachMoment d.moment d.left_since v.disk c.add_to.new.banks.journal.disk (HoldsEither before c.args.after.now)) c.self.view_is
-    (subst (λ (k : PlainDurable). EachMoment d.moment d.left_since b.journal.disk c.add_to.new.banks.journal.disk (HoldsEither before k)) (sym c.requires.leads) run)
-
-pub returns-in-Ok-add_to-clause-roomy : goal.returns-in-Ok-add_to-clause-roomy
-returns-in-Ok-add_to-clause-roomy g c going =
-    let d = g.D.Disk in
-    let b = c.self.inside.banks in
-    let es = map g.C.AsChange.as_plain c.args.changes.now in
-    let before = c.args.before.now in
-    let is = subst (λ (v : ℕ). IsRecordOf v (made_all es) c.in-Ok.record) c.version_for-version.ensures c.in-Ok.ensures.made in
-    let found : FindsRoom c.args.self.now.size before c.args.after.now es = (c.has_room.ensures.found.0 c.if-not-has_room.false).1 in
-    let then : IsRoomy (bank_size (length (d.seen b.journal.disk))) (left_by_all before (made_all es)) =
-    subst (λ (v : PlainStore g.row.D.Denot). IsRoomy v.size (left_by_all before (made_all es))) (sym c.self.view_is) (subst (λ (k : PlainDurable). IsRoomy c.args.self.now.size k) c.requires.leads (spare_roomy c.args.self.now.size c.args.after.now found.room.then)) in
-    let holds : Holds (d.seen b.journal.disk) before = subst (λ (v : PlainStore g.row.D.Denot). Holds (d.seen v.disk) before) (sym c.self.view_is) (c.requires.stands going).holds in
-    subst (λ (v : PlainStore g.row.D.Denot). LeavesRoom (d.seen v.disk) → EachMoment d.moment d.left_since v.disk c.add_to.new.banks.journal.disk LeavesRoom) c.self.view_is
-    (λ leaves. run_roomy d.seen d.unsynced d.moment d.left_since b.journal.disk c.add_to.new.banks.journal.disk before (left_by_all before (made_all es)) (leaves before holds) then c.add_to.ensures.lengths
-    (c.add_to.ensures.any_moment (made_all es) is c.requires.fit))
-
-pub returns-in-Err-Memory-clause-roomy : goal.returns-in-Err-Memory-clause-roomy
-returns-in-Err-Memory-clause-roomy g c going =
-    let d = g.D.Disk in
-    let b = c.self.inside.banks in
-    let es = map g.C.AsChange.as_plain c.args.changes.now in
-    let before = c.args.before.now in
-    let is = subst (λ (v : ℕ). IsRecordOf v (made_all es) c.in-Ok.record) c.version_for-version.ensures c.in-Ok.ensures.made in
-    let found : FindsRoom c.args.self.now.size before c.args.after.now es = (c.has_room.ensures.found.0 c.if-not-has_room.false).1 in
-    let then : IsRoomy (bank_size (length (d.seen b.journal.disk))) (left_by_all before (made_all es)) =
-    subst (λ (v : PlainStore g.row.D.Denot). IsRoomy v.size (left_by_all before (made_all es))) (sym c.self.view_is) (subst (λ (k : PlainDurable). IsRoomy c.args.self.now.size k) c.requires.leads (spare_roomy c.args.self.now.size c.args.after.now found.room.then)) in
-    let holds : Holds (d.seen b.journal.disk) before = subst (λ (v : PlainStore g.row.D.Denot). Holds (d.seen v.disk) before) (sym c.self.view_is) (c.requires.stands going).holds in
-    subst (λ (v : PlainStore g.row.D.Denot). LeavesRoom (d.seen v.disk) → EachMoment d.moment d.left_since v.disk c.add_to.new.banks.journal.disk LeavesRoom) c.self.view_is
-    (λ leaves. run_roomy d.seen d.unsynced d.moment d.left_since b.journal.disk c.add_to.new.banks.journal.disk before (left_by_all before (made_all es)) (leaves before holds) then c.add_to.ensures.lengths
-    (c.add_to.ensures.any_moment (made_all es) is c.requires.fit))
-
-pub returns-in-Err-Full-clause-roomy : goal.returns-in-Err-Full-clause-roomy
-returns-in-Err-Full-clause-roomy g c going =
-    let d = g.D.Disk in
-    let b = c.self.inside.banks in
-    let es = map g.C.AsChange.as_plain c.args.changes.now in
-    let before = c.args.before.now in
-    let is = subst (λ (v : ℕ). IsRecordOf v (made_all es) c.in-Ok.record) c.version_for-version.ensures c.in-Ok.ensures.made in
-    let found : FindsRoom c.args.self.now.size before c.args.after.now es = (c.has_room.ensures.found.0 c.if-not-has_room.false).1 in
-    let then : IsRoomy (bank_size (length (d.seen b.journal.disk))) (left_by_all before (made_all es)) =
-    subst (λ (v : PlainStore g.row.D.Denot). IsRoomy v.size (left_by_all before (made_all es))) (sym c.self.view_is) (subst (λ (k : PlainDurable). IsRoomy c.args.self.now.size k) c.requires.leads (spare_roomy c.args.self.now.size c.args.after.now found.room.then)) in
-    let holds : Holds (d.seen b.journal.disk) before = subst (λ (v : PlainStore g.row.D.Denot). Holds (d.seen v.disk) before) (sym c.self.view_is) (c.requires.stands going).holds in
-    subst (λ (v : PlainStore g.row.D.Denot). LeavesRoom (d.seen v.disk) → EachMoment d.moment d.left_since v.disk c.add_to.new.banks.journal.disk LeavesRoom) c.self.view_is
-    (λ leaves. run_roomy d.seen d.unsynced d.moment d.left_since b.journal.disk c.add_to.new.banks.journal.disk before (left_by_all before (made_all es)) (leaves before holds) then c.add_to.ensures.lengths
-    (c.add_to.ensures.any_moment (made_all es) is c.requires.fit))
-
-pub returns-clause-roomy : goal.returns-clause-roomy
-returns-clause-roomy g c going =
-    let d = g.D.Disk in
-    let b = c.self.inside.banks in
-    let es = map g.C.AsChange.as_plain c.args.changes.now in
-    let before = c.args.before.now in
-    let is = subst (λ (v : ℕ). IsRecordOf v (made_all es) c.in-Ok.record) c.version_for-version.ensures c.in-Ok.ensures.made in
-    let found : FindsRoom c.args.self.now.size before c.args.after.now es = (c.has_room.ensures.found.0 c.if-not-has_room.false).1 in
-    let then : IsRoomy (bank_size (length (d.seen b.journal.disk))) (left_by_all before (made_all es)) =
-    subst (λ (v : PlainStore g.row.D.Denot). IsRoomy v.size (left_by_all before (made_all es))) (sym c.self.view_is) (subst (λ (k : PlainDurable). IsRoomy c.args.self.now.size k) c.requires.leads (spare_roomy c.args.self.now.size c.args.after.now found.room.then)) in
-    let holds : Holds (d.seen b.journal.disk) before = subst (λ (v : PlainStore g.row.D.Denot). Holds (d.seen v.disk) before) (sym c.self.view_is) (c.requires.stands going).holds in
-    subst (λ (v : PlainStore g.row.D.Denot). LeavesRoom (d.seen v.disk) → EachMoment d.moment d.left_since v.disk c.add_to.new.banks.journal.disk LeavesRoom) c.self.view_is
-    (λ leaves. run_roomy d.seen d.unsynced d.moment d.left_since b.journal.disk c.add_to.new.banks.journal.disk before (left_by_all before (made_all es)) (leaves before holds) then c.add_to.ensures.lengths
-    (c.add_to.ensures.any_moment (made_all es) is c.requires.fit))
+    let here = (goal.at.returns-in-Ok-add_to-clause-images g c).After-add_to in
+    let disk = c.add_to.new.banks.journal.disk in
+    let holds = have_held (c.in-Ok-add_to.ensures.kept (es g here) (of_these g here) c.requires.fit) in
+    held_synced (d.seen disk) (d.unsynced disk) c.args.after.now c.in-Ok-add_to.ensures.ready.journal.synced (subst (λ (k : PlainDurable). Holds (d.seen disk) k) (sym c.requires.leads) holds)
 
 pub returns-in-Ok-add_to-clause-here : goal.returns-in-Ok-add_to-clause-here
 returns-in-Ok-add_to-clause-here g c =
@@ -230,45 +103,14 @@ returns-in-Ok-add_to-clause-there g c =
     (elsewhere c.goes_here-here.result (allows_group c.self.inside.banks.version (made_all es)) (payload_length (made_all es) + 6) c.room.result c.goes_here-here.ensures.0
     (same_room c.self.inside.banks.journal.gate c.room.result c.self.inside.banks.journal.end (payload_length (made_all es) + 6) c.room.ensures other)))
 
-pub returns-in-Ok-add_to-clause-generations : goal.returns-in-Ok-add_to-clause-generations
-returns-in-Ok-add_to-clause-generations g c going =
-    let d = g.D.Disk in
-    subst (λ (v : PlainStore g.row.D.Denot). EachMoment d.moment d.left_since v.disk c.add_to.new.banks.journal.disk (IsNoLaterThan (v.generation + 1))) c.self.view_is c.add_to.ensures.generations
-
-pub returns-in-Err-Memory-clause-generations : goal.returns-in-Err-Memory-clause-generations
-returns-in-Err-Memory-clause-generations g c going =
-    let d = g.D.Disk in
-    subst (λ (v : PlainStore g.row.D.Denot). EachMoment d.moment d.left_since v.disk c.add_to.new.banks.journal.disk (IsNoLaterThan (v.generation + 1))) c.self.view_is c.add_to.ensures.generations
-
-pub returns-in-Err-Full-clause-generations : goal.returns-in-Err-Full-clause-generations
-returns-in-Err-Full-clause-generations g c going =
-    let d = g.D.Disk in
-    subst (λ (v : PlainStore g.row.D.Denot). EachMoment d.moment d.left_since v.disk c.add_to.new.banks.journal.disk (IsNoLaterThan (v.generation + 1))) c.self.view_is c.add_to.ensures.generations
-
-pub returns-clause-generations : goal.returns-clause-generations
-returns-clause-generations g c going =
-    let d = g.D.Disk in
-    subst (λ (v : PlainStore g.row.D.Denot). EachMoment d.moment d.left_since v.disk c.add_to.new.banks.journal.disk (IsNoLaterThan (v.generation + 1))) c.self.view_is c.add_to.ensures.generations
-
-pub returns-in-Err-Full-clause-any_moment : goal.returns-in-Err-Full-clause-any_moment
-returns-in-Err-Full-clause-any_moment g c going =
-    let d = g.D.Disk in
-    let b = c.self.inside.banks in
-    let es = map g.C.AsChange.as_plain c.args.changes.now in
-    let before = c.args.before.now in
-    let is = subst (λ (v : ℕ). IsRecordOf v (made_all es) c.in-Ok.record) c.version_for-version.ensures c.in-Ok.ensures.made in
-    let run = c.add_to.ensures.any_moment (made_all es) is c.requires.fit in
-    subst (λ (v : PlainStore g.row.D.Denot). EachMoment d.moment d.left_since v.disk c.add_to.new.banks.journal.disk (HoldsEither before c.args.after.now)) c.self.view_is
-    (subst (λ (k : PlainDurable). EachMoment d.moment d.left_since b.journal.disk c.add_to.new.banks.journal.disk (HoldsEither before k)) (sym c.requires.leads) run)
-
 pub returns-in-Err-Memory-clause-unchanged : goal.returns-in-Err-Memory-clause-unchanged
 returns-in-Err-Memory-clause-unchanged g c other =
-    let same = c.in-Err-Memory.ensures.unchanged_without_memory (ap Err c.in-Err-Memory.field-0-is) in
+    let same = c.in-Err-Memory.ensures.refused (ap (λ e. is_add_fault {T = Unit {0}} (Err e)) c.in-Err-Memory.field-0-is) in
     ap (λ (b : Banks g.row.D.Denot). store_with g.D.Disk.seen b c.self.inside.halted) same ∙ c.self.view_is
 
 pub returns-in-Err-Full-clause-unchanged : goal.returns-in-Err-Full-clause-unchanged
 returns-in-Err-Full-clause-unchanged g c other =
-    let same = c.in-Err-Full.ensures.unchanged_where_full (ap Err c.in-Err-Full.field-0-is) in
+    let same = c.in-Err-Full.ensures.refused (ap (λ e. is_add_fault {T = Unit {0}} (Err e)) c.in-Err-Full.field-0-is) in
     ap (λ (b : Banks g.row.D.Denot). store_with g.D.Disk.seen b c.self.inside.halted) same ∙ c.self.view_is
 
 pub returns-in-Ok-add_to-clause-room : goal.returns-in-Ok-add_to-clause-room
@@ -282,3 +124,35 @@ returns-clause-room g c = (c.has_room.ensures.found.0 c.if-not-has_room.false).1
 
 pub returns-in-Err-clause-room : goal.returns-in-Err-clause-room
 returns-in-Err-clause-room g c = (c.has_room.ensures.found.0 c.if-not-has_room.false).1
+
+-- ---- each image meanwhile
+
+pub returns-then-self-clause-writes : goal.returns-then-self-clause-writes
+returns-then-self-clause-writes g c =
+    let old = c.args.self.now in
+    let halted : old.halted ≡ true = ap (λ (v : PlainStore g.row.D.Denot). v.halted) (sym c.self.view_is) ∙ c.if-self.true in
+    unmoved g.D.Disk old.disk {P = λ image. old.halted ≡ false → IsOfSave (g.D.Disk.seen old.disk) (old.generation + 1) c.args.before.now c.args.after.now image} (g.met.D.Disk.only_now old.disk) (λ i image going. cc (going, halted))
+
+pub returns-then-not-has_room-clause-writes : goal.returns-then-not-has_room-clause-writes
+returns-then-not-has_room-clause-writes g c =
+    let old = c.args.self.now in
+    unmoved g.D.Disk old.disk {P = λ image. old.halted ≡ false → IsOfSave (g.D.Disk.seen old.disk) (old.generation + 1) c.args.before.now c.args.after.now image} (g.met.D.Disk.only_now old.disk)
+    (λ i image going. unsaved c.self.inside.halted c.args.after.now c.self.view_is (c.self.invariant c.if-self.false) (c.requires.stands going).holds i image)
+
+pub returns-in-Err-clause-writes : goal.returns-in-Err-clause-writes
+returns-in-Err-clause-writes g c =
+    let old = c.args.self.now in
+    unmoved g.D.Disk old.disk {P = λ image. old.halted ≡ false → IsOfSave (g.D.Disk.seen old.disk) (old.generation + 1) c.args.before.now c.args.after.now image} (g.met.D.Disk.only_now old.disk)
+    (λ i image going. unsaved c.self.inside.halted c.args.after.now c.self.view_is (c.self.invariant c.if-self.false) (c.requires.stands going).holds i image)
+
+pub returns-in-Ok-add_to-clause-writes : goal.returns-in-Ok-add_to-clause-writes
+returns-in-Ok-add_to-clause-writes g c = told (sym (ap is_add_fault c.in-Ok-add_to.is)) (adds g (goal.at.returns-in-Ok-add_to-clause-writes g c).After-add_to)
+
+pub returns-in-Err-Memory-clause-writes : goal.returns-in-Err-Memory-clause-writes
+returns-in-Err-Memory-clause-writes g c = told (sym (ap is_add_fault (c.in-Err-Memory.is ∙ ap Err c.in-Err-Memory.field-0-is))) (adds g (goal.at.returns-in-Err-Memory-clause-writes g c).After-add_to)
+
+pub returns-in-Err-Full-clause-writes : goal.returns-in-Err-Full-clause-writes
+returns-in-Err-Full-clause-writes g c = told (sym (ap is_add_fault (c.in-Err-Full.is ∙ ap Err c.in-Err-Full.field-0-is))) (adds g (goal.at.returns-in-Err-Full-clause-writes g c).After-add_to)
+
+pub returns-clause-writes : goal.returns-clause-writes
+returns-clause-writes g c = told (sym (ap is_add_fault (c.in-Err-Fault.is ∙ ap Err c.in-Err-Fault.field-0-is))) (adds g (goal.at.returns-clause-writes g c).After-add_to)
