@@ -2,5 +2,6 @@ pub mod Bits
 pub mod Cuts
 pub mod RowLists
 pub mod Indexes
+pub mod LastZeros
 pub mod ForkSlots
 pub mod Roots

@@ -5,8 +5,8 @@
 //! specs/Prefixes.antt, which says which sign decides about an address and what an edit leaves, then specs/Rows.antt and specs/Forks.antt,
 //! what a node keeps; specs/Indexes.antt is about the index of a page. Callers use [`Trie`], by the trait [`PrefixIndex`].
 //!
-//! A look-up says what it `found` at a `prefix`. `signs` are those of one address's prefixes, and `rows` are addresses with them. A `narrow`
-//! row has fewer bytes, and a `row_list` keeps its rows so as long as all of them are, as those of IPv4 are. `in_order` looks for addresses
+//! A look-up says what it `found` at a `prefix`. `signs` are those of one address's prefixes, and `rows` are addresses with them. A
+//! `narrow` row has fewer bytes, and a `row_list` keeps its rows so as long as all of them are, as those of IPv4 are. `in_order` looks for addresses
 //! in such lists and edits them, and a list that is `indexed` finds its rows by a digit of their addresses. A `level` is what a `slot` has
 //! below it: a `page` of rows, or the slots of a `fork`; a `branch` is a page until its rows are too many, and a fork then. `four` and
 //! `sixteen` have so many levels, and `lower` those of the last 64 bits. A whole trie is made of a `draft`. `index` is what a table asks

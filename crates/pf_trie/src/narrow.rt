@@ -1,5 +1,6 @@
 //! Rows in fewer bytes.
-ghost use Rattle.std.specs.Prelude.{◌≡◌, ◌*◌, ◌^◌, IfSome};
+ghost use Rattle.std.specs.Prelude.{◌≡◌, ◌*◌, ◌^◌, IfNone, IfSome};
+ghost use Rattle.pf_trie.specs.NarrowRows.{IsNarrow};
 
 use crate::rows::Row;
 use crate::signs::Signs;
@@ -52,8 +53,10 @@ impl NarrowRow {
     }
 
     /// This row, if it is such a row.
+    #[tactic(auto, using(crate::proofs::LastZeros::whole), unfolding(crate::specs::NarrowRows::IsNarrow))]
     pub(crate) fn of(row: Row) -> Option<NarrowRow>
-        ensures { IfSome result (λ narrow. narrow ≡ row) }
+        ensures row { IfSome result (λ narrow. narrow ≡ row) }
+        ensures wide { IfNone result (¬ IsNarrow row) }
     {
         let narrow = NarrowRow {
             first: (row.first >> LEFT_OUT) as u32,
