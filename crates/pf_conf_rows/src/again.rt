@@ -35,6 +35,14 @@ fn names_reserved(text: &[u8]) -> bool {
     text.windows(2).any(|pair| pair == b"\"_".as_slice())
 }
 
+/// Main's rules, as they are printed, of the file `printed`; nothing if it is refused.
+fn printed(alloc: Global, files: &Files) -> io::Result<Option<Vec<u8>>> {
+    match resolve(alloc, files, &[], Mode::Strict, &Path::main(), b"printed") {
+        Ok(conf) => Ok(Some(rules_text(alloc, &conf)?)),
+        Err(_) => Ok(None),
+    }
+}
+
 /// Whether main's rules, as they are printed, are read as the same rules. No two rules have one text.
 pub(crate) fn is_read_again(alloc: Global, conf: &Conf) -> io::Result<bool> {
     let text = rules_text(alloc, conf)?;
@@ -42,11 +50,8 @@ pub(crate) fn is_read_again(alloc: Global, conf: &Conf) -> io::Result<bool> {
         return Ok(true);
     }
     let files = file_of(alloc, b"printed", &text)?;
-    match resolve(alloc, &files, &[], Mode::Strict, &Path::main(), b"printed") {
-        Ok(again) => {
-            let printed = rules_text(alloc, &again)?;
-            Ok(printed.as_slice() == text.as_slice())
-        }
-        Err(_) => Ok(false),
+    match printed(alloc, &files)? {
+        Some(again) => Ok(again.as_slice() == text.as_slice()),
+        None => Ok(false),
     }
 }
