@@ -11,7 +11,21 @@ mod telling;
 
 use crate::rows::{Kind, Row};
 use crate::telling::tell;
+use std::alloc::Global;
 use std::io::{self, BufWriter, Write};
+
+/// Keeps a file for the cases behind it, or writes what is told of a case.
+fn play<'a, W: Write>(
+    alloc: Global,
+    out: &mut W,
+    given: &mut Vec<Row<'a>>,
+    row: Row<'a>,
+) -> io::Result<()> {
+    match row.kind {
+        Kind::File => Ok(given.push(row)?),
+        Kind::Case => tell(alloc, out, given, &row),
+    }
+}
 
 fn main(rt: HostRuntime) -> io::Result<()> {
     let alloc = rt.alloc();
@@ -20,11 +34,7 @@ fn main(rt: HostRuntime) -> io::Result<()> {
     let mut given: Vec<Row<'_>> = Vec::new(alloc);
     // The text before the first row says how rows are written.
     for text in text.as_str().split("\n== ").skip(1) {
-        let row = Row::read(text);
-        match row.kind {
-            Kind::File => given.push(row)?,
-            Kind::Case => tell(alloc, &mut out, &given, row)?,
-        }
+        play(alloc, &mut out, &mut given, Row::read(text))?;
     }
     out.flush()
 }

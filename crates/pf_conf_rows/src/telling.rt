@@ -60,19 +60,32 @@ fn write_meaning<W: Write>(alloc: Global, out: &mut W, conf: &Conf) -> io::Resul
     Ok(())
 }
 
+/// Writes why a file means nothing.
+fn write_unread<W: Write>(out: &mut W, unread: &Unread) -> io::Result<()> {
+    match unread {
+        Unread::Faulty(fault) => writeln!(out, "{fault}"),
+        Unread::Needs(name) => writeln!(out, "{name} isn't given"),
+        Unread::Memory => writeln!(out, "out of memory"),
+    }
+}
+
+/// Writes what came of a case's file.
+fn write_told<W: Write>(alloc: Global, out: &mut W, told: &Result<Conf, Unread>) -> io::Result<()> {
+    match told {
+        Ok(conf) => write_meaning(alloc, out, conf),
+        Err(unread) => write_unread(out, unread),
+    }
+}
+
 /// Writes a case's name, and what is told of it.
 pub(crate) fn tell<W: Write>(
     alloc: Global,
     out: &mut W,
     given: &[Row<'_>],
-    case: Row<'_>,
+    case: &Row<'_>,
 ) -> io::Result<()> {
-    let mut files = files_of(alloc, given, &case)?;
     writeln!(out, "== {}", case.name)?;
-    match meaning(alloc, &mut files, &case)? {
-        Ok(conf) => write_meaning(alloc, out, &conf),
-        Err(Unread::Faulty(fault)) => writeln!(out, "{fault}"),
-        Err(Unread::Needs(name)) => writeln!(out, "{name} isn't given"),
-        Err(Unread::Memory) => writeln!(out, "out of memory"),
-    }
+    let mut files = files_of(alloc, given, case)?;
+    let told = meaning(alloc, &mut files, case)?;
+    write_told(alloc, out, &told)
 }
