@@ -13,4 +13,4 @@ returns c = IfOk-weaker c.mark.result _ _ (λ v marks s top front are less in_fr
     ap (λ (a : ℕ). a / 2 ^ top) c.first.ensures ∙ first_in_front p.address p.free top (omega (arith, less)) ∙ in_front in
     let rows : AreRowsWith s top front c.first.result made = c.in_ok-rows.ensures s top front are starts in
     marked_rows s p (Some c.args.sign) top less front made v (marks rows.are.order) rows.are
-    (λ x _. subst (λ (a : ℕ). Any (IsAt a) made) c.first.ensures rows.there)) c.mark.ensures
+    (λ x _. subst (λ (a : ℕ). Any (IsAt a) made) c.first.ensures rows.there)) c.mark.ensures.marks

@@ -7,4 +7,4 @@ pub returns : goal.returns
 returns c = λ s top front are less in_front.
     let p = c.args.prefix in
     c.clear.ensures (with_sign s p None) top front
-    (marked_rows s p None top less front c.args.rows c.in_ok-marked.marked (c.in_ok-marked.ensures are.order) are (λ x is. absurd (cc)))
+    (marked_rows s p None top less front c.args.rows c.in_ok-marked.marked (c.in_ok-marked.ensures.marks are.order) are (λ x is. absurd (cc)))
