@@ -1,6 +1,7 @@
 pub mod Bits
 pub mod Cuts
 pub mod RowLists
+pub mod Marks
 pub mod Indexes
 pub mod IndexEdits
 pub mod LastZeros

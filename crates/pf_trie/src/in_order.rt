@@ -1,7 +1,7 @@
 //! Rows in order: which is at an address, and what edits leave.
 ghost use Rattle.std.specs.Prelude.{◌≡◌, ℕ, ◌/◌, ◌^◌, ◌<◌, ◌≤◌, ◌==◌, length, filter, map, Some, None, IfOk, IfNone, IfSome};
 ghost use Rattle.std.specs.List.{insert};
-ghost use Rattle.pf_trie.specs.Prefixes.{AllSigns, with_sign};
+ghost use Rattle.pf_trie.specs.Prefixes.{AllSigns, first_of, with_sign};
 ghost use Rattle.pf_trie.specs.Rows.{HasSigns, IsInOrder, AreRows, AreRowsWith, IsUpTo, IsBetween, MarksEach, cut_row};
 ghost use Rattle.pf_trie.specs.Indexes.{SameAddresses};
 
@@ -85,22 +85,28 @@ fn with_row(alloc: Global, rows: RowList, address: u128) -> Result<RowList, Allo
     }
 }
 
-/// The rows with a prefix's sign replaced in all that it contains. `AllocError`: nothing is left of them.
+/// The rows with a prefix's sign replaced in all that it contains, where so many aren't past its first address. `AllocError`: nothing is left
+/// of them.
 pub(crate) fn mark(
     alloc: Global,
     mut rows: RowList,
+    count: usize,
     prefix: Prefix,
     sign: Option<bool>,
 ) -> Result<RowList, AllocError>
     requires { prefix.free < 128 }
-    ensures marks { IfOk result (λ v. IsInOrder rows → MarksEach prefix sign rows v) }
+    ensures marks { IfOk result (λ v. IsUpTo rows (first_of prefix) count → IsInOrder rows → MarksEach prefix sign rows v) }
     ensures addresses { IfOk result (λ v. SameAddresses rows v) }
 {
-    let from = up_to(&rows, prefix.first()).saturating_sub(1);
-    let to = up_to(&rows, prefix.last());
-    for place in from..to {
-        let row = rows.at(place).marked(prefix, sign);
-        rows = rows.set(alloc, place, row)?;
+    let last = prefix.last();
+    let from = count.saturating_sub(1);
+    for place in from..rows.len() {
+        let row = rows.at(place);
+        if row.first > last {
+            return Ok(rows);
+        }
+        let marked = row.marked(prefix, sign);
+        rows = rows.set(alloc, place, marked)?;
     }
     Ok(rows)
 }
@@ -126,8 +132,10 @@ pub(crate) fn with_sign(
     requires { prefix.free < 128 }
     ensures { IfOk result (λ v. (s : AllSigns) (top front : ℕ) → AreRows s top front rows → prefix.free < top → prefix.address / 2 ^ top ≡ front → AreRows (with_sign s prefix (Some sign)) top front v) }
 {
-    let rows = with_row(alloc, rows, prefix.first())?;
-    mark(alloc, rows, prefix, Some(sign))
+    let first = prefix.first();
+    let rows = with_row(alloc, rows, first)?;
+    let count = up_to(&rows, first);
+    mark(alloc, rows, count, prefix, Some(sign))
 }
 
 /// Rows with no sign at a prefix. `AllocError`: nothing is left of them.
@@ -139,8 +147,10 @@ pub(crate) fn without_sign(
     requires { prefix.free < 128 }
     ensures { IfOk result (λ v. (s : AllSigns) (top front : ℕ) → AreRows s top front rows → prefix.free < top → prefix.address / 2 ^ top ≡ front → AreRows (with_sign s prefix None) top front v) }
 {
-    let marked = mark(alloc, rows, prefix, None)?;
-    Ok(clear(marked, prefix.first()))
+    let first = prefix.first();
+    let count = up_to(&rows, first);
+    let marked = mark(alloc, rows, count, prefix, None)?;
+    Ok(clear(marked, first))
 }
 
 /// Of rows those whose addresses begin with `front` before the last `at` bits, with the signs of the prefixes that leave fewer bits free.

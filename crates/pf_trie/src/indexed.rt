@@ -247,6 +247,7 @@ impl Indexed {
         requires { prefix.free < 128 }
         ensures { IfOk result (λ v. (s : AllSigns) (top front : ℕ) → AreRowsWith s top front (first_of prefix) self → prefix.free < top → AreRows (with_sign s prefix (Some sign)) top front v) }
     {
+        let count = self.up_to(prefix.first());
         let Indexed {
             shift,
             front,
@@ -257,7 +258,7 @@ impl Indexed {
             shift,
             front,
             before,
-            rows: mark(alloc, rows, prefix, Some(sign))?,
+            rows: mark(alloc, rows, count, prefix, Some(sign))?,
         })
     }
 

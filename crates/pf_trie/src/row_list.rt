@@ -14,6 +14,9 @@ const NARROW_LIMIT: usize = 384;
 
 const WIDE_LIMIT: usize = 128;
 
+// How many rows more a copy has room for that is made for a new row: others often come soon after it, and then no more memory is taken.
+const ROOM: usize = 4;
+
 // Rows, all in fewer bytes or none.
 #[derive(Drop)]
 enum Kept {
@@ -49,7 +52,7 @@ fn widened(alloc: Global, narrow: &[NarrowRow]) -> Result<Vec<Row>, AllocError>
     Ok(rows)
 }
 
-// Items with one more at a place, in a list of their own. `AllocError`: nothing is made.
+// Items with one more at a place, in a list of their own that has room for others. `AllocError`: nothing is made.
 fn with_one_more<T: Copy>(
     alloc: Global,
     items: &[T],
@@ -60,7 +63,7 @@ fn with_one_more<T: Copy>(
     ensures { IfOk result (λ v. v.items ≡ insert items.now place item) }
 {
     let (before, behind) = items.split_at(place);
-    let mut more = Vec::with_capacity(alloc, items.len().saturating_add(1))?;
+    let mut more = Vec::with_capacity(alloc, items.len().saturating_add(1 + ROOM))?;
     more.extend_from_slice(before)?;
     more.push(item)?;
     more.extend_from_slice(behind)?;
@@ -99,7 +102,7 @@ impl RowList {
         }
     }
 
-    /// A copy with a row put in at a place. `AllocError`: nothing is made.
+    /// A copy with a row put in at a place, and room for others. `AllocError`: nothing is made.
     pub(crate) fn copied_with(
         &self,
         alloc: Global,
