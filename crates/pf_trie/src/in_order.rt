@@ -58,7 +58,7 @@ pub(crate) fn signs_at(rows: &RowList, address: u128) -> Signs
     signs_by(rows, up_to(rows, address), address)
 }
 
-/// The row that rows lack at an address, which goes behind those that aren't past it, so many. `None`: they have one there.
+/// The row that rows lack at an address, of which so many aren't past it: the new row's place is behind these. `None`: they have one there.
 pub(crate) fn lacking(rows: &RowList, place: usize, address: u128) -> Option<Row>
     requires { place ≤ length rows.now }
     ensures address { IfSome result (λ row. row.first ≡ address) }
@@ -85,8 +85,8 @@ fn with_row(alloc: Global, rows: RowList, address: u128) -> Result<RowList, Allo
     }
 }
 
-/// The rows with a prefix's sign replaced in all that it contains, where so many aren't past its first address. `AllocError`: nothing is left
-/// of them.
+/// The rows with a prefix's sign replaced in all that it contains, where so many aren't past its first address. `AllocError`: nothing is
+/// left of them.
 pub(crate) fn mark(
     alloc: Global,
     mut rows: RowList,
