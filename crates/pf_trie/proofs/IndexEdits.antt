@@ -2,7 +2,7 @@
 use Rattle.std.proofs.{Common.{◌≡◌, ◌≢◌, ℕ, ◌+◌, ◌-◌, ◌/◌, ◌^◌, ◌<◌, ◌≤◌, ◌==◌, min, Bool, true, false, nat_lt, Option, List, length, get_or, set, refl, sym, ap, ◌∙◌, subst, arith}, lemmas.{Bool.Decides.nat_tests, List.{length-set, get_or-set_same, get_or-set_other}, List.Edits.{length-insert, get_or-insert_below, get_or-insert_at, get_or-insert_above}}}
 use Rattle.std.specs.List.{AllPairs, AllWithin, insert}
 use Rattle.pf_trie.specs.declared.{prefix.Prefix.{Prefix}, rows.Row.{Row}}
-use Rattle.pf_trie.specs.{Rows.{IsInOrder}, Indexes.{digit_at, AreByDigit, IsUpToDigit, IsEntry, IsIndex, BeginAlike, SameAddresses}}
+use Rattle.pf_trie.specs.{Rows.{IsInOrder}, Indexes.{digit_at, AreByDigit, IsUpToDigit, IsEntry, IsIndex, BeginAlike}, Addresses.SameAddresses}
 use Rattle.pf_trie.proofs.RowLists.{MarkedBetween}
 
 -- ---- an item put in among others, each of which has a key

@@ -32,8 +32,3 @@ pub record IsIndex (shift : ℕ) (before : List ℕ) (rows : List Row) : Type 0 
 -- rows in order have these bits before the digit
 pub record BeginAlike (shift front : ℕ) (rows : List Row) : Type 0 where
   pub alike : IsInOrder rows → All (λ r. r.first / 2 ^ shift / DIGITS ≡ front) rows
-
--- rows of the same addresses at the same places, of which each index is too
-pub record SameAddresses (old new : List Row) : Type 0 where
-  pub count : length new ≡ length old
-  pub each : (k : ℕ) (r : Row) → k < length old → (slice_index_or new k r).first ≡ (slice_index_or old k r).first

@@ -3,7 +3,7 @@ ghost use Rattle.std.specs.Prelude.{◌≡◌, ℕ, ◌/◌, ◌^◌, ◌<◌, �
 ghost use Rattle.std.specs.List.{insert};
 ghost use Rattle.pf_trie.specs.Prefixes.{AllSigns, first_of, with_sign};
 ghost use Rattle.pf_trie.specs.Rows.{HasSigns, IsInOrder, AreRows, AreRowsWith, IsUpTo, IsBetween, MarksEach, cut_row};
-ghost use Rattle.pf_trie.specs.Indexes.{SameAddresses};
+ghost use Rattle.pf_trie.specs.Addresses.{SameAddresses};
 
 use crate::prefix::{Prefix, apart};
 use crate::row_list::RowList;
