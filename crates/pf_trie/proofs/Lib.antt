@@ -1,7 +1,9 @@
 pub mod Bits
 pub mod Cuts
 pub mod RowLists
+pub mod Marks
 pub mod Indexes
+pub mod IndexEdits
 pub mod LastZeros
 pub mod ForkSlots
 pub mod Roots

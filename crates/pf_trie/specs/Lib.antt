@@ -3,6 +3,7 @@ pub mod Prefixes
 pub mod Rows
 pub mod NarrowRows
 pub mod KeptRows
+pub mod Addresses
 pub mod Indexes
 pub mod Pages
 pub mod Forks

@@ -1,7 +1,9 @@
 //! Rows in order: which is at an address, and what edits leave.
-ghost use Rattle.std.specs.Prelude.{◌≡◌, ℕ, ◌/◌, ◌^◌, ◌<◌, ◌≤◌, ◌==◌, length, filter, map, Some, None, IfOk};
-ghost use Rattle.pf_trie.specs.Prefixes.{AllSigns, with_sign};
+ghost use Rattle.std.specs.Prelude.{◌≡◌, ℕ, ◌/◌, ◌^◌, ◌<◌, ◌≤◌, ◌==◌, length, filter, map, Some, None, IfOk, IfNone, IfSome};
+ghost use Rattle.std.specs.List.{insert};
+ghost use Rattle.pf_trie.specs.Prefixes.{AllSigns, first_of, with_sign};
 ghost use Rattle.pf_trie.specs.Rows.{HasSigns, IsInOrder, AreRows, AreRowsWith, IsUpTo, IsBetween, MarksEach, cut_row};
+ghost use Rattle.pf_trie.specs.Addresses.{SameAddresses};
 
 use crate::prefix::{Prefix, apart};
 use crate::row_list::RowList;
@@ -29,8 +31,8 @@ pub(crate) fn up_to_between(rows: &RowList, address: u128, from: usize, to: usiz
     low
 }
 
-// How many rows are at an address or before it.
-fn up_to(rows: &RowList, address: u128) -> usize
+/// How many rows are at an address or before it.
+pub(crate) fn up_to(rows: &RowList, address: u128) -> usize
     ensures { IsUpTo rows.now address result }
 {
     up_to_between(rows, address, 0, rows.len())
@@ -56,36 +58,55 @@ pub(crate) fn signs_at(rows: &RowList, address: u128) -> Signs
     signs_by(rows, up_to(rows, address), address)
 }
 
+/// The row that rows lack at an address, of which so many aren't past it: the new row's place is behind these. `None`: they have one there.
+pub(crate) fn lacking(rows: &RowList, place: usize, address: u128) -> Option<Row>
+    requires { place ≤ length rows.now }
+    ensures address { IfSome result (λ row. row.first ≡ address) }
+    ensures lacks { IfSome result (λ row. (s : AllSigns) (top front : ℕ) → IsUpTo rows.now address place → AreRows s top front rows.now → address / 2 ^ top ≡ front → AreRowsWith s top front address (insert rows.now place row)) }
+    ensures has { IfNone result ((s : AllSigns) (top front : ℕ) → IsUpTo rows.now address place → AreRows s top front rows.now → AreRowsWith s top front address rows.now) }
+{
+    if place > 0 && rows.at(place - 1).first == address {
+        return None;
+    }
+    Some(Row {
+        first: address,
+        signs: signs_by(rows, place, address),
+    })
+}
+
 // Rows with one at this address. `AllocError`: nothing is left of them.
 fn with_row(alloc: Global, rows: RowList, address: u128) -> Result<RowList, AllocError>
     ensures { IfOk result (λ v. (s : AllSigns) (top front : ℕ) → AreRows s top front rows → address / 2 ^ top ≡ front → AreRowsWith s top front address v) }
 {
     let place = up_to(&rows, address);
-    if place > 0 && rows.at(place - 1).first == address {
-        return Ok(rows);
+    match lacking(&rows, place, address) {
+        Some(row) => rows.insert(alloc, place, row),
+        None => Ok(rows),
     }
-    let row = Row {
-        first: address,
-        signs: signs_by(&rows, place, address),
-    };
-    rows.insert(alloc, place, row)
 }
 
-// The rows with a prefix's sign replaced in all that it contains. `AllocError`: nothing is left of them.
-fn mark(
+/// The rows with a prefix's sign replaced in all that it contains, where so many aren't past its first address. `AllocError`: nothing is
+/// left of them.
+pub(crate) fn mark(
     alloc: Global,
     mut rows: RowList,
+    count: usize,
     prefix: Prefix,
     sign: Option<bool>,
 ) -> Result<RowList, AllocError>
     requires { prefix.free < 128 }
-    ensures { IfOk result (λ v. IsInOrder rows → MarksEach prefix sign rows v) }
+    ensures marks { IfOk result (λ v. IsUpTo rows (first_of prefix) count → IsInOrder rows → MarksEach prefix sign rows v) }
+    ensures addresses { IfOk result (λ v. SameAddresses rows v) }
 {
-    let from = up_to(&rows, prefix.first()).saturating_sub(1);
-    let to = up_to(&rows, prefix.last());
-    for place in from..to {
-        let row = rows.at(place).marked(prefix, sign);
-        rows = rows.set(alloc, place, row)?;
+    let last = prefix.last();
+    let from = count.saturating_sub(1);
+    for place in from..rows.len() {
+        let row = rows.at(place);
+        if row.first > last {
+            return Ok(rows);
+        }
+        let marked = row.marked(prefix, sign);
+        rows = rows.set(alloc, place, marked)?;
     }
     Ok(rows)
 }
@@ -111,33 +132,25 @@ pub(crate) fn with_sign(
     requires { prefix.free < 128 }
     ensures { IfOk result (λ v. (s : AllSigns) (top front : ℕ) → AreRows s top front rows → prefix.free < top → prefix.address / 2 ^ top ≡ front → AreRows (with_sign s prefix (Some sign)) top front v) }
 {
-    let rows = with_row(alloc, rows, prefix.first())?;
-    mark(alloc, rows, prefix, Some(sign))
+    let first = prefix.first();
+    let rows = with_row(alloc, rows, first)?;
+    let count = up_to(&rows, first);
+    mark(alloc, rows, count, prefix, Some(sign))
 }
 
-// Rows with no sign at a prefix. `AllocError`: nothing is left of them.
-fn without_sign(alloc: Global, rows: RowList, prefix: Prefix) -> Result<RowList, AllocError>
-    requires { prefix.free < 128 }
-    ensures { IfOk result (λ v. (s : AllSigns) (top front : ℕ) → AreRows s top front rows → prefix.free < top → prefix.address / 2 ^ top ≡ front → AreRows (with_sign s prefix None) top front v) }
-{
-    let marked = mark(alloc, rows, prefix, None)?;
-    Ok(clear(marked, prefix.first()))
-}
-
-/// The rows with the sign at a prefix replaced, or taken out. `AllocError`: nothing is left of them.
-pub(crate) fn edited(
+/// Rows with no sign at a prefix. `AllocError`: nothing is left of them.
+pub(crate) fn without_sign(
     alloc: Global,
     rows: RowList,
     prefix: Prefix,
-    sign: Option<bool>,
 ) -> Result<RowList, AllocError>
     requires { prefix.free < 128 }
-    ensures { IfOk result (λ v. (s : AllSigns) (top front : ℕ) → AreRows s top front rows → prefix.free < top → prefix.address / 2 ^ top ≡ front → AreRows (with_sign s prefix sign) top front v) }
+    ensures { IfOk result (λ v. (s : AllSigns) (top front : ℕ) → AreRows s top front rows → prefix.free < top → prefix.address / 2 ^ top ≡ front → AreRows (with_sign s prefix None) top front v) }
 {
-    match sign {
-        Some(sign) => with_sign(alloc, rows, prefix, sign),
-        None => without_sign(alloc, rows, prefix),
-    }
+    let first = prefix.first();
+    let count = up_to(&rows, first);
+    let marked = mark(alloc, rows, count, prefix, None)?;
+    Ok(clear(marked, first))
 }
 
 /// Of rows those whose addresses begin with `front` before the last `at` bits, with the signs of the prefixes that leave fewer bits free.

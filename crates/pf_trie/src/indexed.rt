@@ -1,11 +1,12 @@
 //! Rows with an index by a digit of their addresses.
-ghost use Rattle.std.specs.Prelude.{◌≡◌, ℕ, ◌/◌, ◌^◌, ◌<◌, ◌≤◌, true, length, IfOk};
-ghost use Rattle.std.specs.List.{AllWithin};
-ghost use Rattle.pf_trie.specs.Prefixes.{AllSigns, with_sign};
-ghost use Rattle.pf_trie.specs.Rows.{IsInOrder, AreRows, HasSigns, IsBetween};
+ghost use Rattle.std.specs.Prelude.{◌≡◌, ℕ, ◌/◌, ◌^◌, ◌<◌, ◌≤◌, List, true, length, Some, None, IfOk};
+ghost use Rattle.std.specs.List.{AllWithin, insert};
+ghost use Rattle.pf_trie.specs.Prefixes.{AllSigns, first_of, with_sign};
+ghost use Rattle.pf_trie.specs.declared.rows.Row.{Row};
+ghost use Rattle.pf_trie.specs.Rows.{IsInOrder, AreRows, AreRowsWith, HasSigns, IsUpTo, IsBetween};
 ghost use Rattle.pf_trie.specs.Indexes.{digit_at, AreByDigit, IsUpToDigit, IsIndex, BeginAlike};
 
-use crate::in_order::{edited, signs_at, signs_by, up_to_between};
+use crate::in_order::{lacking, mark, signs_by, up_to, up_to_between, without_sign};
 use crate::prefix::{Prefix, apart};
 use crate::row_list::RowList;
 use crate::signs::Signs;
@@ -126,6 +127,17 @@ fn index_of(rows: &RowList, shift: u8, other: [u8; DIGITS]) -> [u8; DIGITS]
     before
 }
 
+// The index of rows with one more of this digit: one row more comes before each higher digit.
+fn with_one_more(mut before: [u8; DIGITS], digit: usize) -> [u8; DIGITS]
+    requires { digit < DIGITS }
+    ensures { (shift place : ℕ) (rows : List Row) (row : Row) → place ≤ length rows → digit ≡ digit_at shift row.first → IsIndex shift before rows → IsIndex shift result (insert rows place row) }
+{
+    for higher in digit + 1..DIGITS {
+        before[higher] = before[higher].saturating_add(1);
+    }
+    before
+}
+
 // Two places between which the rows up to an address end, by the index of rows that begin as the address does.
 fn bounds(rows: &RowList, before: &[u8], shift: u8, address: u128) -> (usize, usize)
     requires shift { shift < 128 }
@@ -158,9 +170,10 @@ impl Indexed {
         }
     }
 
-    // Rows with their index, by that of nearly the same rows.
-    fn after(rows: RowList, shift: u8, front: u128, before: [u8; DIGITS]) -> Indexed
-        requires { shift < 128 }
+    // Rows with this index where they begin alike, or else with another.
+    fn by(rows: RowList, shift: u8, front: u128, before: [u8; DIGITS]) -> Indexed
+        requires shift { shift < 128 }
+        requires index { IsIndex shift before rows }
         ensures { result ≡ rows }
     {
         if !begin_alike(&rows, shift, front) {
@@ -169,7 +182,7 @@ impl Indexed {
         Indexed {
             shift,
             front,
-            before: index_of(&rows, shift, before),
+            before,
             rows,
         }
     }
@@ -186,6 +199,85 @@ impl Indexed {
         })
     }
 
+    // How many rows are at an address or before it.
+    fn up_to(&self, address: u128) -> usize
+        ensures { IsUpTo self.now address result }
+    {
+        if (address >> self.shift) / DIGITS as u128 != self.front {
+            return up_to(&self.rows, address);
+        }
+        let (low, high) = bounds(&self.rows, &self.before, self.shift, address);
+        up_to_between(&self.rows, address, low, high)
+    }
+
+    // With a row at an address. `AllocError`: nothing is left of them.
+    fn with_row(self, alloc: Global, address: u128) -> Result<Indexed, AllocError>
+        ensures { IfOk result (λ v. (s : AllSigns) (top front : ℕ) → AreRows s top front self → address / 2 ^ top ≡ front → AreRowsWith s top front address v) }
+    {
+        let place = self.up_to(address);
+        let Some(row) = lacking(&self.rows, place, address) else {
+            return Ok(self);
+        };
+        let Indexed {
+            shift,
+            front,
+            before,
+            rows,
+        } = self;
+        let rows = rows.insert(alloc, place, row)?;
+        let before = with_one_more(before, digit_of(address, shift));
+        Ok(Indexed::by(rows, shift, front, before))
+    }
+
+    // A copy with a row at an address. `AllocError`: nothing is made.
+    fn copied_with_row(&self, alloc: Global, address: u128) -> Result<Indexed, AllocError>
+        ensures { IfOk result (λ v. (s : AllSigns) (top front : ℕ) → AreRows s top front self.now → address / 2 ^ top ≡ front → AreRowsWith s top front address v) }
+    {
+        let place = self.up_to(address);
+        let Some(row) = lacking(&self.rows, place, address) else {
+            return self.copied(alloc);
+        };
+        let rows = self.rows.copied_with(alloc, place, row)?;
+        let before = with_one_more(self.before, digit_of(address, self.shift));
+        Ok(Indexed::by(rows, self.shift, self.front, before))
+    }
+
+    // With a sign at a prefix whose first address has a row. `AllocError`: nothing is left of them.
+    fn marked(self, alloc: Global, prefix: Prefix, sign: bool) -> Result<Indexed, AllocError>
+        requires { prefix.free < 128 }
+        ensures { IfOk result (λ v. (s : AllSigns) (top front : ℕ) → AreRowsWith s top front (first_of prefix) self → prefix.free < top → AreRows (with_sign s prefix (Some sign)) top front v) }
+    {
+        let count = self.up_to(prefix.first());
+        let Indexed {
+            shift,
+            front,
+            before,
+            rows,
+        } = self;
+        Ok(Indexed {
+            shift,
+            front,
+            before,
+            rows: mark(alloc, rows, count, prefix, Some(sign))?,
+        })
+    }
+
+    // With no sign at a prefix. `AllocError`: nothing is left of them.
+    fn cleared(self, alloc: Global, prefix: Prefix) -> Result<Indexed, AllocError>
+        requires { prefix.free < 128 }
+        ensures { IfOk result (λ v. (s : AllSigns) (top front : ℕ) → AreRows s top front self → prefix.free < top → prefix.address / 2 ^ top ≡ front → AreRows (with_sign s prefix None) top front v) }
+    {
+        let Indexed {
+            shift,
+            front,
+            before,
+            rows,
+        } = self;
+        let rows = without_sign(alloc, rows, prefix)?;
+        let before = index_of(&rows, shift, before);
+        Ok(Indexed::by(rows, shift, front, before))
+    }
+
     /// The rows with the sign at a prefix replaced, or taken out. `AllocError`: nothing is left of them.
     pub(crate) fn edited(
         self,
@@ -196,14 +288,35 @@ impl Indexed {
         requires { prefix.free < 128 }
         ensures { IfOk result (λ v. (s : AllSigns) (top front : ℕ) → AreRows s top front self → prefix.free < top → prefix.address / 2 ^ top ≡ front → AreRows (with_sign s prefix sign) top front v) }
     {
-        let Indexed {
-            shift,
-            front,
-            before,
-            rows,
-        } = self;
-        let rows = edited(alloc, rows, prefix, sign)?;
-        Ok(Indexed::after(rows, shift, front, before))
+        match sign {
+            Some(sign) => {
+                let with_row = self.with_row(alloc, prefix.first())?;
+                with_row.marked(alloc, prefix, sign)
+            }
+            None => self.cleared(alloc, prefix),
+        }
+    }
+
+    /// A copy with the sign at a prefix replaced, or taken out. `AllocError`: nothing is made.
+    pub(crate) fn copied_and_edited(
+        &self,
+        alloc: Global,
+        prefix: Prefix,
+        sign: Option<bool>,
+    ) -> Result<Indexed, AllocError>
+        requires { prefix.free < 128 }
+        ensures { IfOk result (λ v. (s : AllSigns) (top front : ℕ) → AreRows s top front self.now → prefix.free < top → prefix.address / 2 ^ top ≡ front → AreRows (with_sign s prefix sign) top front v) }
+    {
+        match sign {
+            Some(sign) => {
+                let with_row = self.copied_with_row(alloc, prefix.first())?;
+                with_row.marked(alloc, prefix, sign)
+            }
+            None => {
+                let copied = self.copied(alloc)?;
+                copied.cleared(alloc, prefix)
+            }
+        }
     }
 
     /// The rows.
@@ -230,11 +343,6 @@ impl Indexed {
     pub(crate) fn signs(&self, address: u128) -> Signs
         ensures { (s : AllSigns) (top front : ℕ) → AreRows s top front self.now → address / 2 ^ top ≡ front → HasSigns s 0 top address result }
     {
-        if (address >> self.shift) / DIGITS as u128 != self.front {
-            return signs_at(&self.rows, address);
-        }
-        let (low, high) = bounds(&self.rows, &self.before, self.shift, address);
-        let place = up_to_between(&self.rows, address, low, high);
-        signs_by(&self.rows, place, address)
+        signs_by(&self.rows, self.up_to(address), address)
     }
 }

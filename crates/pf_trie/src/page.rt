@@ -5,7 +5,6 @@ ghost use Rattle.pf_trie.specs.Agreeing.{rows_agree};
 ghost use Rattle.std.specs.Arc.{arc_value};
 
 use crate::found::Found;
-use crate::in_order::edited;
 use crate::indexed::Indexed;
 use crate::level::Level;
 use crate::prefix::Prefix;
@@ -39,6 +38,23 @@ fn own(alloc: Global, rows: Arc<Indexed>) -> Result<Indexed, AllocError>
     match Arc::try_unwrap(rows) {
         Ok(alone) => Ok(alone),
         Err(shared) => shared.copied(alloc),
+    }
+}
+
+// Rows with the sign at a prefix replaced, or taken out: themselves where nobody else holds them, or else a copy. `AllocError`: nothing is
+// left of this owner's rows.
+fn edited(
+    alloc: Global,
+    rows: Arc<Indexed>,
+    prefix: Prefix,
+    sign: Option<bool>,
+) -> Result<Indexed, AllocError>
+    requires { prefix.free < 128 }
+    ensures { IfOk result (λ v. (s : AllSigns) (top front : ℕ) → AreRows s top front (arc_value rows) → prefix.free < top → prefix.address / 2 ^ top ≡ front → AreRows (with_sign s prefix sign) top front v) }
+{
+    match Arc::try_unwrap(rows) {
+        Ok(alone) => alone.edited(alloc, prefix, sign),
+        Err(shared) => shared.copied_and_edited(alloc, prefix, sign),
     }
 }
 
@@ -102,8 +118,11 @@ impl Page {
     {
         let Page { rows } = self;
         match rows {
-            Some(rows) => Page::holding(alloc, own(alloc, rows)?.edited(alloc, prefix, sign)?),
-            None => Page::of(alloc, edited(alloc, RowList::none(alloc), prefix, sign)?),
+            Some(rows) => Page::holding(alloc, edited(alloc, rows, prefix, sign)?),
+            None => {
+                let none = Indexed::of(RowList::none(alloc));
+                Page::holding(alloc, none.edited(alloc, prefix, sign)?)
+            }
         }
     }
 

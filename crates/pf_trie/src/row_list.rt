@@ -14,6 +14,9 @@ const NARROW_LIMIT: usize = 384;
 
 const WIDE_LIMIT: usize = 128;
 
+// How many rows more a copy has room for that is made for a new row: others often come soon after it, and then no more memory is taken.
+const ROOM: usize = 4;
+
 // Rows, all in fewer bytes or none.
 #[derive(Drop)]
 enum Kept {
@@ -49,6 +52,24 @@ fn widened(alloc: Global, narrow: &[NarrowRow]) -> Result<Vec<Row>, AllocError>
     Ok(rows)
 }
 
+// Items with one more at a place, in a list of their own that has room for others. `AllocError`: nothing is made.
+fn with_one_more<T: Copy>(
+    alloc: Global,
+    items: &[T],
+    place: usize,
+    item: T,
+) -> Result<Vec<T>, AllocError>
+    requires { place ≤ length items.now }
+    ensures { IfOk result (λ v. v.items ≡ insert items.now place item) }
+{
+    let (before, behind) = items.split_at(place);
+    let mut more = Vec::with_capacity(alloc, items.len().saturating_add(1 + ROOM))?;
+    more.extend_from_slice(before)?;
+    more.push(item)?;
+    more.extend_from_slice(behind)?;
+    Ok(more)
+}
+
 impl RowList {
     /// No rows. It takes no memory.
     pub(crate) fn none(alloc: Global) -> RowList
@@ -78,6 +99,29 @@ impl RowList {
                     kept: Kept::Wide(copy),
                 })
             }
+        }
+    }
+
+    /// A copy with a row put in at a place, and room for others. `AllocError`: nothing is made.
+    pub(crate) fn copied_with(
+        &self,
+        alloc: Global,
+        place: usize,
+        row: Row,
+    ) -> Result<RowList, AllocError>
+        requires { place ≤ length self.now }
+        ensures { IfOk result (λ l. l ≡ insert self.now place row) }
+    {
+        match &self.kept {
+            Kept::Narrow(rows) => match NarrowRow::of(row) {
+                Some(narrow) => Ok(RowList {
+                    kept: Kept::Narrow(with_one_more(alloc, rows, place, narrow)?),
+                }),
+                None => self.copied(alloc)?.insert(alloc, place, row),
+            },
+            Kept::Wide(rows) => Ok(RowList {
+                kept: Kept::Wide(with_one_more(alloc, rows, place, row)?),
+            }),
         }
     }
 

@@ -1,5 +1,5 @@
-use Rattle.pf_trie.proofs.RowLists.{MarkedBetween}
+use Rattle.pf_trie.proofs.Marks.{MarkedTo}
 use Rattle.pf_trie.proofs.in_order.mark.Given as goal
 
 abbrev pub invariant-loop-place : goal.invariant-loop-place
-invariant-loop-place l = MarkedBetween l.prefix l.sign l.initial.rows l.rows l.from l.place
+invariant-loop-place l = MarkedTo l.prefix l.sign l.initial.rows l.rows l.from l.place

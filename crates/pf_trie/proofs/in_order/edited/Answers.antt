@@ -1,7 +1,0 @@
-use Rattle.pf_trie.proofs.in_order.edited.Goals as goal
-
-pub returns-in-Some : goal.returns-in-Some
-returns-in-Some c = rw c.in-Some.is c.with_sign.ensures
-
-pub returns-in-None : goal.returns-in-None
-returns-in-None c = rw c.in-None.is c.without_sign.ensures
