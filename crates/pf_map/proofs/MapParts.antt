@@ -5,9 +5,10 @@ use Rattle.std.specs.declared.cmp.Ordering.TheVariants.{Less, Equal, Greater}
 use Rattle.std.specs.Cmp.{IsTotalOrder}
 use Rattle.std.specs.FinMap.{find, put, is_sorted}
 use Rattle.std.specs.FinMap.Entries.{below_all, by_order}
-use Rattle.std.specs.List.{AllByRecursion, remove}
+use Rattle.std.specs.List.{AllByRecursion, insert, remove}
+use Rattle.std.specs.Prelude.{slice_set}
 use Rattle.std.specs.Ordering.{ordering_reverse, eq_by_cmp, is_eq, is_lt}
-use Rattle.std.proofs.lemmas.List.{get_or_default, map-append, take-append-drop}
+use Rattle.std.proofs.lemmas.List.{get_or_default, map-append, take-append-drop, take-set, drop-set-lt, get_or-set_same}
 use Rattle.std.proofs.lemmas.List.Concat.{flat_map-append}
 use Rattle.std.proofs.lemmas.List.Elements.{filter-append}
 use Rattle.pf_map.specs.Maps.{without, with_value, entry_at}
@@ -28,7 +29,7 @@ front_of zero parts = []
 front_of (suc n) parts = take n parts
 
 -- all entries around one part
-around : {E : Type 0} (parts : List (List E)) (i : ℕ) → joined parts ≡ joined (take i parts) ++ (get_or parts i [] ++ joined (drop (suc i) parts))
+pub around : {E : Type 0} (parts : List (List E)) (i : ℕ) → joined parts ≡ joined (take i parts) ++ (get_or parts i [] ++ joined (drop (suc i) parts))
 around [] zero = refl
 around [] (suc i) = refl
 around (p ∷ parts) zero = refl
@@ -40,6 +41,11 @@ around_place parts (suc i) = around parts i
 
 at_part : {E : Type 0} (parts : List (List E)) (i : ℕ) (part : List E) → i < length parts → part ≡ get_or parts i part → part ≡ get_or parts i []
 at_part parts i part within is = is ∙ get_or_default parts i part [] within
+
+-- around a part that became another one in its place stands what stood around it
+pub around_set : {E : Type 0} (parts : List (List E)) (n : ℕ) (part : List E) → n < length parts →
+    (take n (slice_set parts n part) ≡ take n parts) × (get_or (slice_set parts n part) n [] ≡ part) × (drop (suc n) (slice_set parts n part) ≡ drop (suc n) parts)
+around_set parts n part within = (take-set parts n part, get_or-set_same parts n part [] within, drop-set-lt (suc n) parts n part (omega arith))
 
 -- what comes before something that a key doesn't come before, comes before the key
 past : {K : Type 0} {R : K → K → Ordering} → IsTotalOrder R → (k x y : K) → R x y ≡ Less → is_lt (R k y) ≡ false → R k x ≡ Greater
@@ -156,6 +162,15 @@ module _ {K X : Type 0} {R : K → K → Ordering} (o : IsTotalOrder R) (k : K) 
       replaced_there parts n v at sorted ∙ ap (λ z. joined z ++ (with_value R (part_before n parts) k v ++ joined (drop n parts))) (front_is parts n some)
       ∙ ap (λ z. joined (take (n - 1) parts) ++ (with_value R z k v ++ joined (drop n parts))) (before_is parts n some ∙ sym (at_part parts (n - 1) part within is))
 
+  -- the part of the key's place became `w`, of which `f` says what there is then
+  pub replaced_in_its_place : (parts : List (List (K × X))) (n : ℕ) (part w : List (K × X)) (v : Option X) (f : List (K × X) → List (K × X)) → 0 < n → n - 1 < length parts → part ≡ get_or parts (n - 1) part → IsPlace R k parts n → T (is_sorted R (joined parts)) →
+      f w ≡ with_value R part k v →
+      joined (take (n - 1) (slice_set parts (n - 1) w)) ++ (f (get_or (slice_set parts (n - 1) w) (n - 1) []) ++ joined (drop (suc (n - 1)) (slice_set parts (n - 1) w))) ≡ with_value R (joined parts) k v
+  replaced_in_its_place parts n part w v f some within is at sorted changed =
+      let around = around_set parts (n - 1) w within in
+      let next : suc (n - 1) ≡ n = omega (arith, some) in
+      rw (around.0, around.1, around.2, next, changed) (sym (replaced_at parts n part v some within is at sorted))
+
   pub read_at : (parts : List (List (K × X))) (n : ℕ) (part : List (K × X)) → 0 < n → n - 1 < length parts → part ≡ get_or parts (n - 1) part → IsPlace R k parts n → T (is_sorted R (joined parts)) → entry_at R k part ≡ entry_at R k (joined parts)
   read_at parts n part some within is at sorted =
       ap (λ z. option_map (λ v. (k, v)) z) (ap (find R k) (at_part parts (n - 1) part within is ∙ sym (before_is parts n some)) ∙ sym (read_there parts n at sorted))
@@ -203,10 +218,27 @@ page_moved pair pages n rest =
 pub one_moved : {E : Type 0} (before : List E) (page rest : List (List E)) (part : List E) → before ++ (joined (page ++ part ∷ []) ++ joined rest) ≡ before ++ (joined page ++ joined (part ∷ rest))
 one_moved before page rest part = simp (flat_map-append, append_assoc, append-nil)
 
--- ---- a part taken out of its place, and what it became put there
+-- ---- what there is of a part that was changed in its place
 
--- around a part that was taken out stands what stood around it
-pub around_removed : {E : Type 0} (parts : List (List E)) (n : ℕ) → n < length parts → (take n (remove parts n) ≡ take n parts) × (drop n (remove parts n) ≡ drop (suc n) parts)
-around_removed [] n within = absurd (omega (arith, within))
-around_removed (x ∷ parts) zero within = (refl, refl)
-around_removed (x ∷ parts) (suc n) within = let there = around_removed parts n (omega (arith, within)) in (ap (λ z. x ∷ z) there.0, there.1)
+-- of one part alone nothing stands around it
+pub none_around : {E : Type 0} (parts : List (List E)) (n : ℕ) → n < length parts → length parts ≡ 1 → [] ≡ joined (take n parts) ++ ([] ++ joined (drop (suc n) parts))
+none_around [] n within one = absurd (omega (arith, within))
+none_around (p ∷ []) zero within one = refl
+none_around (p ∷ []) (suc n) within one = absurd (omega (arith, within))
+none_around (p ∷ q ∷ parts) n within one = absurd (omega (arith, one))
+
+-- once it was taken out, what stood around it is all that is left
+pub one_removed : {E : Type 0} (parts : List (List E)) (n : ℕ) → n < length parts → joined (remove parts n) ≡ joined (take n parts) ++ ([] ++ joined (drop (suc n) parts))
+one_removed [] n within = absurd (omega (arith, within))
+one_removed (p ∷ parts) zero within = refl
+one_removed (p ∷ parts) (suc n) within =
+    ap (λ z. p ++ z) (one_removed parts n (omega (arith, within))) ∙ sym (append_assoc p (joined (take n parts)) (joined (drop (suc n) parts)))
+
+-- one more behind it
+pub one_inserted : {E : Type 0} (parts : List (List E)) (n : ℕ) (behind : List E) → n < length parts →
+    joined (insert parts (suc n) behind) ≡ joined (take n parts) ++ ((get_or parts n [] ++ behind) ++ joined (drop (suc n) parts))
+one_inserted [] n behind within = absurd (omega (arith, within))
+one_inserted (p ∷ parts) zero behind within = sym (append_assoc p behind (joined parts))
+one_inserted (p ∷ parts) (suc n) behind within =
+    ap (λ z. p ++ z) (one_inserted parts n behind (omega (arith, within)))
+    ∙ sym (append_assoc p (joined (take n parts)) ((get_or parts n [] ++ behind) ++ joined (drop (suc n) parts)))

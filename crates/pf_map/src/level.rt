@@ -1,6 +1,6 @@
 //! A level of the tree: parts that follow one another, in one page.
-ghost use Rattle.std.specs.Prelude.{◌≡◌, ◌<◌, ◌≤◌, T, [], ◌++◌, length, take, drop, IfOk, OnOk, IfSome, None};
-ghost use Rattle.std.specs.{FinMap.is_sorted, Option.{option_map, option_map_or}};
+ghost use Rattle.std.specs.Prelude.{◌≡◌, ◌<◌, T, cond, suc, [], ◌++◌, length, get_or, take, drop, IfOk, IfSome};
+ghost use Rattle.std.specs.{Arc.arc_value, FinMap.is_sorted, Option.{option_map, option_map_or}};
 ghost use Rattle.pf_map.specs.{Maps.{with_value, entry_at}, MapParts.{joined, IsPlace}, Pieces.all_of};
 
 use crate::entry::Holder;
@@ -100,81 +100,94 @@ fn copied<K: Key, V: Drop, E: Holder<K, V>, P: Part<K, V, E>>(
     Ok(made)
 }
 
-// Puts what a part has become in its place.
-fn put_back<K: Key, V: Drop, E: Holder<K, V>, P: Part<K, V, E>>(
+// Keeps what there is of a part that was changed in its place. Whether there is a part left; none is taken out where it is the last.
+fn keep<K: Key, V: Drop, E: Holder<K, V>, P: Part<K, V, E>>(
     slots: &mut Vec<Slot<K, V, E, P>>,
     place: usize,
     pieces: Pieces<P>,
-) -> Result<(), AllocError>
-    requires { place ≤ length slots.old.items }
-    ensures { OnOk result (joined slots.new.items ≡ joined (take place slots.old.items) ++ (all_of P.entries pieces ++ joined (drop place slots.old.items))) }
+) -> Result<bool, AllocError>
+    requires { place < length slots.old.items }
+    ensures some { 0 < length slots.new.items }
+    ensures value { IfOk result (λ left. cond left (joined slots.new.items) [] ≡ joined (take place slots.old.items) ++ (all_of P.entries (get_or slots.old.items place []) pieces ++ joined (drop (suc place) slots.old.items))) }
 {
     match pieces {
-        Pieces::Gone => Ok(()),
-        Pieces::One(part) => {
-            slots.insert(place, Slot::new(part))?;
-            Ok(())
+        Pieces::Gone => {
+            if slots.len() == 1 {
+                return Ok(false);
+            }
+            let _gone = slots.remove(place);
+            Ok(true)
         }
-        Pieces::Two(front, back) => {
-            slots.insert(place, Slot::new(back))?;
-            slots.insert(place, Slot::new(front))?;
-            Ok(())
+        Pieces::One => Ok(true),
+        Pieces::Two(behind) => {
+            slots.insert(place + 1, Slot::new(behind))?;
+            Ok(true)
         }
     }
 }
 
-/// The parts with the entry at a key replaced, or taken out where there is no new one. `AllocError`: nothing is left of them.
-pub(crate) fn replaced_in<K: Key, V: Drop, E: Holder<K, V>, P: Part<K, V, E>, Q: Sought<K>>(
+// Replaces the entry at a key in these parts, or takes it out where there is no new one. Whether any entry is left. `AllocError`: they
+// hold some entries, nothing says which.
+fn replace_in<K: Key, V: Drop, E: Holder<K, V>, P: Part<K, V, E>, Q: Sought<K>>(
     alloc: Global,
-    mut slots: Vec<Slot<K, V, E, P>>,
+    slots: &mut Vec<Slot<K, V, E, P>>,
     hint: u64,
     sought: &Q,
     new: Option<&E>,
-) -> Result<Vec<Slot<K, V, E, P>>, AllocError>
+) -> Result<bool, AllocError>
     requires hinted { hint ≡ K.hint (Q.key sought.now) }
     requires named { IfSome new (λ e. (E.pair e.now).0 ≡ Q.key sought.now) }
-    requires sorted { T (is_sorted K.order (joined slots.items)) }
-    ensures { IfOk result (λ v. joined v.items ≡ with_value K.order (joined slots.items) (Q.key sought.now) (option_map (λ e. (E.pair e.now).1) new.entry)) }
+    requires some { 0 < length slots.old.items }
+    requires sorted { T (is_sorted K.order (joined slots.old.items)) }
+    ensures some { 0 < length slots.new.items }
+    ensures value { IfOk result (λ left. cond left (joined slots.new.items) [] ≡ with_value K.order (joined slots.old.items) (Q.key sought.now) (option_map (λ e. (E.pair e.now).1) new.entry)) }
 {
-    let place = place_in(&slots, hint, sought);
-    if place > 0 {
-        let part = slots.remove(place - 1).into_part();
-        let pieces = part.replaced(alloc, hint, sought, new)?;
-        put_back(&mut slots, place - 1, pieces)?;
-        return Ok(slots);
-    }
-    match new {
-        Some(new) => {
-            slots.push(Slot::new(P::of_entry(alloc, new)?))?;
-            Ok(slots)
-        }
-        None => Ok(slots),
-    }
+    let place = place_in(slots, hint, sought) - 1;
+    let pieces = slots[place].replace(alloc, hint, sought, new)?;
+    keep(slots, place, pieces)
 }
 
-// A level of these parts, or none where there are none, or two where there are too many for one page.
+// The same of a page: others that hold it keep it as it was, by a copy.
+fn replace_page<K: Key, V: Drop, E: Holder<K, V>, P: Part<K, V, E>, Q: Sought<K>>(
+    alloc: Global,
+    slots: &mut Arc<Vec<Slot<K, V, E, P>>>,
+    hint: u64,
+    sought: &Q,
+    new: Option<&E>,
+) -> Result<bool, AllocError>
+    requires hinted { hint ≡ K.hint (Q.key sought.now) }
+    requires named { IfSome new (λ e. (E.pair e.now).0 ≡ Q.key sought.now) }
+    requires some { 0 < length (arc_value slots.old).items }
+    requires sorted { T (is_sorted K.order (joined (arc_value slots.old).items)) }
+    ensures some { 0 < length (arc_value slots.new).items }
+    ensures value { IfOk result (λ left. cond left (joined (arc_value slots.new).items) [] ≡ with_value K.order (joined (arc_value slots.old).items) (Q.key sought.now) (option_map (λ e. (E.pair e.now).1) new.entry)) }
+{
+    if let Some(own) = Arc::get_mut(slots) {
+        return replace_in(alloc, own, hint, sought, new);
+    }
+    let mut copy = copied(alloc, slots)?;
+    let is_left = replace_in(alloc, &mut copy, hint, sought, new)?;
+    *slots = Arc::new(alloc, copy)?;
+    Ok(is_left)
+}
+
+// Cuts off the back half of a page that nobody else holds, as a page of its own, if it has too many parts.
 fn cut<K: Key, V: Drop, E: Holder<K, V>, P: Part<K, V, E>>(
     alloc: Global,
-    mut slots: Vec<Slot<K, V, E, P>>,
+    slots: &mut Arc<Vec<Slot<K, V, E, P>>>,
 ) -> Result<Pieces<Level<K, V, E, P>>, AllocError>
-    ensures { IfOk result (λ p. all_of (λ l. l) p ≡ joined slots.items) }
+    requires { 0 < length (arc_value slots.old).items }
+    ensures some { 0 < length (arc_value slots.new).items }
+    ensures value { IfOk result (λ p. all_of (λ l. l) (joined (arc_value slots.new).items) p ≡ joined (arc_value slots.old).items) }
 {
-    if slots.len() > PAGE_LIMIT {
-        let back = slots.split_off(PAGE_LIMIT / 2 + 1)?;
-        let front = Level {
-            slots: Arc::new(alloc, slots)?,
-        };
-        let back = Level {
-            slots: Arc::new(alloc, back)?,
-        };
-        Ok(Pieces::Two(front, back))
-    } else if slots.is_empty() {
-        Ok(Pieces::Gone)
-    } else {
-        Ok(Pieces::One(Level {
-            slots: Arc::new(alloc, slots)?,
-        }))
+    if slots.len() <= PAGE_LIMIT {
+        return Ok(Pieces::One);
     }
+    let Some(own) = Arc::get_mut(slots) else {
+        return Ok(Pieces::One);
+    };
+    let behind = own.split_off(PAGE_LIMIT / 2 + 1)?;
+    Ok(Pieces::Two(Level::of(alloc, behind)?))
 }
 
 impl<K: Key, V: Drop, E: Holder<K, V>, P: Part<K, V, E>> Level<K, V, E, P> {
@@ -186,15 +199,20 @@ impl<K: Key, V: Drop, E: Holder<K, V>, P: Part<K, V, E>> Level<K, V, E, P> {
         self.slots.as_slice()
     }
 
-    /// Its parts, to be changed: the page itself where nobody else holds it, or else a copy. `AllocError`: nothing is made.
-    pub(crate) fn into_slots(self, alloc: Global) -> Result<Vec<Slot<K, V, E, P>>, AllocError>
-        ensures { IfOk result (λ v. joined v.items ≡ self) }
+    /// As `replace`, however many parts it has then. Whether any entry is left. `AllocError`: as there.
+    pub(crate) fn replace_whole<Q: Sought<K>>(
+        &mut self,
+        alloc: Global,
+        hint: u64,
+        sought: &Q,
+        new: Option<&E>,
+    ) -> Result<bool, AllocError>
+        requires hinted { hint ≡ K.hint (Q.key sought.now) }
+        requires named { IfSome new (λ e. (E.pair e.now).0 ≡ Q.key sought.now) }
+        requires sorted { T (is_sorted K.order self.old) }
+        ensures { IfOk result (λ left. cond left self.new [] ≡ with_value K.order self.old (Q.key sought.now) (option_map (λ e. (E.pair e.now).1) new.entry)) }
     {
-        let Level { slots } = self;
-        match Arc::try_unwrap(slots) {
-            Ok(alone) => Ok(alone),
-            Err(shared) => copied(alloc, &shared),
-        }
+        replace_page(alloc, &mut self.slots, hint, sought, new)
     }
 
     /// A page of these parts. `AllocError`: nothing is left of them.
@@ -251,15 +269,18 @@ impl<K: Key, V: Drop, E: Holder<K, V>, P: Part<K, V, E>> Part<K, V, E> for Level
         find_in(self.slots(), hint, sought)
     }
 
-    fn replaced<Q: Sought<K>>(
-        self,
+    fn replace<Q: Sought<K>>(
+        &mut self,
         alloc: Global,
         hint: u64,
         sought: &Q,
         new: Option<&E>,
     ) -> Result<Pieces<Level<K, V, E, P>>, AllocError> {
-        let slots = self.into_slots(alloc)?;
-        cut(alloc, replaced_in(alloc, slots, hint, sought, new)?)
+        if self.replace_whole(alloc, hint, sought, new)? {
+            cut(alloc, &mut self.slots)
+        } else {
+            Ok(Pieces::Gone)
+        }
     }
 }
 

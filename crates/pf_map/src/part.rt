@@ -33,10 +33,10 @@ pub trait Part<K: Key, V: Drop, E: Holder<K, V>>: Drop {
         requires sorted { T (is_sorted K.order (entries self.now)) }
         ensures { option_map (λ e. E.pair e.now) result ≡ entry_at K.order (Q.key sought.now) (entries self.now) };
 
-    /// What it becomes with the entry at a key replaced, or taken out where there is no new one. What nobody else holds is changed
-    /// in place, all else is shared. `AllocError`: nothing is left of this owner's part.
-    fn replaced<Q: Sought<K>>(
-        self,
+    /// Replaces the entry at a key, or takes it out where there is no new one. What nobody else holds is changed in place, all else
+    /// is shared. `AllocError`: it holds some entries, nothing says which.
+    fn replace<Q: Sought<K>>(
+        &mut self,
         alloc: Global,
         hint: u64,
         sought: &Q,
@@ -44,8 +44,8 @@ pub trait Part<K: Key, V: Drop, E: Holder<K, V>>: Drop {
     ) -> Result<Pieces<Self>, AllocError>
         requires hinted { hint ≡ K.hint (Q.key sought.now) }
         requires named { IfSome new (λ e. (E.pair e.now).0 ≡ Q.key sought.now) }
-        requires sorted { T (is_sorted K.order (entries self)) }
-        ensures { IfOk result (λ p. all_of entries p ≡ with_value K.order (entries self) (Q.key sought.now) (option_map (λ e. (E.pair e.now).1) new.entry)) };
+        requires sorted { T (is_sorted K.order (entries self.old)) }
+        ensures { IfOk result (λ p. all_of entries (entries self.new) p ≡ with_value K.order (entries self.old) (Q.key sought.now) (option_map (λ e. (E.pair e.now).1) new.entry)) };
 }
 
 /// An entry as a part. Contracts see it as its pair.
@@ -107,8 +107,8 @@ impl<K: Key, V: Drop, E: Holder<K, V>> Part<K, V, E> for Single<K, V, E> {
         }
     }
 
-    fn replaced<Q: Sought<K>>(
-        self,
+    fn replace<Q: Sought<K>>(
+        &mut self,
         _alloc: Global,
         _hint: u64,
         sought: &Q,
@@ -116,10 +116,16 @@ impl<K: Key, V: Drop, E: Holder<K, V>> Part<K, V, E> for Single<K, V, E> {
     ) -> Result<Pieces<Single<K, V, E>>, AllocError> {
         match (sought.order(self.entry.held_key()), new) {
             (Ordering::Equal, None) => Ok(Pieces::Gone),
-            (Ordering::Equal, Some(new)) => Ok(Pieces::One(Single::new(new.share()?))),
-            (_, None) => Ok(Pieces::One(self)),
-            (Ordering::Less, Some(new)) => Ok(Pieces::Two(Single::new(new.share()?), self)),
-            (Ordering::Greater, Some(new)) => Ok(Pieces::Two(self, Single::new(new.share()?))),
+            (Ordering::Equal, Some(new)) => {
+                self.entry = new.share()?;
+                Ok(Pieces::One)
+            }
+            (_, None) => Ok(Pieces::One),
+            (Ordering::Less, Some(new)) => {
+                let old = std::mem::replace(&mut self.entry, new.share()?);
+                Ok(Pieces::Two(Single::new(old)))
+            }
+            (Ordering::Greater, Some(new)) => Ok(Pieces::Two(Single::new(new.share()?))),
         }
     }
 }

@@ -1,11 +1,12 @@
 //! Parts as a level holds them.
-ghost use Rattle.std.specs.Prelude.{◌≡◌, ◌<◌, length, IfOk};
-ghost use Rattle.pf_map.specs.MapParts.{starts_behind};
+ghost use Rattle.std.specs.{Prelude.{◌≡◌, ◌<◌, T, length, IfOk, IfSome}, FinMap.is_sorted, Option.option_map};
+ghost use Rattle.pf_map.specs.{Maps.with_value, MapParts.starts_behind, Pieces.all_of};
 
 use crate::entry::Holder;
 use crate::part::Part;
+use crate::pieces::Pieces;
 use pf_key::{Key, Sought};
-use std::alloc::AllocError;
+use std::alloc::{AllocError, Global};
 use std::marker::{Model, PhantomData};
 
 /// A part, and beside it the hint of its first key, so that most searches pass it by without following it. Contracts see it as
@@ -57,16 +58,23 @@ impl<K: Key, V: Drop, E: Holder<K, V>, P: Part<K, V, E>> Slot<K, V, E, P> {
         &self.part
     }
 
-    /// The part, taken out.
-    pub(crate) fn into_part(self) -> P
-        ensures { P.entries result ≡ self }
+    /// As [`Part::replace`]. `AllocError`: as there.
+    pub(crate) fn replace<Q: Sought<K>>(
+        &mut self,
+        alloc: Global,
+        hint: u64,
+        sought: &Q,
+        new: Option<&E>,
+    ) -> Result<Pieces<P>, AllocError>
+        requires hinted { hint ≡ K.hint (Q.key sought.now) }
+        requires named { IfSome new (λ e. (E.pair e.now).0 ≡ Q.key sought.now) }
+        requires sorted { T (is_sorted K.order self.old) }
+        ensures { IfOk result (λ p. all_of P.entries self.new p ≡ with_value K.order self.old (Q.key sought.now) (option_map (λ e. (E.pair e.now).1) new.entry)) }
     {
-        let Slot {
-            hint: _,
-            part,
-            of: _,
-        } = self;
-        part
+        let pieces = self.part.replace(alloc, hint, sought, new);
+        // it may have another first entry now, also where memory ran out
+        self.hint = self.part.first().held_key().hint();
+        pieces
     }
 
     /// The same, with one owner more. `AllocError`: it can't have another.

@@ -1,11 +1,11 @@
 //! Maps in trees.
 ghost use Rattle.std.specs.Prelude.{◌≡◌, ◌+◌, ◌<◌, T, [], length, map, cond, true, Some, None, is_some, IfOk, IfSome, MatchOption, nat_lt};
-ghost use Rattle.std.specs.{Option.option_map, FinMap.{find, is_sorted}};
+ghost use Rattle.std.specs.{Option.{option_map, option_map_or}, FinMap.{find, is_sorted}};
 ghost use Rattle.pf_map.specs.{Maps.{with_value, without, entry_at}, MapParts.{joined, first_of}};
 
 use crate::entries::Entries;
 use crate::entry::Holder;
-use crate::level::{Leaf, Level, Middle, find_in, replaced_in};
+use crate::level::{Leaf, Level, Middle, find_in};
 use crate::page::Page;
 use crate::part::Part;
 use crate::raised::{leaves, middles};
@@ -27,6 +27,27 @@ fn recount(count: usize, had: bool, has: bool) -> Result<usize, AllocError>
         others.checked_add(1).ok_or(AllocError)
     } else {
         Ok(others)
+    }
+}
+
+// The page above all others with the entry at a key replaced, or taken out where there is no new one; none where no entry is left.
+fn top_with<K: Key, V: Drop, E: Holder<K, V>, L: Page<K, V, E>, Q: Sought<K>>(
+    alloc: Global,
+    top: Option<Top<K, V, E, L>>,
+    sought: &Q,
+    new: Option<&E>,
+) -> Result<Option<Top<K, V, E, L>>, AllocError>
+    requires named { IfSome new (λ e. (E.pair e.now).0 ≡ Q.key sought.now) }
+    requires sorted { T (is_sorted K.order (option_map_or (λ l. l) top [])) }
+    ensures { IfOk result (λ t. option_map_or (λ l. l) t [] ≡ with_value K.order (option_map_or (λ l. l) top []) (Q.key sought.now) (option_map (λ e. (E.pair e.now).1) new.entry)) }
+{
+    match (top, new) {
+        (Some(mut top), _) => {
+            let is_left = top.replace_whole(alloc, sought.hint(), sought, new)?;
+            Ok(is_left.then_some(top))
+        }
+        (None, Some(new)) => Ok(Some(Part::of_entry(alloc, new)?)),
+        (None, None) => Ok(None),
     }
 }
 
@@ -137,18 +158,6 @@ impl<K: Key, V: Drop, E: Holder<K, V>, L: Page<K, V, E>> TreeMap<K, V, E, L> {
         })
     }
 
-    // The parts below its top, to be changed.
-    fn into_slots(self, alloc: Global) -> Result<Vec<Slot<K, V, E, Middle<K, V, E, L>>>, AllocError>
-        ensures value { IfOk result (λ v. joined v.items ≡ self) }
-        ensures sorted { T (is_sorted K.order self) }
-    {
-        let TreeMap { top, count: _ } = self;
-        match top {
-            Some(top) => top.into_slots(alloc),
-            None => Ok(Vec::new(alloc)),
-        }
-    }
-
     // Whether there is an entry at a key.
     fn has<Q: Sought<K>>(&self, sought: &Q) -> bool
         ensures { result ≡ is_some (find K.order (Q.key sought.now) self.now) }
@@ -169,12 +178,10 @@ impl<K: Key, V: Drop, E: Holder<K, V>, L: Page<K, V, E>> TreeMap<K, V, E, L> {
         requires named { IfSome new (λ e. (E.pair e.now).0 ≡ Q.key sought.now) }
         ensures { IfOk result (λ m. m ≡ with_value K.order self (Q.key sought.now) (option_map (λ e. (E.pair e.now).1) new.entry)) }
     {
-        let count = recount(self.count, had, new.is_some())?;
-        let slots = replaced_in(alloc, self.into_slots(alloc)?, sought.hint(), sought, new)?;
-        Ok(TreeMap {
-            top: Level::whole(alloc, slots)?,
-            count,
-        })
+        let TreeMap { top, count } = self;
+        let count = recount(count, had, new.is_some())?;
+        let top = top_with(alloc, top, sought, new)?;
+        Ok(TreeMap { top, count })
     }
 
     /// The map with an entry, in the place of the one at its key if there is one. Pages on the way to it that other maps hold are

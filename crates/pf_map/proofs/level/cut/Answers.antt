@@ -1,5 +1,6 @@
+use Rattle.std.specs.Arc.{arc_value}
 use Rattle.pf_map.proofs.MapParts.{halves}
 use Rattle.pf_map.proofs.level.cut.Goals as goal
 
-pub returns-in_ok-new-2 : goal.returns-in_ok-new-2
-returns-in_ok-new-2 g c = rw (c.in_ok-new.ensures.ok, c.in_ok-new-2.ensures.ok, c.in_ok-back.ensures.items, c.in_ok-back.ensures.tail) (halves 16 c.args.slots.items)
+pub returns-clause-value : goal.returns-clause-value
+returns-clause-value g c = rw (c.in_ok-behind.ensures.items, c.in_ok-of.ensures, c.in_ok-behind.ensures.tail, c.in-Some.ensures.value) (halves 16 (arc_value c.args.slots.now).items)
