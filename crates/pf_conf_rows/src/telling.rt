@@ -26,11 +26,7 @@ fn unreadable(name: Bytes) -> File {
 }
 
 /// What a case's file means. A file that isn't given can't be read.
-fn meaning(
-    alloc: Global,
-    files: &mut Files,
-    case: &Row<'_>,
-) -> Result<Result<Conf, Unread>, AllocError> {
+fn meaning(alloc: Global, files: &mut Files, case: &Row<'_>) -> Result<Conf, Unread> {
     let interfaces = case.interfaces(alloc)?;
     for _ in 0..READING_LIMIT {
         match resolve(
@@ -42,10 +38,10 @@ fn meaning(
             case.name.as_bytes(),
         ) {
             Err(Unread::Needs(name)) => files.push(unreadable(name))?,
-            told => return Ok(told),
+            told => return told,
         }
     }
-    Ok(Err(Unread::Memory))
+    Err(Unread::Memory)
 }
 
 /// Writes what a file means, behind its notes.
@@ -86,6 +82,5 @@ pub(crate) fn tell<W: Write>(
 ) -> io::Result<()> {
     writeln!(out, "== {}", case.name)?;
     let mut files = files_of(alloc, given, case)?;
-    let told = meaning(alloc, &mut files, case)?;
-    write_told(alloc, out, &told)
+    write_told(alloc, out, &meaning(alloc, &mut files, case))
 }
