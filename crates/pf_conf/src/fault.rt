@@ -3,7 +3,7 @@ ghost use Rattle.std.specs.Prelude.{◌≡◌, Some, IfOk};
 ghost use Rattle.pf_conf.specs.Spots.{spot_text};
 ghost use Rattle.pf_conf.specs.declared.fault.Unread.TheVariants.{Memory};
 
-use pf_parse::{Mistake, Remark};
+use pf_parse::{Cause, Remark};
 use pf_tokens::{Bytes, Items};
 use std::alloc::{AllocError, AllocFailed, Global};
 use std::fmt::{self, Display, Formatter, Write};
@@ -58,7 +58,7 @@ impl Display for Spot {
 #[derive(Debug, Drop)]
 pub struct Fault {
     pub spot: Spot,
-    pub mistake: Mistake,
+    pub mistake: Cause,
 }
 
 impl Display for Fault {

@@ -36,6 +36,6 @@ pub use laws::{
     rules_stand_at_their_words,
 };
 pub use pf_interfaces::{Interface, read_interface};
-pub use pf_parse::{At, LeftOut, Mistake, Mode, Reason, Remark};
+pub use pf_parse::{At, Cause, LeftOut, Mistake, Mode, Reason, Remark};
 pub use resolving::resolve;
 pub use shown::write_conf;

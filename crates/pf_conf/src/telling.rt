@@ -3,7 +3,7 @@ ghost use Rattle.std.specs.{Prelude.{◌≡◌, IfOk}, List.slice_get};
 ghost use Rattle.pf_conf.specs.Telling.{name_of_file, name_of_macro, spot_of, first_spot, told_at, told_of, Tells};
 
 use crate::fault::{Fault, Spot, Unread};
-use pf_parse::{Mistake, Stop};
+use pf_parse::{Cause, Mistake, Stop};
 use pf_tokens::{Bytes, Files, Items, Macros, Place};
 use std::alloc::{AllocError, Global};
 
@@ -73,7 +73,10 @@ pub(crate) fn told_at(alloc: Global, spot: &Spot, mistake: Mistake) -> Unread
     ensures { Tells result (told_at spot.now mistake) }
 {
     match spot.copied(alloc) {
-        Ok(spot) => Unread::Faulty(Fault { spot, mistake }),
+        Ok(spot) => {
+            let mistake = Cause::from(mistake);
+            Unread::Faulty(Fault { spot, mistake })
+        }
         Err(_) => Unread::Memory,
     }
 }

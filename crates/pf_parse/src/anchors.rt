@@ -135,7 +135,7 @@ impl Parser<'_> {
         ensures { Takes result self.new (anchor_name named self.old) }
     {
         let token = self.string()?;
-        check_path(self.alloc, named, &token)?;
+        check_path(self.alloc(), named, &token)?;
         self.check_no_slash()?;
         Ok(token)
     }
@@ -195,8 +195,8 @@ impl Parser<'_> {
         let (tests, closing) = self.tests_and_options(Start::Anchor)?;
         let within = self.within;
         let name = self.braces_or_line(place, depth, name)?;
-        let opening = anchor_opening(self.alloc, name.as_slice(), direction, quick)?;
-        let product = Product::of(self.alloc, place, opening, tests, closing)?;
+        let opening = anchor_opening(self.alloc(), name.as_slice(), direction, quick)?;
+        let product = Product::of(self.alloc(), place, opening, tests, closing)?;
         self.keep_rule(within, product)
     }
 
@@ -235,7 +235,7 @@ impl Parser<'_> {
             return Err(refusal(place, Mistake::UnnamedAnchor));
         };
         self.end_line()?;
-        Ok(name.bytes(self.alloc)?)
+        Ok(name.bytes(self.alloc())?)
     }
 
     /// The name of an anchor rule whose brace has come.
@@ -250,7 +250,7 @@ impl Parser<'_> {
         ensures { Takes result self.new (open_braces place depth name self.old) }
     {
         self.newline_behind_brace()?;
-        let name = name_in_braces(self.alloc, self.next_number(), name)?;
+        let name = name_in_braces(self.alloc(), self.next_number(), name)?;
         self.enter(place, depth, name.as_slice())?;
         Ok(name)
     }
@@ -279,7 +279,7 @@ impl Parser<'_> {
         requires { depth < DEPTH_LIMIT }
         ensures { Takes result self.new (enter place depth name.now self.old) }
     {
-        let name = Items::copied(self.alloc, name)?;
+        let name = Items::copied(self.alloc(), name)?;
         let (within, number) = (self.within, self.next_number());
         self.tree.braces.push(Braces {
             within,

@@ -2,7 +2,8 @@
 ghost use Rattle.std.specs.Prelude.{◌≡◌, ◌∷◌, [], IfOk};
 ghost use Rattle.pf_form.specs.Form.Words.{texts};
 ghost use Rattle.pf_parse.specs.Reading.{Takes};
-ghost use Rattle.pf_parse.specs.Criteria.{any_side, no_tests, interface_word, interface_words, tested_interfaces, family, protocols, words_of_hosts, side_hosts, side, sides, tests};
+ghost use Rattle.pf_parse.specs.Lists.{all_tested};
+ghost use Rattle.pf_parse.specs.Criteria.{nothing, behind_word, any_side, no_tests, interface_word, interface_words, tested_interfaces, family, protocols, words_of_hosts, side_hosts, side, sides, tests};
 
 use crate::fault::Stop;
 use crate::lists::Tested;
@@ -98,10 +99,10 @@ impl Parser<'_> {
         ensures { Takes result self.new (tested_interfaces self.old) }
     {
         if !self.takes_word(b"on") {
-            return Ok(only(self.alloc, &[])?);
+            return Ok(only(self.alloc(), &[])?);
         }
         let interfaces = self.interfaces()?;
-        Ok(interface_words(self.alloc, interfaces.as_slice())?)
+        Ok(interface_words(self.alloc(), interfaces.as_slice())?)
     }
 
     #[tactic(auto, unfolding(crate::specs::Criteria::family))]
@@ -109,22 +110,29 @@ impl Parser<'_> {
         ensures { Takes result self.new (family self.old) }
     {
         if self.takes_word(b"inet") {
-            return Ok(words_of(self.alloc, &[b"inet"])?);
+            return Ok(words_of(self.alloc(), &[b"inet"])?);
         }
         if self.takes_word(b"inet6") {
-            return Ok(words_of(self.alloc, &[b"inet6"])?);
+            return Ok(words_of(self.alloc(), &[b"inet6"])?);
         }
-        Ok(Items::new(self.alloc))
+        Ok(Items::new(self.alloc()))
+    }
+
+    /// What is tested behind this word. Nothing is, if the word doesn't come next.
+    fn tested_behind(&mut self, word: &[u8], what: Tested) -> Result<Items<Words>, Stop>
+        ensures { Takes result self.new (behind_word word.now (all_tested what) nothing self.old) }
+    {
+        if self.takes_word(word) {
+            return self.tested(what);
+        }
+        Ok(only(self.alloc(), &[])?)
     }
 
     #[tactic(auto, unfolding(crate::specs::Criteria::protocols))]
     fn protocols(&mut self) -> Result<Items<Words>, Stop>
         ensures { Takes result self.new (protocols self.old) }
     {
-        if self.takes_word(b"proto") {
-            return self.tested(Tested::Protocol);
-        }
-        Ok(only(self.alloc, &[])?)
+        self.tested_behind(b"proto", Tested::Protocol)
     }
 
     /// The source and the destination.
@@ -133,19 +141,21 @@ impl Parser<'_> {
         ensures { Takes result self.new (sides self.old) }
     {
         if self.takes_word(b"all") {
-            return Ok((any_side(self.alloc)?, any_side(self.alloc)?));
+            return Ok((any_side(self.alloc())?, any_side(self.alloc())?));
         }
-        let source = if self.takes_word(b"from") {
-            self.side()?
-        } else {
-            any_side(self.alloc)?
-        };
-        let destination = if self.takes_word(b"to") {
-            self.side()?
-        } else {
-            any_side(self.alloc)?
-        };
+        let source = self.side_behind(b"from")?;
+        let destination = self.side_behind(b"to")?;
         Ok((source, destination))
+    }
+
+    /// The side behind this word. It is any, if the word doesn't come next.
+    fn side_behind(&mut self, word: &[u8]) -> Result<Side, Stop>
+        ensures { Takes result self.new (behind_word word.now side any_side self.old) }
+    {
+        if self.takes_word(word) {
+            return self.side();
+        }
+        Ok(any_side(self.alloc())?)
     }
 
     /// The hosts and ports of one side.
@@ -154,11 +164,7 @@ impl Parser<'_> {
         ensures { Takes result self.new (side self.old) }
     {
         let hosts = self.side_hosts()?;
-        let ports = if self.takes_word(b"port") {
-            self.tested(Tested::Port)?
-        } else {
-            only(self.alloc, &[])?
-        };
+        let ports = self.tested_behind(b"port", Tested::Port)?;
         Ok(Side { hosts, ports })
     }
 
@@ -168,9 +174,9 @@ impl Parser<'_> {
         ensures { Takes result self.new (side_hosts self.old) }
     {
         if self.next_is_word(b"port") || self.takes_word(b"any") {
-            return Ok(only(self.alloc, &[b"any"])?);
+            return Ok(only(self.alloc(), &[b"any"])?);
         }
         let hosts = self.hosts()?;
-        Ok(words_of_hosts(self.alloc, hosts)?)
+        Ok(words_of_hosts(self.alloc(), hosts)?)
     }
 }

@@ -6,6 +6,7 @@ ghost use Rattle.pf_parse.specs.Stops.{fault_at, stop_of};
 use pf_tokens::{Bytes, Items, Place};
 use std::alloc::{AllocError, AllocFailed};
 use std::fmt::{self, Display, Formatter, Write};
+use std::marker::Model;
 use thiserror::Error;
 
 /// Why a word of pf.conf(5) isn't there.
@@ -186,6 +187,46 @@ pub enum Mistake {
     LongCommit,
 }
 
+/// The mistake of a fault, as it is handed on: whatever does so needn't know all the mistakes that there are, which keeps its proof short.
+/// Contracts see the mistake.
+#[derive(Debug, Drop)]
+pub struct Cause {
+    mistake: Mistake,
+}
+
+impl Model for Cause {
+    ghost use Rattle.pf_parse.specs.declared.fault.Mistake.{Mistake};
+
+    ghost Value = { Mistake };
+
+    ghost view = { λ cause. cause.mistake };
+}
+
+impl From<Mistake> for Cause {
+    ghost from_gives = { λ mistake cause. cause ≡ mistake };
+
+    fn from(mistake: Mistake) -> Cause {
+        Cause { mistake }
+    }
+}
+
+impl Cause {
+    /// What is wrong.
+    pub fn mistake(&self) -> &Mistake
+        ensures { result.now ≡ self.now }
+    {
+        &self.mistake
+    }
+}
+
+/// The text of the mistake.
+impl Display for Cause {
+    fn fmt<W: Write>(&self, f: &mut Formatter<W>) -> fmt::Result {
+        let mistake = &self.mistake;
+        write!(f, "{mistake}")
+    }
+}
+
 /// What is noted of a file that is taken.
 #[derive(Debug, Drop, Error)]
 pub enum Remark {
@@ -205,7 +246,7 @@ pub struct At<T: Drop> {
 /// Why a part of a file isn't read.
 #[derive(Debug, Drop)]
 pub enum Stop {
-    Faulty(At<Mistake>),
+    Faulty(At<Cause>),
     /// It names this file, which isn't given.
     Needs(Bytes),
     Memory,
@@ -215,7 +256,8 @@ pub enum Stop {
 pub fn refusal(place: Place, mistake: Mistake) -> Stop
     ensures { result ≡ fault_at place mistake }
 {
-    Stop::Faulty(At { place, is: mistake })
+    let is = Cause::from(mistake);
+    Stop::Faulty(At { place, is })
 }
 
 impl From<pf_tokens::Stop> for Stop {

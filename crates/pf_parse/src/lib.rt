@@ -27,7 +27,7 @@ mod statements;
 mod tree;
 
 pub use entries::read_entries;
-pub use fault::{At, LeftOut, Mistake, Reason, Remark, Stop, refusal};
+pub use fault::{At, Cause, LeftOut, Mistake, Reason, Remark, Stop, refusal};
 pub use laws::{lenient_takes_what_strict_takes, rules_stand_at_their_words};
 pub use parser::Mode;
 pub use statements::{Parsed, parse};

@@ -305,7 +305,7 @@ impl Parser<'_> {
     {
         self.check_not_negated()?;
         let token = self.string()?;
-        check_interface(self.alloc, &token)?;
+        check_interface(self.alloc(), &token)?;
         self.note_group(&token)?;
         Ok(token)
     }
@@ -325,7 +325,7 @@ impl Parser<'_> {
     fn note_group(&mut self, token: &Token) -> Result<(), Stop>
         ensures { Takes result self.new (noted_group token.now self.old) }
     {
-        let name = token.bytes(self.alloc)?;
+        let name = token.bytes(self.alloc())?;
         if ends_in_digit(name.as_slice()) {
             return Ok(());
         }
@@ -347,7 +347,7 @@ impl Parser<'_> {
         ensures { Takes result self.new (list (listed_item interface) self.old) }
     {
         self.begin_list()?;
-        let mut list = Items::new(self.alloc);
+        let mut list = Items::new(self.alloc());
         for _ in 0..self.turns() {
             if !self.interface_more(&mut list)? {
                 return Ok(list);
@@ -364,7 +364,7 @@ impl Parser<'_> {
         if self.takes_symbol(b"{") {
             return self.interface_list();
         }
-        let mut list = Items::new(self.alloc);
+        let mut list = Items::new(self.alloc());
         list.push(self.interface()?)?;
         Ok(list)
     }
@@ -377,8 +377,8 @@ impl Parser<'_> {
         ensures { Takes result self.new (protocol self.old) }
     {
         let token = self.value()?;
-        let number = protocol_of(self.alloc, &token, token.is_number())?;
-        Ok(protocol_words(self.alloc, number)?)
+        let number = protocol_of(self.alloc(), &token, token.is_number())?;
+        Ok(protocol_words(self.alloc(), number)?)
     }
 
     /// The operator of a test of one port, if one comes next.
@@ -419,8 +419,8 @@ impl Parser<'_> {
         ensures { Takes result self.new (compared operator self.old) }
     {
         let token = self.value()?;
-        let number = operand(self.alloc, &token)?;
-        Ok(one_port(self.alloc, operator, number)?)
+        let number = operand(self.alloc(), &token)?;
+        Ok(one_port(self.alloc(), operator, number)?)
     }
 
     /// What stands behind this port and an operator between two, as the words of their test.
@@ -428,10 +428,10 @@ impl Parser<'_> {
     fn between(&mut self, first: &Token, operator: &[u8]) -> Result<Words, Stop>
         ensures { Takes result self.new (between first.now operator.now self.old) }
     {
-        let first = operand(self.alloc, first)?;
+        let first = operand(self.alloc(), first)?;
         let second = self.value()?;
-        let last = operand(self.alloc, &second)?;
-        Ok(two_ports(self.alloc, first, operator, last)?)
+        let last = operand(self.alloc(), &second)?;
+        Ok(two_ports(self.alloc(), first, operator, last)?)
     }
 
     /// A test of ports that begins with a port.
@@ -446,7 +446,7 @@ impl Parser<'_> {
         if self.takes_symbol(b"<>") {
             return self.between(&token, b"<>");
         }
-        port_words(self.alloc, &token)
+        port_words(self.alloc(), &token)
     }
 
     /// A test of a port, as the words that it adds to a rule.
@@ -486,7 +486,7 @@ impl Parser<'_> {
         ensures { Takes result self.new (list (listed_item (tested what)) self.old) }
     {
         self.begin_list()?;
-        let mut list = Items::new(self.alloc);
+        let mut list = Items::new(self.alloc());
         for _ in 0..self.turns() {
             if !self.tested_more(what, &mut list)? {
                 return Ok(list);
@@ -503,7 +503,7 @@ impl Parser<'_> {
         if self.takes_symbol(b"{") {
             return self.tested_list(what);
         }
-        let mut list = Items::new(self.alloc);
+        let mut list = Items::new(self.alloc());
         list.push(self.one_tested(what)?)?;
         Ok(list)
     }
@@ -516,7 +516,7 @@ impl Parser<'_> {
         ensures { Takes result self.new (table_name self.old) }
     {
         let token = self.string()?;
-        check_table(self.alloc, &token)?;
+        check_table(self.alloc(), &token)?;
         Ok(token)
     }
 
@@ -527,7 +527,7 @@ impl Parser<'_> {
     {
         let name = self.table_name()?;
         self.expect_symbol(b">")?;
-        Ok(table_host(self.alloc, &name, is_negated)?)
+        Ok(table_host(self.alloc(), &name, is_negated)?)
     }
 
     /// An address that begins with this token, with the length behind a slash if there is one.
@@ -535,7 +535,7 @@ impl Parser<'_> {
     fn address(&mut self, token: &Token) -> Result<Bytes, Stop>
         ensures { Takes result self.new (address token.now self.old) }
     {
-        let alloc = self.alloc;
+        let alloc = self.alloc();
         if !self.takes_symbol(b"/") {
             return Ok(token.bytes(alloc)?);
         }
@@ -564,10 +564,10 @@ impl Parser<'_> {
         let token = self.value()?;
         let text = self.address(&token)?;
         self.check_no_range()?;
-        let net = net_of(self.alloc, token.place, text.as_slice(), text.as_slice())?;
+        let net = net_of(self.alloc(), token.place, text.as_slice(), text.as_slice())?;
         Ok(Host {
             place: token.place,
-            words: host_words(self.alloc, is_negated, text.as_slice())?,
+            words: host_words(self.alloc(), is_negated, text.as_slice())?,
             net: Some(net),
             is_negated,
         })
@@ -634,7 +634,7 @@ impl Parser<'_> {
         }
         self.take();
         self.begin_list()?;
-        let mut hosts = Items::new(self.alloc);
+        let mut hosts = Items::new(self.alloc());
         for _ in 0..self.turns() {
             if !self.hosts_more(deep - 1, &mut hosts)? {
                 return Ok(hosts);
@@ -658,7 +658,7 @@ impl Parser<'_> {
         if self.next_is_symbol(b"{") {
             return self.listed_hosts();
         }
-        let mut hosts = Items::new(self.alloc);
+        let mut hosts = Items::new(self.alloc());
         hosts.push(self.host()?)?;
         Ok(hosts)
     }

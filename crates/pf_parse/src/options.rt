@@ -42,7 +42,7 @@ impl Parser<'_> {
         ensures { Takes result self.new (closing start tests.now self.old) }
     {
         let options = self.options(start, tests)?;
-        Ok(closing_words(self.alloc, start, options.keeps, options.label)?)
+        Ok(closing_words(self.alloc(), start, options.keeps, options.label)?)
     }
 
     /// All options of a rule.
@@ -130,7 +130,7 @@ impl Parser<'_> {
             return Err(refusal(token.place, Mistake::KeepOnBlock));
         }
         if !token.is_word(b"keep") {
-            let word = token.bytes(self.alloc)?;
+            let word = token.bytes(self.alloc())?;
             self.leave_out(token.place, LeftOut::State(word))?;
         }
         self.state_options()?;
@@ -171,7 +171,7 @@ impl Parser<'_> {
     fn label_of(&mut self, start: Start, place: Place, text: &Token) -> Result<Option<Bytes>, Stop>
         ensures { Takes result self.new (label_of start place text.now self.old) }
     {
-        let label = text.bytes(self.alloc)?;
+        let label = text.bytes(self.alloc())?;
         if label.len() > LABEL_BYTES {
             return Err(refusal(text.place, Mistake::LongLabel));
         }
@@ -217,7 +217,7 @@ impl Parser<'_> {
         ensures { Takes result self.new (set_flags self.old) }
     {
         if self.next_is_symbol(b"/") {
-            return Ok(Items::new(self.alloc));
+            return Ok(Items::new(self.alloc()));
         }
         self.letters()
     }
@@ -228,7 +228,7 @@ impl Parser<'_> {
         ensures { Takes result self.new (letters self.old) }
     {
         let token = self.string()?;
-        let letters = token.bytes(self.alloc)?;
+        let letters = token.bytes(self.alloc())?;
         if has_flags_alone(letters.as_slice()) {
             return Ok(letters);
         }

@@ -98,7 +98,7 @@ fn reason_for(word: &Token) -> Option<Reason>
 /// The tokens of a file that are left to read, and what was found so far.
 #[derive(Drop)]
 pub(crate) struct Parser<'a> {
-    pub(crate) alloc: Global,
+    alloc: Global,
     tokens: &'a [Token],
     at: usize,
     /// What stands behind the last token: a newline.
@@ -171,6 +171,17 @@ impl<'a> Parser<'a> {
         }
     }
 
+    pub(crate) fn alloc(&self) -> Global {
+        self.alloc
+    }
+
+    /// The number of the innermost braces that are open.
+    pub(crate) fn within(&self) -> usize
+        ensures { result ≡ self.now.within }
+    {
+        self.within
+    }
+
     /// Whether there is no token left.
     #[tactic(auto, using(crate::proofs::Steps::none_left, crate::proofs::Steps::some_left))]
     pub(crate) fn is_at_end(&self) -> bool
@@ -212,7 +223,7 @@ impl<'a> Parser<'a> {
     pub(crate) fn text(&self) -> Result<Bytes, AllocError>
         ensures { IfOk result (λ b. b ≡ text_of (next self.now).text) }
     {
-        self.next().bytes(self.alloc)
+        self.next().bytes(self.alloc())
     }
 
     /// Takes the next token.
@@ -395,7 +406,7 @@ impl<'a> Parser<'a> {
     pub(crate) fn token(&mut self) -> Result<Token, Stop>
         ensures { Takes result self.new (token self.old) }
     {
-        let token = self.next().copied(self.alloc)?;
+        let token = self.next().copied(self.alloc())?;
         self.take();
         Ok(token)
     }

@@ -195,7 +195,7 @@ impl Parser<'_> {
     fn check_closed(&self) -> Result<(), Stop>
         ensures { Takes result self.now (all_closed self.now) }
     {
-        if self.within == 0 {
+        if self.within() == 0 {
             return Ok(());
         }
         Err(self.unexpected())
@@ -209,7 +209,7 @@ impl Parser<'_> {
             self.take();
             return Ok(());
         }
-        if self.within == 0 {
+        if self.within() == 0 {
             return self.line();
         }
         self.line_in_braces()
@@ -342,7 +342,7 @@ impl Parser<'_> {
             self.take();
             return self.end_line();
         }
-        let name = option.bytes(self.alloc)?;
+        let name = option.bytes(self.alloc())?;
         self.leave_out(option.place, LeftOut::Setting(name))?;
         self.skip_line()
     }
@@ -387,7 +387,7 @@ impl Parser<'_> {
         if self.is_main {
             return Ok(());
         }
-        let word = option.bytes(self.alloc)?;
+        let word = option.bytes(self.alloc())?;
         Err(refusal(option.place, Mistake::Refused(word, Reason::MainAlone)))
     }
 
@@ -404,9 +404,9 @@ impl Parser<'_> {
     fn skip_one(&mut self, interface: &Token) -> Result<(), Stop>
         ensures { Takes result self.new (skip_one interface.now self.old) }
     {
-        let name = interface.bytes(self.alloc)?;
+        let name = interface.bytes(self.alloc())?;
         self.leave_out(interface.place, LeftOut::Skip(name))?;
-        let rule = skip_rule(self.alloc, interface)?;
+        let rule = skip_rule(self.alloc(), interface)?;
         self.keep_skip(rule)
     }
 
@@ -430,7 +430,7 @@ impl Parser<'_> {
         let sources = self.table_parts()?;
         self.end_line()?;
         let place = name.place;
-        let name = name.bytes(self.alloc)?;
+        let name = name.bytes(self.alloc())?;
         self.keep_table(Table {
             place,
             name,
@@ -462,7 +462,7 @@ impl Parser<'_> {
     fn table_parts(&mut self) -> Result<Items<Entries>, Stop>
         ensures { Takes result self.new (table_parts self.old) }
     {
-        let mut sources = Items::new(self.alloc);
+        let mut sources = Items::new(self.alloc());
         for _ in 0..self.turns() {
             if !self.parts_more(&mut sources)? {
                 return Ok(sources);
@@ -516,10 +516,10 @@ impl Parser<'_> {
             self.take();
             self.skip_newlines();
             self.take();
-            return Ok(Items::new(self.alloc));
+            return Ok(Items::new(self.alloc()));
         }
         let hosts = self.listed_hosts()?;
-        entries_of(self.alloc, hosts.as_slice())
+        entries_of(self.alloc(), hosts.as_slice())
     }
 
     // ---- "load anchor"
@@ -542,7 +542,7 @@ impl Parser<'_> {
     {
         self.expect_word(b"anchor")?;
         let name = self.anchor_name(Named::Path)?;
-        Ok(name.bytes(self.alloc)?)
+        Ok(name.bytes(self.alloc())?)
     }
 
     /// The file from which a line loads it, at the line's end.
@@ -589,8 +589,8 @@ impl Parser<'_> {
         let quick = self.log_and_quick()?;
         let (tests, closing) = self.tests_and_options(start)?;
         self.end_line()?;
-        let opening = rule_opening(self.alloc, word, direction, quick)?;
-        let product = Product::of(self.alloc, place, opening, tests, closing)?;
+        let opening = rule_opening(self.alloc(), word, direction, quick)?;
+        let product = Product::of(self.alloc(), place, opening, tests, closing)?;
         self.keep_rule(self.within, product)
     }
 }

@@ -152,16 +152,30 @@ impl Product {
             source,
             destination,
         } = tests;
-        let mut lists = Items::new(alloc);
-        lists.push(only(alloc, opening)?)?;
-        lists.push(interfaces)?;
-        lists.push(only(alloc, family)?)?;
-        lists.push(protocols)?;
+        let mut lists = lists_before_sides(alloc, opening, interfaces, family, protocols)?;
         push_side(alloc, &mut lists, b"from", source)?;
         push_side(alloc, &mut lists, b"to", destination)?;
         lists.push(only(alloc, closing)?)?;
         Ok(Product { place, lists })
     }
+}
+
+/// The lists that come before those of the sides.
+fn lists_before_sides(
+    alloc: Global,
+    opening: Words,
+    interfaces: Items<Words>,
+    family: Words,
+    protocols: Items<Words>,
+) -> Result<Lists, AllocError>
+    ensures { IfOk result (λ lists. lists ≡ only opening ∷ interfaces ∷ only family ∷ protocols ∷ []) }
+{
+    let mut lists = Items::new(alloc);
+    lists.push(only(alloc, opening)?)?;
+    lists.push(interfaces)?;
+    lists.push(only(alloc, family)?)?;
+    lists.push(protocols)?;
+    Ok(lists)
 }
 
 /// Appends the lists of one side, behind its word.
