@@ -1,6 +1,7 @@
 """A Book over a device: its opening, saves and groups, call by call, and what lines are answered over it.
 
     Book(device)            opens what the device holds, or raises Refusal; Fault where a call of the opening fails
+    Book(device, True)      the same behind a Book over it that wasn't halted: nothing is read back
     book.line(line)         the reply to a line, with bars between its lines; a line `group A + B` is both in one group
 
 Which calls an opening and a save make is written from docs/DISK.md, and what a group is refused for from docs/PEERS.md. What bytes mean and which
@@ -82,18 +83,19 @@ def found_in(image):
 class Book(Session):
     """A session over a device, from its opening on."""
 
-    def __init__(self, device):
+    def __init__(self, device, is_known=False):
         image = bytes(device.bytes)
         found = found_in(image)
         super().__init__(len(image) // 2, HISTORY, held=found.held)
         self.device, self.has_halted, self.lost, self.pending, self.gate_found = device, False, 0, None, found.gate
-        self.open(Place(*found[1:]))
+        self.open(Place(*found[1:]), is_known)
 
-    def open(self, place):
-        """One sync, four reads, and a record of the next epoch."""
-        self.device.sync()
-        for _ in range(4):
-            self.device.read()
+    def open(self, place, is_known):
+        """One sync and four reads, unless what is there is known; and a record of the next epoch."""
+        if not is_known:
+            self.device.sync()
+            for _ in range(4):
+                self.device.read()
         record = writing.group_bytes([writing.opening(self.held.epoch + 1)])
         self.place = with_record(self.device, place, record, lambda: snapshot(self.held))
         self.held.epoch += 1

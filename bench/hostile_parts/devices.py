@@ -20,14 +20,16 @@ class Fault(Exception):
 
 
 class Fuse(NamedTuple):
-    """Which calls fail: `once` the one behind so many others, `after` all behind them, `torn` the one, by which a write leaves this fill."""
+    """Which calls fail: `once` the one behind so many others, and perhaps another one, `after` all behind them, `torn` the one, by which a write
+    leaves this fill."""
 
     kind: str
     calls: int
     fill: int = OLD
+    other: int = -1
 
     def fails(self, tried):
-        return tried >= self.calls if self.kind == "after" else tried == self.calls
+        return tried >= self.calls if self.kind == "after" else tried in (self.calls, self.other)
 
 
 class State(NamedTuple):

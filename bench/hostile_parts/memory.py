@@ -178,9 +178,14 @@ def finish(result, name, server, loaders, before):
     if not server.is_alive():
         return
     with server.session() as client:
-        shown = client.ask("publish")
-        count = int(shown.removeprefix("shown "))
-        result.compare(f"{name}: the log", f"log {count} acked {count} shown {count}", client.ask("log"))
+        # what other connections had sent may still be taken
+        for _ in range(100):
+            count = int(client.ask("publish").removeprefix("shown "))
+            said = client.ask("log")
+            if said.startswith(f"log {count} "):
+                break
+            time.sleep(0.05)
+        result.compare(f"{name}: the log", f"log {count} acked {count} shown {count}", said)
     numbers = sorted(number for loader in loaders for number in loader.numbers)
     result.check(f"{name}: numbers of changes stand twice", len(set(numbers)) == len(numbers) and (not numbers or numbers[-1] <= count))
 

@@ -24,6 +24,8 @@ from .streams import read_stream
 
 # How many calls of a device fail in turn, and a moment behind all calls.
 CALLS, NEVER = 18, 1 << 60
+# What stands between lines and the questions behind the opening that follows them, and how many calls such a row makes at most.
+AGAIN, MOST_CALLS = " = ", 64
 REFUSALS = {"no bank": "NoBank", "full": "Full", "epochs exhausted": "EpochsExhausted", "bad size": "BadSize"}
 STREAM_FAULTS = {None: "None", "version": "Some(BadVersion)", "length": "Some(BadLength)", "action": "Some(BadAction)",
                  "record": "Some(BadRecord)", "ended": "Some(Ended)"}
@@ -373,6 +375,42 @@ class Player:
             told, last = f"{told} {self.place_text(bytes(device.bytes))}", text
         return told
 
+    def renewed(self, fuse, rest):
+        """What lines come to over a device that fails, and questions behind another opening of it; and whether that was opened. None if the first
+        opening fails."""
+        device, (lines, _, questions) = Device(self.image, fuse), rest.partition(AGAIN)
+        try:
+            book = Book(device)
+        except (Fault, Refusal):
+            return None, device, False
+        replies = book.lines(lines.split(BAR))
+        again, is_open = asked(device, questions, not book.has_halted)
+        left = "".join(f"; {word} {asked(Device(device.image(NEVER, fill)), questions)[0]}" for word, fill in (("then", OLD), ("or", NEW)))
+        return f"{replies}; again {again}{'' if is_open else left}", device, is_open
+
+    def again(self, rest):
+        told = [""]
+        for calls in range(MOST_CALLS):
+            text, device, _ = self.renewed(Fuse("after", calls), rest)
+            if text is None:
+                continue
+            if device.tried <= calls:
+                return [*told, f"  no call fails: {text}"]
+            torn = [self.renewed(Fuse("torn", calls, fill), rest)[0] or "" for fill in PLAIN_FILLS]
+            told += [f"  all behind {calls} calls fail: {text}", *(f"  one behind {calls} calls fails: {text}" for text in dict.fromkeys(torn))]
+        return told
+
+    def twice(self, rest):
+        first, _, rest = rest.partition(" ")
+        told = [""]
+        for calls in range(int(first) + 1, MOST_CALLS):
+            text, _, is_open = self.renewed(Fuse("once", int(first), other=calls), rest)
+            if is_open:
+                break
+            if text is not None:
+                told.append(f"  and one behind {calls}: {text}")
+        return told
+
     def pairs(self, rest):
         before, _, lines = rest.rpartition(BAR)
         lines = lines.split(GROUPED)
@@ -443,6 +481,17 @@ class Player:
         return WHEN_OPEN[word](self, rest) if word in WHEN_OPEN else self.call(row)
 
 
+def asked(device, questions, is_known=False):
+    """What a device is opened as, with the replies to these questions, or the name of its refusal; and whether it is opened."""
+    try:
+        book = Book(device, is_known)
+        return f"epoch {book.held.epoch}: {book.lines(questions.split(BAR))}", True
+    except Fault:
+        return "Fault", False
+    except Refusal as refusal:
+        return refusal_text(refusal), False
+
+
 def stream_text(session, some):
     """How many messages a stream has, and its fault; behind a colon the replies to them, and the states then."""
     messages, fault = read_stream(some)
@@ -466,7 +515,8 @@ def first_of_each(texts, form, end):
 
 
 ANYWHERE = {"bytes": Player.bytes_between, "with": Player.with_others, "openings": Player.openings, "faults": Player.faults,
-            "failing": Player.failing, "pairs": Player.pairs, "torn": Player.torn, "streams": Player.streams, "images": Player.random_images}
+            "failing": Player.failing, "again": Player.again, "twice": Player.twice, "pairs": Player.pairs, "torn": Player.torn,
+            "streams": Player.streams, "images": Player.random_images}
 WHEN_CLOSED = {"put": Player.put_bytes, "word": Player.word}
 WHEN_OPEN = {"times": Player.times, "snapshot": Player.snapshot, "crash": Player.crash, "crashes": Player.crashes, "stopped": Player.stopped,
              "lines": Player.random_lines, "each": Player.each}
