@@ -7,3 +7,4 @@ pub mod IndexEdits
 pub mod LastZeros
 pub mod ForkSlots
 pub mod Roots
+pub mod OneSlot

@@ -74,14 +74,14 @@ between_ends rows a low high is le = record {
 -- ---- the signs of an address's prefixes
 
 -- a prefix of the address that has a sign begins at a row that isn't past the address
-begins : (s : AllSigns) (top front a : ℕ) (rows : List Row) → AreRows s top front rows → a / 2 ^ top ≡ front → (k : ℕ) (sign : Bool) → k < top
+pub begins : (s : AllSigns) (top front a : ℕ) (rows : List Row) → AreRows s top front rows → a / 2 ^ top ≡ front → (k : ℕ) (sign : Bool) → k < top
     → s k (a / 2 ^ k) ≡ Some sign → Any (IsAt (cut_off k a)) rows
 begins s top front a rows are in_front k sign lt is = are.starts k (a / 2 ^ k) sign lt (at_front ∙ in_front) is where
   at_front : cut_off k a / 2 ^ top ≡ a / 2 ^ top
   at_front = between top a (cut_off k a) (cut_less k top a (omega (arith, lt))) (div-mul-le_self a (2 ^ k))
 
 -- an option that can't be some is none
-is_none : (o : Option Bool) → ((sign : Bool) → o ≡ Some sign → ⊥) → o ≡ None
+pub is_none : (o : Option Bool) → ((sign : Bool) → o ≡ Some sign → ⊥) → o ≡ None
 is_none None never = refl
 is_none (Some sign) never = absurd (never sign refl)
 

@@ -1,14 +1,19 @@
 -- What forks and branches hold. `holds s top front below` says of the level below a slot that it holds the signs `s` of the prefixes whose
 -- addresses begin with this front before their last `top` bits, and which leave fewer bits free.
-use Rattle.std.specs.{Prelude.{◌≡◌, ℕ, ◌+◌, ◌-◌, ◌*◌, ◌/◌, ◌^◌, ◌<◌, ◌≤◌, List, length, slice_index_or, Option, Some, None}, Arc.arc_value, declared.{sync.Arc.Arc}}
+use Rattle.std.specs.{Prelude.{◌≡◌, ℕ, ◌+◌, ◌-◌, ◌*◌, ◌/◌, ◌^◌, ◌<◌, ◌≤◌, List, [], length, slice_index_or, Option, Some, None}, Arc.arc_value, declared.{sync.Arc.Arc}}
 use Rattle.pf_trie.specs.declared.{rows.Row.{Row}, signs.Signs.{Signs}, slot.TheConstants.{SLOT_BITS, SLOTS}}
-use Rattle.pf_trie.specs.{Prefixes.AllSigns, Rows.{HasSigns, AreRows}}
+use Rattle.pf_trie.specs.{Prefixes.AllSigns, Signs.sign_of, Rows.{HasSigns, AreRows}}
 
 -- A slot is of the addresses that begin with a front before their last `at` bits: the signs of the prefixes that contain all of these, up to
 -- those of a whole fork, and the level below.
 pub record IsSlot {X : Type 0} (holds : AllSigns → ℕ → ℕ → X → Type 0) (s : AllSigns) (at front : ℕ) (slot : Signs × X) : Type 0 where
   pub wide : (a : ℕ) → a / 2 ^ at ≡ front → HasSigns s at (at + SLOT_BITS) a slot.0
   pub below : holds s at front slot.1
+
+-- a slot with no signs
+pub record IsEmptySlot {X : Type 0} (holds : AllSigns → ℕ → ℕ → X → Type 0) (slot : Signs × X) : Type 0 where
+  pub wide : (k : ℕ) → sign_of slot.0 k ≡ None
+  pub below : (s : AllSigns) (top front : ℕ) → AreRows s top front [] → holds s top front slot.1
 
 -- a slot for each digit behind the fork's front
 pub record IsFork {X : Type 0} (holds : AllSigns → ℕ → ℕ → X → Type 0) (s : AllSigns) (at front : ℕ) (slots : List (Signs × X)) : Type 0 where

@@ -25,6 +25,13 @@ pub record AreRows (s : AllSigns) (top front : ℕ) (rows : List Row) : Type 0 w
   pub signs : All (λ r. HasSigns s 0 top r.first r.signs) rows
   pub starts : (k n : ℕ) (sign : Bool) → k < top → n * 2 ^ k / 2 ^ top ≡ front → s k n ≡ Some sign → Any (IsAt (n * 2 ^ k)) rows
 
+-- Rows in order whose addresses have one front before their last `at` bits, and the first of them no sign of a prefix that leaves at least so
+-- many bits free.
+pub record AreOfOneSlot (at front : ℕ) (rows : List Row) : Type 0 where
+  pub some : 0 < length rows
+  pub inside : IsInOrder rows → All (λ r. r.first / 2 ^ at ≡ front) rows
+  pub narrow : (d : Row) (k : ℕ) → at ≤ k → sign_of (slice_index_or rows 0 d).signs k ≡ None
+
 -- such rows, one of them at this address
 pub record AreRowsWith (s : AllSigns) (top front a : ℕ) (rows : List Row) : Type 0 where
   pub are : AreRows s top front rows

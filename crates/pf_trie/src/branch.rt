@@ -77,7 +77,7 @@ impl<T: Level> Level for Branch<T> {
         if rows.fit_page() || top < SLOT_BITS {
             return Ok(Branch::of_page(Page::of(alloc, rows)?));
         }
-        let fork = Fork::of(alloc, top - SLOT_BITS, address, &rows)?;
+        let fork = Fork::of(alloc, top - SLOT_BITS, address, rows)?;
         Ok(Branch {
             page: Page::none(),
             fork: Some(Arc::new(alloc, fork)?),

@@ -1,8 +1,9 @@
 //! Forks: signs that are divided by four bits of their addresses.
-ghost use Rattle.std.specs.Prelude.{◌≡◌, ℕ, ◌+◌, ◌*◌, ◌/◌, ◌%◌, ◌^◌, ◌<◌, ◌≤◌, length, IfOk};
-ghost use Rattle.pf_trie.specs.{Prefixes.{AllSigns, Finds, with_sign}, Rows.AreRows, Forks.{IsFork, SameFork}};
+ghost use Rattle.std.specs.Prelude.{◌≡◌, ℕ, ◌+◌, ◌*◌, ◌/◌, ◌%◌, ◌^◌, ◌<◌, ◌≤◌, length, All, IfOk};
+ghost use Rattle.pf_trie.specs.{Prefixes.{AllSigns, Finds, with_sign}, Rows.{AreOfOneSlot, AreRows}, Forks.{IsEmptySlot, IsFork, SameFork}};
 
 use crate::found::Found;
+use crate::in_order::one_slot_of;
 use crate::level::Level;
 use crate::prefix::Prefix;
 use crate::row_list::RowList;
@@ -79,6 +80,36 @@ fn slots_of<T: Level>(
     Ok(slots)
 }
 
+// A fork's slots, with no signs. `AllocError`: nothing is made.
+fn empty_slots<T: Level>(alloc: Global) -> Result<Vec<Slot<T>>, AllocError>
+    ensures count { IfOk result (λ v. length v.items ≡ SLOTS) }
+    ensures empty { IfOk result (λ v. All (IsEmptySlot T.holds) v.items) }
+{
+    let mut slots = Vec::with_capacity(alloc, SLOTS)?;
+    for place in 0..SLOTS {
+        slots.push(Slot::none())?;
+    }
+    Ok(slots)
+}
+
+// The slots of rows that are all in the one of an address, which no prefix that has a sign contains. `AllocError`: nothing is left of the rows.
+fn one_full_slot<T: Level>(
+    alloc: Global,
+    at: u8,
+    address: u128,
+    rows: RowList,
+) -> Result<Vec<Slot<T>>, AllocError>
+    requires at { at ≤ 124 }
+    requires alike { AreOfOneSlot at (address / 2 ^ at) rows }
+    ensures count { IfOk result (λ v. length v.items ≡ SLOTS) }
+    ensures slots { IfOk result (λ v. (s : AllSigns) (front : ℕ) → AreRows s (at + SLOT_BITS) front rows → IsFork T.holds s at front v.items) }
+{
+    let mut slots = empty_slots(alloc)?;
+    let below = T::of_rows(alloc, at, address, rows)?;
+    slots[place_of(address, at)] = Slot::over(below);
+    Ok(slots)
+}
+
 // Slots with the sign at a prefix replaced, which leaves at least `at` bits free.
 fn marked_slots<T: Level>(
     mut slots: Vec<Slot<T>>,
@@ -102,19 +133,25 @@ fn marked_slots<T: Level>(
 }
 
 impl<T: Level> Fork<T> {
-    /// The fork of rows, which are those of an address's region. `AllocError`: nothing is made.
+    /// The fork of rows, which are those of an address's region. Where they are all in one slot they are moved there. `AllocError`: nothing is
+    /// left of them.
     pub(crate) fn of(
         alloc: Global,
         at: u8,
         address: u128,
-        rows: &RowList,
+        rows: RowList,
     ) -> Result<Fork<T>, AllocError>
         requires { at ≤ 124 }
-        ensures { IfOk result (λ f. (s : AllSigns) → AreRows s (at + SLOT_BITS) (address / 2 ^ at / SLOTS) rows.now → IsFork T.holds s at (address / 2 ^ at / SLOTS) f) }
+        ensures { IfOk result (λ f. (s : AllSigns) → AreRows s (at + SLOT_BITS) (address / 2 ^ at / SLOTS) rows → IsFork T.holds s at (address / 2 ^ at / SLOTS) f) }
     {
-        Ok(Fork {
-            slots: slots_of(alloc, at, address, rows)?,
-        })
+        match one_slot_of(&rows, at) {
+            Some(first) => Ok(Fork {
+                slots: one_full_slot(alloc, at, first, rows)?,
+            }),
+            None => Ok(Fork {
+                slots: slots_of(alloc, at, address, &rows)?,
+            }),
+        }
     }
 
     /// The same fork, for another owner. `AllocError`: nothing is made.

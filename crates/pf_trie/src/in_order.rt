@@ -2,7 +2,7 @@
 ghost use Rattle.std.specs.Prelude.{◌≡◌, ℕ, ◌/◌, ◌^◌, ◌<◌, ◌≤◌, ◌==◌, length, filter, map, Some, None, IfOk, IfNone, IfSome};
 ghost use Rattle.std.specs.List.{insert};
 ghost use Rattle.pf_trie.specs.Prefixes.{AllSigns, first_of, with_sign};
-ghost use Rattle.pf_trie.specs.Rows.{HasSigns, IsInOrder, AreRows, AreRowsWith, IsUpTo, IsBetween, MarksEach, cut_row};
+ghost use Rattle.pf_trie.specs.Rows.{HasSigns, IsInOrder, AreOfOneSlot, AreRows, AreRowsWith, IsUpTo, IsBetween, MarksEach, cut_row};
 ghost use Rattle.pf_trie.specs.Addresses.{SameAddresses};
 
 use crate::prefix::{Prefix, apart};
@@ -151,6 +151,24 @@ pub(crate) fn without_sign(
     let count = up_to(&rows, first);
     let marked = mark(alloc, rows, count, prefix, None)?;
     Ok(clear(marked, first))
+}
+
+/// The first address of rows in order, if all begin with one front before their last `at` bits, and if no prefix that contains all addresses
+/// with this front has a sign among them. `None`: they aren't such rows.
+pub(crate) fn one_slot_of(rows: &RowList, at: u8) -> Option<u128>
+    requires { at < 128 }
+    ensures { IfSome result (λ a. AreOfOneSlot at (a / 2 ^ at) rows.now) }
+{
+    let count = rows.len();
+    if count == 0 {
+        return None;
+    }
+    let row = rows.at(0);
+    let last = rows.at(count - 1).first;
+    if last >> at != row.first >> at || row.signs.from(at).longest().is_some() {
+        return None;
+    }
+    Some(row.first)
 }
 
 /// Of rows those whose addresses begin with `front` before the last `at` bits, with the signs of the prefixes that leave fewer bits free.

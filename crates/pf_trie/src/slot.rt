@@ -1,6 +1,6 @@
 //! Slots of forks.
-ghost use Rattle.std.specs.Prelude.{◌≡◌, ℕ, ◌+◌, ◌-◌, ◌/◌, ◌^◌, ◌<◌, ◌≤◌, IfOk};
-ghost use Rattle.pf_trie.specs.{Prefixes.{AllSigns, Finds, with_sign}, Rows.AreRows, Forks.{IsSlot, SameSlot}};
+ghost use Rattle.std.specs.Prelude.{◌≡◌, ℕ, ◌+◌, ◌-◌, ◌/◌, ◌^◌, ◌<◌, ◌≤◌, ◌≡◌, None, IfOk};
+ghost use Rattle.pf_trie.specs.{Prefixes.{AllSigns, Finds, with_sign}, Signs.sign_of, Rows.AreRows, Forks.{IsSlot, IsEmptySlot, SameSlot}};
 
 use crate::found::Found;
 use crate::in_order::{rows_within, signs_at};
@@ -40,10 +40,20 @@ impl<T: Level> Model for Slot<T> {
 
 impl<T: Level> Slot<T> {
     /// No signs. It takes no memory.
-    pub(crate) fn none() -> Slot<T> {
+    pub(crate) fn none() -> Slot<T>
+        ensures { IsEmptySlot T.holds result }
+    {
+        Slot::over(T::empty())
+    }
+
+    /// The slot with this level below it, and with no signs of prefixes that contain all of its addresses.
+    pub(crate) fn over(below: T) -> Slot<T>
+        ensures wide { (k : ℕ) → sign_of result.0 k ≡ None }
+        ensures below { result.1 ≡ below }
+    {
         Slot {
             wide: Signs::none(),
-            below: T::empty(),
+            below,
         }
     }
 
