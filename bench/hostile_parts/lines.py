@@ -304,9 +304,6 @@ def play_session(job):
     options, number, count = job
     random, result = chance(options.seed, "lines", number), Result()
     size, history = settings(random)
-    if number % 4 == 3:
-        # a server keeps lines together: one that alone has no room may be kept with a later one that makes room
-        size = 1 << 22
     session = Session(size // 2, history)
     lines, replies = session_of(random, count, session)
     given, what = b"\n".join(lines) + random.choice((b"\n", b"")), f"lines, session {number} of {count} lines, size {size}, history {history}"

@@ -1,17 +1,18 @@
 -- One more command of a group.
 use Rattle.std.proofs.{Common.{◌≡◌, ◌≢◌, cond, ℕ, ◌+◌, ◌<◌, ◌≤◌, ◌&&◌, Bool, true, false, List, [], ◌∷◌, ◌++◌, length, Option, None, Some, Result, Ok, Err, refl, sym, ap, ◌∙◌, subst, arith, append_assoc, append-nil, length-append}, lemmas.{Bool.Decides.nat_tests, Iterator.Adapters.position_from-zero, List.map-append}}
-use Rattle.std.specs.{Prelude.{flat_map, not, position}, List.{AllByRecursion, list_all, position_from}}
+use Rattle.std.specs.{Prelude.{flat_map, not, position, ◌↔◌, ⊤, IsTrue}, List.{AllByRecursion, list_all, position_from}}
 use Rattle.pf_core.specs.Refusing.{unless, refused_at, AreBothPassed, both_passed, not_refused}
 use Rattle.pf_ticket.specs.{Laws.Tickets.IsWithin as AreTicketsWithin, Mentions.{after as moved_by, switches}, Tickets.PlainTickets}
 use Rattle.pf_core.specs.declared.{command.Command.Command, reply.Refusal.Refusal, reply.Refusal.TheVariants.{BadCount, NotGrouped, Memory}, group.TheConstants.GROUP_LIMIT, reply.Reply.Reply, step.ReadyStep.ReadyStep, step.Step.Step, step.Step.TheVariants.{Done, Wants, OfHistory}}
 use Rattle.pf_core.specs.declared.step.ReadyStep.TheVariants as made
-use Rattle.pf_core.specs.{Commands.{step_by, may_be_grouped, bad_number, group_words}, Durable.Changes.{PlainDurable, PlainChange, after, voided_by, fits}, Laws.Wanted.wants_what_fits, Nexts.PlainNext, Cores.{PlainCore, left_behind, plain, IsMadeFrom}, Worlds.{CurrentOpening, log_of, durable_of, step_in, reply_to, changes_of, amid, changes_due, replies_due}}
+use Rattle.pf_core.specs.{Commands.{step_by, may_be_grouped, bad_number, group_words}, Durable.Changes.{PlainDurable, PlainChange, after, applied, voided_by, fits}, Laws.Wanted.wants_what_fits, Nexts.PlainNext, Cores.{PlainCore, left_behind, plain, IsMadeFrom}, Worlds.{CurrentOpening, log_of, durable_of, step_in, reply_to, changes_of, amid, changes_due, replies_due}}
 use Rattle.pf_core.proofs.Courses.{step-there, left-there, log-amid}
-use Rattle.pf_store.specs.{Groups.{can_be_wanted, made_all}, Stores.FollowInTurn}
+use Rattle.pf_store.specs.{Groups.{can_be_wanted, made_all}, Stores.{FindsRoom, FollowInTurn}}
 use Rattle.pf_store.specs.declared.groups.recorded.Recorded.TheVariants as recorded
 use Rattle.pf_store.proofs.Leading.{follow_push, left_by_made}
-use Rattle.pf_book.specs.{Books.left_together, Courses.{IsCalm, ready_of, found_by, left_to}}
+use Rattle.pf_book.specs.{Books.left_together, Courses.{IsCalm, ready_of, found_by, left_to, StepFindsRoom, FindRoomEach}}
 use Rattle.pf_book.proofs.Wanting.{wanted-can}
+use Rattle.std.proofs.lemmas.Bool.{and_parts}
 
 -- ---- what is left so far
 
@@ -117,6 +118,42 @@ few-on changes changes' s wants = omega (arith, ap length wants, length-append c
   one (Ok (Done a)) = omega arith
   one (Ok (OfHistory x)) = omega arith
   one (Err e) = omega arith
+
+-- ---- its room
+
+-- one more change finds room by itself as well
+each-push : (size : ℕ) (d : PlainDurable) (es : List PlainChange) (e : PlainChange) → FindRoomEach size d (es ++ e ∷ []) ↔ (FindRoomEach size d es × FindsRoom size (after d es) (applied (after d es) e) (e ∷ []))
+each-push size d [] e = (λ p. (tt, p.0), λ p. (p.1, tt))
+each-push size d (x ∷ es) e = let rest = each-push size (applied d x) es e in (λ p. ((p.0, (rest.0 p.1).0), (rest.0 p.1).1), λ p. (p.0.0, rest.1 (p.0.1, p.1)))
+
+both-true : (a b both : Bool) → both ≡ (a && b) → IsTrue both ↔ (IsTrue a × IsTrue b)
+both-true a b both is = (λ p. and_parts a b (sym is ∙ p), λ p. is ∙ ap (λ (x : Bool). x && b) p.0 ∙ p.1)
+
+-- a step that wants no change leaves it at that
+each-still : (size : ℕ) (d : PlainDurable) (changes changes' : List PlainChange) (was has both : Bool) → changes' ≡ changes ++ [] → both ≡ (was && has) → IsTrue was ↔ FindRoomEach size d changes → IsTrue has ↔ ⊤
+    → IsTrue both ↔ FindRoomEach size d changes'
+each-still size d changes changes' was has both same is each here =
+    let and : IsTrue both ↔ (IsTrue was × IsTrue has) = both-true was has both is in
+    let still : changes' ≡ changes = same ∙ append-nil changes in
+    (λ p. subst (FindRoomEach size d) (sym still) (each.0 (and.0 p).0), λ p. and.1 (each.1 (subst (FindRoomEach size d) still p), here.1 tt))
+
+pub each-on : (size : ℕ) (d : PlainDurable) (changes changes' : List PlainChange) (before : Option PlainNext) (step : Result ReadyStep Refusal) (was has both : Bool) → before ≡ ready_of d changes → IsMadeFrom (found_by d before) step
+    → changes' ≡ changes ++ changes_of (plain step) → both ≡ (was && has) → IsTrue was ↔ FindRoomEach size d changes → IsTrue has ↔ StepFindsRoom size (found_by d before).durable step → IsTrue both ↔ FindRoomEach size d changes'
+each-on size d changes changes' before (Ok (made.Done a)) was has both ready from same is each here = each-still size d changes changes' was has both same is each here
+each-on size d changes changes' before (Ok (made.OfHistory c)) was has both ready from same is each here = each-still size d changes changes' was has both same is each here
+each-on size d changes changes' before (Err e) was has both ready from same is each here = each-still size d changes changes' was has both same is each here
+each-on size d changes changes' before (Ok (made.Wants e n o)) was has both ready from same is each here =
+    let and : IsTrue both ↔ (IsTrue was × IsTrue has) = both-true was has both is in
+    let push = each-push size d changes e in
+    let behind : (found_by d before).durable ≡ after d changes = ap (λ (r : PlainNext). r.durable) (ap (found_by d) ready ∙ so-far d changes) in
+    let left : n.durable ≡ applied (after d changes) e = ap (λ (r : PlainNext). r.durable) from ∙ ap (λ (k : PlainDurable). applied k e) behind in
+    let there : StepFindsRoom size (found_by d before).durable (Ok (made.Wants e n o)) → FindsRoom size (after d changes) (applied (after d changes) e) (e ∷ []) =
+    λ p. subst (λ (k : PlainDurable). FindsRoom size k (applied (after d changes) e) (e ∷ [])) behind (subst (λ (k : PlainDurable). FindsRoom size (found_by d before).durable k (e ∷ [])) left p) in
+    let back : FindsRoom size (after d changes) (applied (after d changes) e) (e ∷ []) → StepFindsRoom size (found_by d before).durable (Ok (made.Wants e n o)) =
+    λ p. subst (λ (k : PlainDurable). FindsRoom size (found_by d before).durable k (e ∷ [])) (sym left) (subst (λ (k : PlainDurable). FindsRoom size k (applied (after d changes) e) (e ∷ [])) (sym behind) p) in (
+      λ p. subst (FindRoomEach size d) (sym same) (push.1 (each.0 (and.0 p).0, there (here.0 (and.0 p).1))),
+      λ p. let q = push.0 (subst (FindRoomEach size d) same p) in and.1 (each.1 q.0, here.1 (back q.1)),
+    )
 
 -- ---- a group's own words
 

@@ -1,9 +1,9 @@
 -- The receipts of a group, one after the other.
-use Rattle.std.proofs.{Common.{◌≡◌, ◌∙◌, inl, inr, ℕ, ◌+◌, ◌<◌, ◌≤◌, Bool, true, false, List, [], ◌∷◌, ◌++◌, length, Option, Some, Result, Ok, Err, refl, sym, ap, subst, arith, append_assoc, append-nil, length-append}, lemmas.{List.map-id, List.Elements.{All-nil, All-cons, All-head, All-tail, All-weaker}, List.Kept.AllPairs-cons}}
+use Rattle.std.proofs.{Common.{◌≡◌, ◌⊎◌, ◌∙◌, inl, inr, ℕ, ◌+◌, ◌<◌, ◌≤◌, Bool, true, false, List, [], ◌∷◌, ◌++◌, length, Option, Some, Result, Ok, Err, refl, sym, ap, subst, arith, append_assoc, append-nil, length-append}, lemmas.{List.map-id, List.Elements.{All-nil, All-cons, All-head, All-tail, All-weaker}, List.Kept.AllPairs-cons}}
 use Rattle.std.specs.{Prelude.{fold, map, slice_get, All}, List.AllPairs}
 use mathlib.Core.List.{IsPrefix}
 use Rattle.pf_core.specs.declared.{command.Command.Command, reply.Refusal.Refusal, reply.Reply.Reply, step.Step.Step, step.Step.TheVariants.{Done, Wants, OfHistory}}
-use Rattle.pf_core.specs.{Durable.Changes.{PlainDurable, PlainChange}, Worlds.{Setting, CurrentOpening, Event, State, called_group, down, flat, log_of, step_in, reply_to, changes_of, amid, changes_with, changes_due, replies_due, shown_by, LegalGroup, IsLegal}}
+use Rattle.pf_core.specs.{Durable.Changes.{PlainDurable, PlainChange}, Worlds.{Setting, CurrentOpening, Event, State, called_group, down, flat, log_of, step_in, reply_to, changes_of, amid, changes_with, changes_due, replies_due, as_stored, shown_by, LegalGroup, IsLegal}}
 use Rattle.pf_core.proofs.{Courses.{told_as, IsAccepted, accepted}, GroupLeads.{IsShownSo, shown-due, shown-stored}, LongerWorlds.in-two}
 use Rattle.pf_view.proofs.Prefixes.{prefix_length, prefix_self, prefix_trans}
 use Rattle.pf_book.specs.{Groups.{Answered, AreAnswered, IsAnsweredAmid, IsGroupAnswered}, Receipts.{PlainReceipt, ComesAfter, IsNumberOf}}
@@ -136,6 +136,13 @@ module _ (base : PlainDurable) (setting : Setting) (commands : List Command) (an
     by : (stored : Bool) → replies ≡ map (told_as stored) due → a.before.shown ≤ a.came.shown
     by true told = omega (arith, legal.shown ∙ ap (fold (λ (n : ℕ) (r : Reply). shown_by r n) a.before.shown) told ∙ shown-stored a.before [] a.before.shown commands taken.taken.may)
     by false told = omega (arith, legal.shown ∙ ap (fold (λ (n : ℕ) (r : Reply). shown_by r n) a.before.shown) (told ∙ map-id due), so (shown-due a.before a.before.shown [] a.before.shown commands taken.taken.none taken.taken.may (inl (refl, refl))))
+
+  -- its replies are those that are due, or all of them stored
+  pub are-due : (replies ≡ replies_due a.before [] commands) ⊎ (replies ≡ map as_stored (replies_due a.before [] commands))
+  are-due = by taken.stored taken.told where
+    by : (stored : Bool) → replies ≡ map (told_as stored) (replies_due a.before [] commands) → (replies ≡ replies_due a.before [] commands) ⊎ (replies ≡ map as_stored (replies_due a.before [] commands))
+    by true told = inr told
+    by false told = inl (told ∙ map-id (replies_due a.before [] commands))
 
   pub turns : AllPairs (λ (x y : Answered). ComesAfter x.1 y.1) answers
   turns = in-turn a.before taken.taken.none _ a.came.shown [] commands answers a.receipts a.shown

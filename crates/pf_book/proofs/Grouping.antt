@@ -9,8 +9,8 @@ use Rattle.pf_core.specs.{Commands.{bad_number, group_words, may_be_grouped}, Du
 use Rattle.pf_core.proofs.{Courses.{not-halted, durable-amid, length-with, log-amid, IsOfGroup, told, wanted, refused, step-amid, MayBeGrouped, IsTaken, taken-group, told_as, IsAccepted, accepted}, GroupLeads.{IsShownSo, shown-due, shown-stored, refused-group-leads, fault-group-leads, kept-group-leads}, Groups.rooms-found}
 use Rattle.pf_store.specs.Stores.{Holds, HoldsEither}
 use Rattle.pf_disk.specs.declared.disk.Disk.{Ghosts}
-use Rattle.pf_book.specs.{Books.{PlainBook, world_book, HasRoom, HoldsLeft, IsLeft, IsMore, KeepsOpening, IsPending, AreMade, AreNumbered, StaysUnlessAnyKept, UsesDevice, is_fault_result, replied, shows_all}, Courses.IsCalm}
-use Rattle.pf_book.proofs.{Calling.{durable-is, log-acked, front-left, kept-opening, own, unkept-opening}, HistoryGroups.{grouped-some}, Openable.{uses-as, uses-still}}
+use Rattle.pf_book.specs.{Books.{PlainBook, world_book, HasRoom, HoldsLeft, IsLeft, IsMore, KeepsOpening, IsPending, AreMade, AreNumbered, Stays, StaysUnlessAnyKept, UsesDevice, is_fault_result, replied, shows_all}, Courses.IsCalm, Groups.IsGroupOf}
+use Rattle.pf_book.proofs.{Calling.{durable-is, log-acked, front-left, kept-opening, not-more, own, unkept-opening}, HistoryGroups.{grouped-some}, Openable.{uses-as, uses-still, uses-told}}
 
 -- ---- a calm opening
 
@@ -334,6 +334,34 @@ module _ {D : Type 0} {device : Ghosts D} (now new : PlainBook D) (commands : Li
   told-uses due (Ok replies) (kept, more, how) still uses quiet = kept-group more.room uses
   told-uses due (Err Fault) pending still uses quiet = kept-group pending.room uses
   told-uses due (Err why) made still uses quiet = uses-still uses (still why refl refl) quiet
+
+-- ---- a group that is refused before anything is kept
+
+module _ {D : Type 0} {old new : PlainBook D} (same : new ≡ old) where
+  pub refused-opens : KeepsOpening old new
+  refused-opens = record { base = ap (λ (l : PlainBook D). l.base) same; setting = ap (λ (l : PlainBook D). (world_book l).setting) same }
+
+  pub refused-stays : (e : Refusal) → is_fault e ≡ false → Stays e old new
+  refused-stays e calm = record { same = λ is. (ap (λ (l : PlainBook D). world_book l) same, ap (λ (l : PlainBook D). l.disk) same); pending = λ is. absurd (cc (is, calm)) }
+
+-- and no call of the device failed
+pub refused-is : {D : Type 0} (faults : D → ℕ) (h : CurrentOpening) (old new : PlainBook D) (commands : List Command) (e : Refusal) → new ≡ old
+    → LeadsGroup h (world_book old) commands (Err e) (upshot old.shown false) → LeadsGroup h (world_book new) commands (Err e) (upshot new.shown (nat_lt (faults old.disk) (faults new.disk)))
+refused-is {D} faults h old new commands e same leads =
+    subst (λ (l : PlainBook D). LeadsGroup h (world_book l) commands (Err e) (upshot l.shown (nat_lt (faults old.disk) (faults l.disk)))) (sym same)
+    (subst (λ (x : Bool). LeadsGroup h (world_book old) commands (Err e) (upshot old.shown x)) (sym (not-more (faults old.disk) (faults old.disk) (omega arith))) leads)
+
+pub refused-whole : {D : Type 0} (device : Ghosts D) (old new : PlainBook D) (commands : List Command) (e : Refusal) → new ≡ old → is_fault e ≡ false
+    → ((h : CurrentOpening) → IsAt h (world_book old) → LeadsGroup h (world_book old) commands (Err e) (upshot old.shown false))
+    → UsesDevice device false old old (IsLeft (world_book old) (grouping commands)) → IsGroupOf device old new commands (Err e)
+refused-whole {D} device old new commands e same calm leads quiet = record {
+  leads = λ h at. refused-is device.fault_count h old new commands e same (leads h at);
+  uses = uses-told calm (subst (λ (l : PlainBook D). UsesDevice device false old l (IsLeft (world_book old) (grouping commands))) (sym same) quiet);
+  receipts = λ h at. tt;
+  shown = tt;
+  stays = refused-stays same e calm;
+  opening = refused-opens same;
+}
 
 -- ---- the result of a group
 

@@ -1,9 +1,9 @@
 -- Commands of several callers at their places in one group.
-use Rattle.std.proofs.{Common.{◌≡◌, ◌∙◌, ℕ, zero, suc, ◌+◌, List, [], ◌∷◌, ◌++◌, length, Option, Some, None, Result, Ok, Err, inr, refl, sym, ap, subst, arith}, lemmas.{List.length-map, List.Elements.{All-head, All-tail}}}
+use Rattle.std.proofs.{Common.{◌≡◌, ◌∙◌, ℕ, zero, suc, List, [], ◌∷◌, ◌++◌, length, Option, Some, None, Ok, Err, inr, refl, sym, ap, subst, arith}, lemmas.{List.length-map, List.Elements.{All-head, All-tail}}}
 use Rattle.std.specs.Prelude.{All, map, slice_get}
-use Rattle.pf_core.specs.declared.{command.Command.Command, reply.Refusal.Refusal, reply.Refusal.TheVariants.Fault}
+use Rattle.pf_core.specs.declared.{command.Command.Command, reply.Refusal.TheVariants.Fault}
 use Rattle.pf_core.specs.{Durable.Changes.{PlainDurable, PlainChange}, WorldBooks.WorldBook, Worlds.{Setting, CurrentOpening, changes_with, log_of, heard_group}}
-use Rattle.pf_book.specs.{Groups.{Answered, AreAnswered, IsGroupAnswered, replies_of}, Receipts.{PlainReceipt, TakesUp}, Together.{HasFailedAmong, IsAnsweredAmong, IsAnsweredTogether, PlainAsked, Told}}
+use Rattle.pf_book.specs.{Groups.{Answered, AreAnswered, IsAnsweredAsAlone, IsGroupAnswered, replies_of}, Receipts.{PlainReceipt, TakesUp}, Together.{HasFailedAmong, IsAnsweredAmong, IsAnsweredTogether, PlainAsked, Told}}
 
 -- ---- places of a list
 
@@ -72,10 +72,10 @@ module _ (base : PlainDurable) (setting : Setting) (w : WorldBook) (asked : List
   taken-at : (i : ℕ) (j : PlainAsked) → slice_get asked i ≡ Some j → TakesUp j.last w
   taken-at i j at = all-at (λ l. TakesUp l w) lasts i j.last taken (subst (λ (l : List (Option PlainReceipt)). slice_get l i ≡ Some j.last) (sym handed) (mapped (λ a. a.last) asked i j at))
 
-  module _ (answers : List Answered) (group : (last : Option PlainReceipt) → TakesUp last w → IsGroupAnswered base setting commands (Ok answers) last) where
+  module _ (answers : List Answered) (group : (last : Option PlainReceipt) → TakesUp last w → IsAnsweredAsAlone base setting commands (Ok answers) last) where
     pub one-each : length answers ≡ length asked
     one-each =
-        let g = group None (none-taken w) in
+        let g = (group None (none-taken w)).group in
         let many = as-many g.before (log_of (heard_group g.before commands (replies_of (Ok answers)) g.came)) [] commands answers g.receipts in
         many ∙ ap length parts ∙ length-map asked (λ a. a.command)
 
@@ -83,13 +83,16 @@ module _ (base : PlainDurable) (setting : Setting) (w : WorldBook) (asked : List
     among i j a at also =
         let p = parted commands i j.command (command-at i j at) in
         let q = parted answers i a also in
+        let whole : IsAnsweredAsAlone base setting (p.front ++ j.command ∷ p.rest) (Ok (q.front ++ a ∷ q.rest)) j.last =
+        subst (λ (l : List Answered). IsAnsweredAsAlone base setting (p.front ++ j.command ∷ p.rest) (Ok l) j.last) q.is
+        (subst (λ (cs : List Command). IsAnsweredAsAlone base setting cs (Ok answers) j.last) p.is (group j.last (taken-at i j at))) in
         record {
           earlier = p.front;
           later = p.rest;
           told = q.front;
           others = q.rest;
-          group = subst (λ (l : List Answered). IsGroupAnswered base setting (p.front ++ j.command ∷ p.rest) (Ok l) j.last) q.is
-              (subst (λ (cs : List Command). IsGroupAnswered base setting cs (Ok answers) j.last) p.is (group j.last (taken-at i j at)));
+          group = whole.group;
+          in_turn = whole.in_turn;
           place = q.long ∙ sym p.long;
         }
 

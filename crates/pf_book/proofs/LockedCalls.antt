@@ -8,7 +8,7 @@ use Rattle.pf_core.specs.declared.reply.Answer.{Answer as ToldOf}
 use Rattle.pf_core.proofs.{Prefixes.flat-append, Groups.{IsKept, IsNotKept, kept-or-not}, Limits.{IsOfHistory, answered-step}, Showing.{shows-nothing, shows_all}, Stepping.unhalted, LongerWorlds.{flat-push, stands-on, stands-on-group, in-two}}
 use Rattle.pf_book.proofs.Calling.{wants-may}
 use Rattle.pf_view.proofs.Prefixes.{prefix_whole}
-use Rattle.pf_book.specs.Groups.{Answered as Told, HasReceipts, HaveShown, IsGroupAnswered, replies_of}
+use Rattle.pf_book.specs.Groups.{Answered as Told, AreDueAsAlone, HasReceipts, HaveShown, IsAnsweredAsAlone, IsGroupAnswered, replies_of}
 use Rattle.pf_book.specs.{Books.{log_in, IsMore, IsNumbered, IsTold}, Receipts.{PlainReceipt, EndsIn, ShownFits, token_of, IsAdded, IsGiven, Follows, ShowsNoLess, IsReached, IsLast, IsChangeOf, IsAnswered}}
 
 -- ---- lists
@@ -325,3 +325,9 @@ module _ (base : PlainDurable) (setting : Setting) (old new : WorldBook) (comman
         follows = subst (λ (gs : List (List PlainChange)). Follows last (log_of h) (length (flat gs))) at.acked (subst (λ (l : List PlainChange). Follows last l (length (flat old.acked))) (log-at h old at) follows);
         shows = subst (ShowsNoLess last) at.shown shows;
       }
+
+  -- the same where its commands are due what they are due one by one
+  pub group-as-alone : (last : Option PlainReceipt) → ((h : CurrentOpening) → IsAt h old → HasReceipts h (log_in new) commands answers) → HaveShown t.shown answers → Follows last (log_in old) (length (flat old.acked)) → ShowsNoLess last old.shown
+      → ((h : CurrentOpening) → IsAt h old → AreDueAsAlone h commands answers) → IsAnsweredAsAlone base setting commands answers last
+  unfolding group-answered
+  group-as-alone last receipts shown follows shows alone = record { group = group-answered last receipts shown follows shows; in_turn = alone reached.stands.held reached.stands.at }

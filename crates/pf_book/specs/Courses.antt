@@ -1,9 +1,9 @@
 -- What the commands of a group come to, one after the other, before anything is kept.
-use Rattle.std.specs.{Prelude.{◌≡◌, ◌≢◌, ℕ, ◌+◌, ◌≤◌, List, [], ◌∷◌, ◌++◌, length, true, Option, None, Some, Result, Ok, Err}, List.list_all}
+use Rattle.std.specs.{Prelude.{◌≡◌, ◌≢◌, ℕ, ◌+◌, ◌≤◌, List, [], ◌∷◌, ◌++◌, length, true, ⊤, Option, None, Some, Result, Ok, Err}, List.list_all}
 use Rattle.pf_core.specs.declared.{command.Command.Command, reply.Refusal.Refusal, reply.Refusal.TheVariants.Memory, reply.Reply.Reply, step.ReadyStep.ReadyStep}
 use Rattle.pf_core.specs.declared.step.ReadyStep.TheVariants as made
-use Rattle.pf_core.specs.{Durable.Changes.{PlainDurable, PlainChange}, Nexts.{PlainNext, next_with}, Cores.{PlainCore, plain}, Worlds.{CurrentOpening, changes_due, changes_of, durable_of, flat, log_of, replies_due, reply_to}}
-use Rattle.pf_store.specs.{Groups.{can_be_wanted, made_all}, Stores.FollowInTurn}
+use Rattle.pf_core.specs.{Commands.group_words, Durable.Changes.{PlainDurable, PlainChange, applied}, WorldBooks.WorldBook, Nexts.{PlainNext, next_with}, Cores.{PlainCore, plain}, Worlds.{CurrentOpening, changes_due, changes_of, durable_of, flat, log_of, replies_due, reply_to}}
+use Rattle.pf_store.specs.{Groups.{can_be_wanted, made_all}, Stores.{FindsRoom, FollowInTurn}}
 use Rattle.pf_book.specs.Books.{left_together}
 
 -- in this opening nothing is pending, the core is `w`, and `acked` changes were acknowledged
@@ -45,3 +45,21 @@ pub record IsCourseOf (w : PlainCore) (acked : ℕ) (commands : List Command) (d
   pub fit : FollowInTurn w.durable (made_all es)
   pub wanted : list_all can_be_wanted es ≡ true
   pub few : length es ≤ length commands
+
+-- A group may begin: nothing is pending, and its commands are as many, and of such kinds, as a group may have. This is what they come to.
+pub record IsPlanned (b : WorldBook) (commands : List Command) (due : List Reply) (es : List PlainChange) (left : Option PlainNext) : Type 0 where
+  pub none : b.pending ≡ []
+  pub words : group_words commands ≡ Ok tt
+  pub course : IsCourseOf b.whole (length (flat b.acked)) commands due es left
+
+-- ---- each change by itself
+
+-- the change that a step wants, if any, finds room by itself in banks of `size` bytes
+abbrev pub StepFindsRoom : (size : ℕ) → PlainDurable → Result ReadyStep Refusal → Type 0
+StepFindsRoom size d (Ok (made.Wants e n o)) = FindsRoom size d n.durable (e ∷ [])
+StepFindsRoom size d step = ⊤
+
+-- and so does each of these changes, after those before it
+abbrev pub FindRoomEach : (size : ℕ) → PlainDurable → List PlainChange → Type 0
+FindRoomEach size d [] = ⊤
+FindRoomEach size d (e ∷ es) = FindsRoom size d (applied d e) (e ∷ []) × FindRoomEach size (applied d e) es

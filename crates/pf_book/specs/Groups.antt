@@ -1,8 +1,10 @@
 -- What the receipts of a group say, and what a group is answered under the lock.
-use Rattle.std.specs.Prelude.{◌≡◌, ℕ, List, [], ◌∷◌, ◌++◌, length, slice_get, map, All, Vec, ⊤, Option, Result, Ok, Err}
+use Rattle.std.specs.Prelude.{◌≡◌, ◌⊎◌, ℕ, List, [], ◌∷◌, ◌++◌, length, slice_get, map, nat_lt, All, Vec, ⊤, Option, Result, Ok, Err}
 use Rattle.std.specs.declared.alloc.Global.{Global}
 use Rattle.pf_core.specs.declared.{command.Command.Command, reply.Refusal.Refusal, reply.Reply.Reply}
-use Rattle.pf_core.specs.{Durable.Changes.{PlainDurable, PlainChange}, Worlds.{Setting, CurrentOpening, Upshot, Event, up, down, called_group, flat, log_of, amid, changes_of, changes_with, step_in, heard_group, state_after, IsWorld}}
+use Rattle.pf_core.specs.{Durable.Changes.{PlainDurable, PlainChange}, Laws.Groups.{AreInTurn, dues_one_by_one}, WorldBooks.{IsAt, LeadsGroup}, Worlds.{Setting, CurrentOpening, Upshot, upshot, grouping, Event, up, down, called_group, flat, log_of, amid, as_stored, changes_of, changes_with, step_in, heard_group, state_after, IsWorld}}
+use Rattle.pf_disk.specs.declared.disk.Disk.{Ghosts}
+use Rattle.pf_book.specs.Books.{IsLeft, KeepsOpening, PlainBook, StaysUnlessAnyKept, UsesDevice, is_fault_result, log_in, world_book}
 use Rattle.pf_book.specs.Receipts.{PlainReceipt, token_of, Follows, ShowsNoLess}
 
 -- a reply with its receipt
@@ -44,6 +46,27 @@ abbrev pub told : {X : Type 0} → Result (Vec X Global) Refusal → Result (Lis
 told (Ok answers) = Ok answers.items
 told (Err e) = Err e
 
+-- What a Book answers a group, each reply with its receipt, and what that leaves of the Book and of its device.
+pub record IsGroupOf {D : Type 0} (device : Ghosts D) (old new : PlainBook D) (commands : List Command) (result : Result (List Answered) Refusal) : Type 0 where
+  pub leads : (h : CurrentOpening) → IsAt h (world_book old)
+      → LeadsGroup h (world_book new) commands (replies_of result) (upshot new.shown (nat_lt (device.fault_count old.disk) (device.fault_count new.disk)))
+  -- at each moment of it an image holds what some crash within it leaves of the opening
+  pub uses : UsesDevice device (is_fault_result result) old new (IsLeft (world_book old) (grouping commands))
+  pub receipts : (h : CurrentOpening) → IsAt h (world_book old) → HasReceipts h (log_in (world_book new)) commands result
+  pub shown : HaveShown new.shown result
+  pub stays : StaysUnlessAnyKept (replies_of result) old new
+  pub opening : KeepsOpening old new
+
+-- If the group was kept, its commands were due the replies that they would have been due one by one.
+abbrev pub AreDueAsAlone : CurrentOpening → List Command → Result (List Answered) Refusal → Type 0
+AreDueAsAlone h commands (Ok answers) = AreInTurn h commands
+AreDueAsAlone h commands (Err e) = ⊤
+
+-- Such a group, in which each command got the reply that it would have got by itself after those before it.
+pub record IsGroupAsAlone {D : Type 0} (device : Ghosts D) (old new : PlainBook D) (commands : List Command) (result : Result (List Answered) Refusal) : Type 0 where
+  pub group : IsGroupOf device old new commands result
+  pub in_turn : (h : CurrentOpening) → IsAt h (world_book old) → AreDueAsAlone h commands result
+
 -- What a group under the lock is answered, each reply with its receipt, or refused whole; the caller may have handed in a receipt. There is
 -- a world whose last event is this group.
 pub record IsGroupAnswered (base : PlainDurable) (setting : Setting) (commands : List Command) (result : Result (List Answered) Refusal) (last : Option PlainReceipt) : Type 0 where
@@ -62,3 +85,13 @@ pub record IsGroupAnswered (base : PlainDurable) (setting : Setting) (commands :
   pub follows : Follows last (log_of before) (length (flat before.acked))
   -- before the group no fewer changes were shown than that receipt says
   pub shows : ShowsNoLess last before.shown
+
+-- The same of a group in which each command got the reply that it would have got by itself after those before it.
+pub record IsAnsweredAsAlone (base : PlainDurable) (setting : Setting) (commands : List Command) (result : Result (List Answered) Refusal) (last : Option PlainReceipt) : Type 0 where
+  pub group : IsGroupAnswered base setting commands result last
+  pub in_turn : AreDueAsAlone group.before commands result
+
+-- These are the replies that the commands are due one by one, each in a call of its own; or all of these, if out of memory for showing, with
+-- `Stored` in place of `Applied`.
+abbrev pub AreAsAlone : CurrentOpening → List Command → List Reply → Type 0
+AreAsAlone h commands replies = (replies ≡ dues_one_by_one h commands) ⊎ (replies ≡ map as_stored (dues_one_by_one h commands))

@@ -1,7 +1,7 @@
 -- What a command is answered that may be run in one group with those of other callers.
 use Rattle.std.specs.Prelude.{◌≡◌, ◌⊎◌, List, ◌∷◌, ◌++◌, length, Option, Result, Ok, Err}
 use Rattle.pf_core.specs.declared.{command.Command.Command, reply.Refusal.TheVariants.Fault, reply.Reply.Reply}
-use Rattle.pf_core.specs.{Durable.Changes.PlainDurable, Worlds.Setting}
+use Rattle.pf_core.specs.{Durable.Changes.PlainDurable, Laws.Groups.AreInTurn, Worlds.Setting}
 use Rattle.pf_book.specs.{Groups.{Answered, IsGroupAnswered}, Receipts.{PlainReceipt, IsAnswered}}
 
 -- a command, and the receipt that its caller hands in, if it has one
@@ -13,8 +13,8 @@ pub record PlainAsked : Type 0 where
 abbrev pub Told : Type 0
 Told = Result Answered (Option PlainReceipt)
 
--- The Book ran a group that had the command behind these earlier ones, and this is what it was answered at its place. The other commands
--- are those of other callers. The receipt that the command's caller handed in is taken up where the group began.
+-- The Book ran a group that had the command behind these earlier ones, and this is what it was answered at its place: the reply that it would
+-- have got by itself after them. The other commands are those of other callers. The receipt that the command's caller handed in is taken up where the group began.
 pub record IsAnsweredAmong (base : PlainDurable) (setting : Setting) (c : Command) (r : Reply) (slip : PlainReceipt) (last : Option PlainReceipt) : Type 0 where
   pub earlier : List Command
   pub later : List Command
@@ -22,6 +22,7 @@ pub record IsAnsweredAmong (base : PlainDurable) (setting : Setting) (c : Comman
   pub told : List Answered
   pub others : List Answered
   pub group : IsGroupAnswered base setting (earlier ++ c ∷ later) (Ok (told ++ (r, slip) ∷ others)) last
+  pub in_turn : AreInTurn group.before (earlier ++ c ∷ later)
   pub place : length told ≡ length earlier
 
 -- The device failed in a group that had the command. The changes of the group stand in the history, not acknowledged. It has no receipt.

@@ -1,5 +1,5 @@
 //! What follows from the definitions alone, whoever made the values: of receipts, and of openings after crashes.
-ghost use Rattle.std.specs.Prelude.{◌≡◌, ◌⊎◌, ◌^◌, ◌<◌, ◌≤◌, ◌++◌, ◌∷◌, [], ℕ, Bool, All, List, length, Ok, Option, Some};
+ghost use Rattle.std.specs.Prelude.{◌≡◌, ◌⊎◌, ◌^◌, ◌<◌, ◌≤◌, ◌++◌, ◌∷◌, [], ℕ, Bool, All, List, length, map, Ok, Option, Some};
 ghost use Rattle.std.specs.List.{AllPairs};
 ghost use mathlib.Core.List.{IsPrefix};
 ghost use Rattle.pf_disk.specs.Disk.{IsImage};
@@ -7,7 +7,7 @@ ghost use Rattle.pf_core.specs.declared.{command.Command.Command, reply.Outcome.
 ghost use Rattle.pf_core.specs.{Durable.Changes.{PlainDurable, PlainChange}, WorldBooks.{WorldBook, IsAt, IsFolded, StandsFor}, Worlds.{Setting, CurrentOpening, Doing, Event, crashed, opened, begun, raised, last_epoch, refused_opening, up, down, state_after, IsWorld}};
 ghost use Rattle.pf_store.specs.declared.store.fault.{OpenFault.OpenFault, OpenFault.TheVariants.{Memory, Fault, EpochsExhausted}};
 ghost use Rattle.pf_store.specs.{Openings.{IsNoLaterThan, IsOfOpening, IsUnopened, LeavesRoom}, Stores.{Holds, IsRoomy}};
-ghost use Rattle.pf_book.specs.{Books.HoldsLeft, Groups.{Answered, IsGroupAnswered}, Receipts.{PlainReceipt, ComesAfter, IsAnswered, IsNumberOf}};
+ghost use Rattle.pf_book.specs.{Books.HoldsLeft, Groups.{Answered, AreAsAlone, IsAnsweredAsAlone, IsGroupAnswered}, Receipts.{PlainReceipt, ComesAfter, IsAnswered, IsNumberOf}};
 
 /// The receipt that a caller hands in and the one that it gets: the front of the first begins that of the second, and has fewer changes if
 /// the call made one; at the second one's reply at least as many changes are acknowledged as at the first one's, and at least as many are
@@ -29,7 +29,8 @@ pub fn receipts()
 {}
 
 /// The same of a group, if it isn't refused whole. Its receipts come one after the other, each of them after the receipt that the caller
-/// hands in. A reply's number is that of its receipt, and so many changes are acknowledged then.
+/// hands in. A reply's number is that of its receipt, and so many changes are acknowledged then. Where each gets what it gets alone, the
+/// replies are those that the commands are due in calls of their own, one by one, or all of them `Stored` in place of `Applied`.
 pub fn group_receipts()
     ensures after { (base : PlainDurable) (setting : Setting) (commands : List Command) (answers : List Answered) (last : PlainReceipt)
         → IsGroupAnswered base setting commands (Ok answers) (Some last) → All (λ a. ComesAfter last a.1) answers }
@@ -37,6 +38,8 @@ pub fn group_receipts()
         → IsGroupAnswered base setting commands (Ok answers) last → AllPairs (λ a b. ComesAfter a.1 b.1) answers }
     ensures numbered { (base : PlainDurable) (setting : Setting) (commands : List Command) (answers : List Answered) (last : Option PlainReceipt)
         → IsGroupAnswered base setting commands (Ok answers) last → All (λ a. IsNumberOf a.0 a.1) answers }
+    ensures alone { (base : PlainDurable) (setting : Setting) (commands : List Command) (answers : List Answered) (last : Option PlainReceipt)
+        → (a : IsAnsweredAsAlone base setting commands (Ok answers) last) → AreAsAlone a.group.before commands (map (λ a. a.0) answers) }
 {}
 
 /// Whatever image a crash leaves, within a call or between two: what an opening of that image gives stands for the world with the crash and

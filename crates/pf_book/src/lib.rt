@@ -23,11 +23,11 @@
 //!
 //! Proved, by public contracts: every reply is legal, and the Book stands for the world with the call at its end; at each moment of a call
 //! an image of the device holds what some crash within the call leaves ([`Book::run`], [`Book::group`]); each receipt's front begins the
-//! later history ([`Shared::run`], [`Shared::run_together`], [`Shared::group`], [`Book::confirm`]), and so does what a seer saw and learnt ([`Book::covers`]); after
-//! `Applied` a worker that has the receipt judges by that change and all before it ([`judge_after`]); and an opening of any image that a
-//! crash leaves goes on with the same world ([`Opening::open`], `laws::crashes_are_opened`). Not proved is that no run meets
-//! `OpenFault::Places` or `Gone`. The crate has no tests. Only tests of other crates show that memory runs out only if a growth was
-//! refused.
+//! later history ([`Shared::run`], [`Shared::run_together`], [`Shared::group`], [`Shared::group_as_alone`], [`Book::confirm`]), and so does
+//! what a seer saw and learnt ([`Book::covers`]); after `Applied` a worker that has the receipt judges by that change and all before it
+//! ([`judge_after`]); and an opening of any image that a crash leaves goes on with the same world ([`Opening::open`],
+//! `laws::crashes_are_opened`). Not proved is that no run meets `OpenFault::Places` or `Gone`. The crate has no tests. Only tests of other
+//! crates show that memory runs out only if a growth was refused.
 //!
 //! What its users need of the devices and of the store is exported again: [`MemDisk`], [`FileDisk`], [`FuseDisk`], [`format`], and
 //! [`Store`] for its `peek`.

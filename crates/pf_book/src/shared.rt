@@ -1,8 +1,8 @@
 //! A Book that threads share.
-ghost use Rattle.std.specs.{Option.option_copied, Prelude.{◌≡◌, ℕ, List, Option, nat_lt}};
+ghost use Rattle.std.specs.{Option.option_copied, Prelude.{◌≡◌, ℕ, IfSome, List, None, Option, nat_lt}};
 ghost use Rattle.pf_disk.specs.Disk.{IsImage};
-ghost use Rattle.pf_core.specs.{Calls.call, WorldBooks.{IsAt, Leads, LeadsGroup}, Worlds.{CurrentOpening, idle, calling, grouping, upshot}};
-ghost use Rattle.pf_book.specs.{Anchors.{SaysAnchors, listed_in}, Books.{HoldsLeft, IsLeft, IsOpenable, StaysUnlessAnyKept, StaysUnlessKept, UsesDevice, is_fault_reply, is_fault_result, world_book}, Groups.{IsGroupAnswered, replies_of, told}, Receipts.{IsReached, IsAnswered, TakesUp, PlainReceipt}, Statuses.SaysStatus, Together.IsAnsweredTogether};
+ghost use Rattle.pf_core.specs.{Calls.call, WorldBooks.{IsAt, Leads}, Worlds.{CurrentOpening, idle, calling, upshot}};
+ghost use Rattle.pf_book.specs.{Anchors.{SaysAnchors, listed_in}, Books.{HoldsLeft, IsLeft, IsOpenable, StaysUnlessKept, UsesDevice, is_fault_reply, world_book}, Groups.{IsAnsweredAsAlone, IsGroupAnswered, IsGroupAsAlone, IsGroupOf, told}, Receipts.{IsReached, IsAnswered, TakesUp, PlainReceipt}, Statuses.SaysStatus, Together.IsAnsweredTogether};
 
 mod together;
 
@@ -51,38 +51,48 @@ impl<D: Disk + Drop, J: Chapter, S: Publisher<J> + Drop> Locked<D, J, S> {
         answer
     }
 
-    // One group. At each moment of it an image of the device holds what some crash within it leaves of the opening.
+    // One group.
     fn group(
         &mut self,
         commands: &[Command],
         last: Option<&Receipt<J>>,
     ) -> Result<Vec<(Reply, Receipt<J>)>, Refusal>
         ensures answered { IsGroupAnswered J.base J.setting commands.now (told result) (option_copied last.entry) }
-        ensures leads { (h : CurrentOpening) → IsAt h (world_book self.old) → LeadsGroup h (world_book self.new) commands.now (replies_of (told result))
-            (upshot self.new.shown (nat_lt (D.fault_count self.old.disk) (D.fault_count self.new.disk))) }
-        ensures device { UsesDevice D.Disk (is_fault_result result) self.old self.new
-            (IsLeft (world_book self.old) (grouping commands.now)) }
-        ensures stays { StaysUnlessAnyKept (replies_of (told result)) self.old self.new }
+        ensures group { IsGroupOf D.Disk self.old self.new commands.now (told result) }
     {
         let answers = self.book.answer_all(commands, last);
         self.book.between_calls();
         answers
     }
 
-    // One group for several callers, each of which may have handed in a receipt. At each moment of it an image of the device holds what
-    // some crash within it leaves of the opening.
-    fn group_for_all(&mut self, commands: &[Command]) -> Result<Vec<(Reply, Receipt<J>)>, Refusal>
-        ensures answered { (last : Option PlainReceipt) → TakesUp last (world_book self.old)
-            → IsGroupAnswered J.base J.setting commands.now (told result) last }
-        ensures leads { (h : CurrentOpening) → IsAt h (world_book self.old) → LeadsGroup h (world_book self.new) commands.now (replies_of (told result))
-            (upshot self.new.shown (nat_lt (D.fault_count self.old.disk) (D.fault_count self.new.disk))) }
-        ensures device { UsesDevice D.Disk (is_fault_result result) self.old self.new
-            (IsLeft (world_book self.old) (grouping commands.now)) }
-        ensures stays { StaysUnlessAnyKept (replies_of (told result)) self.old self.new }
+    // One group, perhaps of several callers, each of which may have handed in a receipt, if each command gets the reply that it would get
+    // by itself after those before it. `None`: nothing was done.
+    fn group_as_alone(
+        &mut self,
+        commands: &[Command],
+    ) -> Option<Result<Vec<(Reply, Receipt<J>)>, Refusal>>
+        ensures answered { IfSome result (λ r. (last : Option PlainReceipt) → TakesUp last (world_book self.old)
+            → IsAnsweredAsAlone J.base J.setting commands.now (told r) last) }
+        ensures group { IfSome result (λ r. IsGroupAsAlone D.Disk self.old self.new commands.now (told r)) }
+        ensures none { (result ≡ None) → self.new ≡ self.old }
     {
-        let answers = self.book.answer_each(commands);
+        let Some(answers) = self.book.answer_as_alone(commands) else {
+            return None;
+        };
         self.book.between_calls();
-        answers
+        Some(answers)
+    }
+
+    // The same for one caller.
+    fn group_as_alone_after(
+        &mut self,
+        commands: &[Command],
+        last: Option<&Receipt<J>>,
+    ) -> Option<Result<Vec<(Reply, Receipt<J>)>, Refusal>>
+        ensures { IfSome result (λ r. IsAnsweredAsAlone J.base J.setting commands.now (told r) (option_copied last.entry)) }
+    {
+        self.book.look_at(last);
+        self.group_as_alone(commands)
     }
 
     // What the Book says of itself.
@@ -186,6 +196,23 @@ impl<D: Disk + Drop, J: Chapter + Numbering, S: Publisher<J> + Drop> Shared<D, J
     {
         let turn = self.queue.come(rt);
         let answers = self.queue.value(rt).group(commands, last);
+        self.queue.end(rt, turn);
+        answers
+    }
+
+    /// A group of commands, as [`group`](Self::group) runs it, if each of them gets the reply that it would get by itself after those before
+    /// it. `None`: a change finds no room by itself where they would all find it together. Then nothing was done, and the commands are to be
+    /// run one by one.
+    pub fn group_as_alone<W: Wait>(
+        &self,
+        rt: &W,
+        commands: &[Command],
+        last: Option<&Receipt<J>>,
+    ) -> Option<Result<Vec<(Reply, Receipt<J>)>, Refusal>>
+        ensures { IfSome result (λ r. IsAnsweredAsAlone J.base J.setting commands.now (told r) (option_copied last.entry)) }
+    {
+        let turn = self.queue.come(rt);
+        let answers = self.queue.value(rt).group_as_alone_after(commands, last);
         self.queue.end(rt, turn);
         answers
     }

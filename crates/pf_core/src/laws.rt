@@ -4,7 +4,7 @@ ghost use Rattle.pf_core.specs.declared.group.TheConstants.{GROUP_LIMIT};
 ghost use Rattle.pf_core.specs.Worlds.{last_epoch};
 ghost use Rattle.pf_core.specs.Laws.Commands.{LeaveTheOtherKind, WantsWhatFits, SwitchesAll, VoidsTheNamed, KeepsNoneValid};
 ghost use Rattle.pf_core.specs.Laws.Commands.{LeavesTheOthers, MentionsTheNamed, RefusedMentionNothing, TrackMakesOne};
-ghost use Rattle.pf_core.specs.Laws.Groups.{GroupsAreInTurn};
+ghost use Rattle.pf_core.specs.Laws.Groups.{GroupsAreInTurn, RoomyGroupsAreInTurn};
 ghost use Rattle.pf_core.specs.Laws.Openings.{VoidsTickets, KeepsWhole, GivesAllThatWasKept, GivesTheFold, KeepsAcknowledged, KeepsSeen};
 ghost use Rattle.pf_core.specs.Laws.Openings.{KeepsLearnt, RaisesTheEpoch, CrashesAreEvents};
 ghost use Rattle.pf_core.specs.Laws.Worlds.{TicketsAreOfTheCalls, GivesEachOnce, TickNeverGoesBack, KeepsTheLimits, CommitsNameOnce};
@@ -129,10 +129,12 @@ pub fn worlds()
 {}
 
 /// A group's commands are due the replies that they would be due one by one, if each of these finds room. What they want is then what these
-/// calls would keep, and the tickets are those that these calls would leave.
-#[tactic(auto, using(crate::proofs::InTurn::groups_are_in_turn))]
+/// calls would keep, and the tickets are those that these calls would leave. The same if each change that the group wants finds room in a
+/// group of its own, after those before it.
+#[tactic(auto, using(crate::proofs::InTurn::groups_are_in_turn, crate::proofs::InTurn::roomy_groups_are_in_turn))]
 pub fn groups_are_in_turn()
-    ensures { GroupsAreInTurn }
+    ensures due { GroupsAreInTurn }
+    ensures roomy { RoomyGroupsAreInTurn }
 {}
 
 /// Whatever a crash may leave of an opening, within a command or between two, is what is held after a world that ends in that crash.

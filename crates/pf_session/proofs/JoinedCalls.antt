@@ -9,7 +9,7 @@ use Rattle.pf_session.specs.Server.Sittings.{IsAnsweredInTurn, IsCommandRun, Kee
 module _ (base : PlainDurable) (setting : Setting) (c : Command) where
   in-turn : (last : Option PlainReceipt) (a : Receipted) → IsAnsweredTogether base setting (record { command = c; last = last }) (Ok a) → IsAnsweredInTurn base setting c a.0 a.1 last
   in-turn last a (inl alone) = inl alone
-  in-turn last a (inr at) = inr (record { earlier = at.earlier; later = at.later; told = at.told; others = at.others; handed = last; group = at.group; place = at.place; last_is = inl refl })
+  in-turn last a (inr at) = inr (record { earlier = at.earlier; later = at.later; told = at.told; others = at.others; handed = last; group = at.group; in_turn = at.in_turn; place = at.place; last_is = inl refl })
 
   -- the session handed its receipt in, and keeps the one that it got
   pub joined-told : (old new : Sitting) (a : Receipted) (left : Option PlainReceipt) → IsAnsweredTogether base setting (record { command = c; last = old.last }) (Ok a)

@@ -6,7 +6,7 @@ use Rattle.pf_core.specs.declared.{command.Command.Command, command.Command.TheV
 use Rattle.pf_core.specs.{Commands.may_be_grouped, Durable.Changes.PlainDurable, Worlds.{Setting, log_of, heard_group}}
 use Rattle.pf_rule.specs.Packets.{PlainPacket}
 use Rattle.pf_line.specs.{declared.{request.Request.Request, request.Request.TheVariants.Run}, Grammar.Spoken, Lines.{Means, Parses, line_at}, Reply.Replies.reply_text}
-use Rattle.pf_book.specs.{Groups.{Answered as Receipted, IsGroupAnswered, replies_of}, Receipts.PlainReceipt}
+use Rattle.pf_book.specs.{Groups.{Answered as Receipted, IsAnsweredAsAlone, IsGroupAnswered, replies_of}, Receipts.PlainReceipt}
 use Rattle.pf_session.specs.declared.server.session.Session.{Session}
 use Rattle.pf_session.specs.{LineEngine.{Chains.Chain, Lines.seen, Sessions.{Answered, CutOff}}, Server.{Sittings.{IsAnsweredInGroup, Keeps, RunsBy, Sitting, at_next_line, next_line, packet_in}, SessionRuns.{AreMeant, HavePassed, IsMeant, IsSame, TakesInSession, sitting}, Streams.last_receipt}}
 use Rattle.pf_session.specs.Laws.Seeing.{seen-says}
@@ -193,8 +193,8 @@ module _ {C J G : Type 0} (passed : G → ℕ → ℕ → Type 0) (base : PlainD
     pub way : IsUnderWay lines later start now held held'
 
   pub telling-begun : (lines : List (List ℕ)) (commands : List Command) (answers : List Receipted) (start : Session C J G) (held : Option (List ℕ)) → AreMeant lines commands
-      → HavePassed (passed start.gate.now start.number) start.line (length commands) → IsGroupAnswered base setting commands (Ok answers) start.last.now → IsTelling lines commands [] answers start start held held
-  telling-begun lines commands answers start held meant gates group = record {
+      → HavePassed (passed start.gate.now start.number) start.line (length commands) → IsAnsweredAsAlone base setting commands (Ok answers) start.last.now → IsTelling lines commands [] answers start start held held
+  telling-begun lines commands answers start held meant gates alone = let group = alone.group in record {
     earlier = [];
     later = commands;
     split = refl;
@@ -211,10 +211,13 @@ module _ {C J G : Type 0} (passed : G → ℕ → ℕ → Type 0) (base : PlainD
     by (c ∷ later) is way = absurd (omega (arith, is))
 
   module _ {lines : List (List ℕ)} {commands : List Command} {told : List Receipted} (answer : Receipted) (left : List Receipted) {start a : Session C J G} {h i : Option (List ℕ)}
-      (group : IsGroupAnswered base setting commands (Ok (told ++ answer ∷ left)) start.last.now) (t : IsTelling lines commands told (answer ∷ left) start a h i) (b : Session C J G) (n : ℕ) (is : n ≡ next_line a.line)
+      (group : IsAnsweredAsAlone base setting commands (Ok (told ++ answer ∷ left)) start.last.now) (t : IsTelling lines commands told (answer ∷ left) start a h i) (b : Session C J G) (n : ℕ) (is : n ≡ next_line a.line)
       (same : IsSame (record a { line = n }) b) (keeps : Keeps answer.1 (record (sitting a) { line = n }) (sitting b)) where
     asks : IsAsked t.later left
     asks = asked-first t.later answer left t.rest
+
+    whole : IsAnsweredAsAlone base setting (t.earlier ++ asks.c ∷ asks.rest) (Ok (told ++ answer ∷ left)) start.last.now
+    whole = subst (λ (cs : List Command). IsAnsweredAsAlone base setting cs (Ok (told ++ answer ∷ left)) start.last.now) (t.split ∙ ap (λ (cs : List Command). t.earlier ++ cs) asks.is) group
 
     placed : IsAnsweredInGroup base setting asks.c answer.0 answer.1 a.last.now
     placed = record {
@@ -223,7 +226,8 @@ module _ {C J G : Type 0} (passed : G → ℕ → ℕ → Type 0) (base : PlainD
       told = told;
       others = left;
       handed = start.last.now;
-      group = subst (λ (cs : List Command). IsGroupAnswered base setting cs (Ok (told ++ answer ∷ left)) start.last.now) (t.split ∙ ap (λ (cs : List Command). t.earlier ++ cs) asks.is) group;
+      group = whole.group;
+      in_turn = whole.in_turn;
       place = t.place;
       last_is = inr t.last;
     }

@@ -1,10 +1,11 @@
 //! Groups of commands, whose changes are kept together.
-ghost use Rattle.std.specs.{Arc.arc_value, List.list_all, Prelude.{◌≡◌, ◌+◌, ◌≤◌, ◌++◌, ◌∷◌, [], ℕ, List, Ok, true, false, IfOk, IfErr, OnOk, length, map, take, nat_lt, fold}};
+ghost use Rattle.std.specs.{Arc.arc_value, List.list_all, Prelude.{◌≡◌, ◌+◌, ◌≤◌, ◌↔◌, ◌++◌, ◌∷◌, [], ℕ, List, Ok, Err, true, false, IfOk, IfErr, IsTrue, OnOk, length, map, take, nat_lt, fold}};
 ghost use Rattle.pf_disk.specs.Disk.{IsImage};
 ghost use Rattle.pf_core.specs.Refusing.{and_then, unless};
 ghost use Rattle.pf_core.specs.declared.reply.Refusal.TheVariants as told;
-ghost use Rattle.pf_core.specs.{Calls.replies_in, Commands.group_words, Durable.Changes.{PlainDurable, after}, WorldBooks.{IsAt, StandsFor, LeadsGroup}, Worlds.{CurrentOpening, idle, grouping, upshot, Event, called_group, changes_due, is_fault, is_halted, flat, LegalReplies, shown_by}};
+ghost use Rattle.pf_core.specs.{Calls.replies_in, Commands.group_words, Durable.Changes.{PlainDurable, after}, WorldBooks.{IsAt, IsFolded, StandsFor, LeadsGroup}, Worlds.{CurrentOpening, idle, grouping, upshot, Event, called_group, changes_due, is_fault, is_halted, flat, LegalReplies, shown_by}};
 ghost use Rattle.pf_store.specs.{Groups.{can_be_wanted, is_group, made_all}, Stores.{FollowInTurn, HoldsEither}};
+ghost use Rattle.pf_book.specs.Courses.{FindRoomEach, IsPlanned};
 ghost use Rattle.pf_book.specs.Books.{world_book, HoldsLeft, left_together, listed, replied, IsMore, IsUnkept, AreMade, AreNumbered, IsLeft, KeepsOpening, StaysUnlessAnyKept, UsesDevice, is_fault_result};
 
 use crate::book::Book;
@@ -79,7 +80,7 @@ impl<D: Disk + Drop, J: Chapter, S: Publisher<J> + Drop> Book<D, J, S> {
     }
 
     // Whether a group may begin: none is pending, and the number and the kinds of its commands are allowed.
-    pub(super) fn check_all(&self, commands: &[Command]) -> Result<(), Refusal>
+    fn check_all(&self, commands: &[Command]) -> Result<(), Refusal>
         ensures { result ≡ and_then (unless (is_halted self.now.pending) told.Halted) (group_words commands.now) }
     {
         if self.acked < self.log.len() {
@@ -88,11 +89,36 @@ impl<D: Disk + Drop, J: Chapter, S: Publisher<J> + Drop> Book<D, J, S> {
         check_group(commands)
     }
 
-    // A group of commands, whatever came before it in the opening. Returns its changes too, if they were kept.
-    pub(super) fn call_all(
+    // What a group of commands comes to, before anything is kept; or its refusal.
+    pub(super) fn plan(&mut self, commands: &[Command]) -> Result<Course, Refusal>
+        ensures planned { IfOk result (λ c. IsPlanned (world_book self.old) commands.now c.replies.items c.changes.items c.next) }
+        ensures each { IfOk result (λ c. IsTrue c.each_has_room ↔ FindRoomEach self.old.size self.old.whole.durable c.changes.items) }
+        ensures refused { IfErr result (λ e. (h : CurrentOpening) → IsAt h (world_book self.old)
+            → LeadsGroup h (world_book self.old) commands.now (Err e) (upshot self.old.shown false)) }
+        ensures calm { IfErr result (λ e. is_fault e ≡ false) }
+        ensures device { UsesDevice D.Disk false self.old self.old (IsLeft (world_book self.old) (grouping commands.now)) }
+        ensures folded { IsFolded (world_book self.old) }
+        ensures same { self.new ≡ self.old }
+    {
+        self.check_all(commands)?;
+        let course = course_of(
+            self.alloc,
+            &self.store,
+            &mut self.core,
+            self.acked,
+            commands,
+        )?;
+        Ok(course)
+    }
+
+    // Keeps the changes that a group comes to, if there are any, and shows them. Returns them too, if they were kept. Its commands are only
+    // spoken of.
+    pub(super) fn finish(
         &mut self,
         commands: &[Command],
+        course: Course,
     ) -> Result<(Vec<Reply>, Vec<Arc<Change>>), Refusal>
+        requires { IsPlanned (world_book self.old) commands.now course.replies.items course.changes.items course.next }
         ensures leads { (h : CurrentOpening) → IsAt h (world_book self.old) → LeadsGroup h (world_book self.new) commands.now (replied result)
             (upshot self.new.shown (nat_lt (D.fault_count self.old.disk) (D.fault_count self.new.disk))) }
         ensures given { IfOk result (λ r. (h : CurrentOpening) → IsAt h (world_book self.old) → map arc_value r.1.items ≡ changes_due h [] commands.now) }
@@ -100,15 +126,30 @@ impl<D: Disk + Drop, J: Chapter, S: Publisher<J> + Drop> Book<D, J, S> {
         ensures opening { KeepsOpening self.old self.new }
         ensures stays { StaysUnlessAnyKept (replied result) self.old self.new }
     {
-        self.check_all(commands)?;
+        let alloc = self.alloc;
         let Course {
             replies,
             changes,
             next,
-        } = course_of(self.alloc, &mut self.core, self.acked, commands)?;
+            each_has_room: _,
+        } = course;
         match next {
             Some(next) => self.make_all(replies, changes, next),
-            None => Ok((replies, Vec::new(self.alloc))),
+            None => Ok((replies, Vec::new(alloc))),
+        }
+    }
+
+    // A group of commands, whatever came before it in the opening. Returns its changes too, if they were kept.
+    fn call_all(&mut self, commands: &[Command]) -> Result<(Vec<Reply>, Vec<Arc<Change>>), Refusal>
+        ensures leads { (h : CurrentOpening) → IsAt h (world_book self.old) → LeadsGroup h (world_book self.new) commands.now (replied result)
+            (upshot self.new.shown (nat_lt (D.fault_count self.old.disk) (D.fault_count self.new.disk))) }
+        ensures device { UsesDevice D.Disk (is_fault_result result) self.old self.new (IsLeft (world_book self.old) (grouping commands.now)) }
+        ensures opening { KeepsOpening self.old self.new }
+        ensures stays { StaysUnlessAnyKept (replied result) self.old self.new }
+    {
+        match self.plan(commands) {
+            Ok(course) => self.finish(commands, course),
+            Err(refusal) => Err(refusal),
         }
     }
 

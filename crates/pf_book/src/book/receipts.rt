@@ -1,12 +1,13 @@
 //! Replies with their receipts, and what a Book says of receipts.
-ghost use Rattle.std.specs.Prelude.{All, ◌≡◌, ◌<◌, ◌≤◌, ◌↔◌, ◌^◌, [], length, map, take, drop, vec_capacity, IsTrue, nat_lt};
+ghost use Rattle.std.specs.Prelude.{All, ◌≡◌, ◌<◌, ◌≤◌, ◌↔◌, ◌^◌, [], length, map, take, drop, vec_capacity, IfSome, IsTrue, None, nat_lt};
 ghost use Rattle.std.specs.{Arc.arc_value, List.AllByRecursion, Option.{ForSome, option_copied, option_map}, Vec.Iter.into_iter_items};
 ghost use mathlib.Core.List.{IsPrefix};
-ghost use Rattle.pf_core.specs.{Calls.call, WorldBooks.{IsAt, Leads, LeadsGroup}, Worlds.{CurrentOpening, calling, grouping, flat, upshot}};
-ghost use Rattle.pf_book.specs.{Groups.{told, replies_of, HasReceipts, HaveShown}, Pairs.{behind, is_kept, given_to, kept_count, left_behind, paired, slip_at}, Books.{IsLeft, KeepsOpening, StaysUnlessAnyKept, StaysUnlessKept, UsesDevice, is_fault_reply, is_fault_result, world_book, log_in}, Receipts.{token_of, Confirms, EndsIn, TakesUp, IsReceiptOf, ShownFits}};
+ghost use Rattle.pf_core.specs.{Calls.call, WorldBooks.{IsAt, Leads}, Worlds.{CurrentOpening, calling, flat, upshot}};
+ghost use Rattle.pf_book.specs.{Courses.IsPlanned, Groups.{told, IsGroupAsAlone, IsGroupOf}, Pairs.{behind, is_kept, given_to, kept_count, left_behind, paired, slip_at}, Books.{IsLeft, KeepsOpening, StaysUnlessKept, UsesDevice, is_fault_reply, world_book, log_in}, Receipts.{token_of, Confirms, EndsIn, TakesUp, IsReceiptOf, ShownFits}};
 
 use crate::book::Book;
 use crate::chapter::Chapter;
+use crate::course::Course;
 use crate::receipt::Receipt;
 use pf_core::{Change, Command, Refusal, Reply};
 use pf_disk::Disk;
@@ -78,38 +79,49 @@ impl<D: Disk + Drop, J: Chapter, S: Publisher<J> + Drop> Book<D, J, S> {
         commands: &[Command],
         last: Option<&Receipt<J>>,
     ) -> Result<Vec<(Reply, Receipt<J>)>, Refusal>
-        ensures leads { (h : CurrentOpening) → IsAt h (world_book self.old) → LeadsGroup h (world_book self.new) commands.now (replies_of (told result))
-            (upshot self.new.shown (nat_lt (D.fault_count self.old.disk) (D.fault_count self.new.disk))) }
-        ensures device { UsesDevice D.Disk (is_fault_result result) self.old self.new
-            (IsLeft (world_book self.old) (grouping commands.now)) }
-        ensures receipts { (h : CurrentOpening) → IsAt h (world_book self.old) → HasReceipts h (log_in (world_book self.new)) commands.now (told result) }
-        ensures shown { HaveShown self.new.shown (told result) }
-        ensures stays { StaysUnlessAnyKept (replies_of (told result)) self.old self.new }
+        ensures group { IsGroupOf D.Disk self.old self.new commands.now (told result) }
         ensures last { TakesUp (option_copied last.entry) (world_book self.old) }
-        ensures opening { KeepsOpening self.old self.new }
     {
         self.look_at(last);
-        self.answer_each(commands)
+        match self.plan(commands) {
+            Ok(course) => self.answer_course(commands, course),
+            Err(refusal) => Err(refusal),
+        }
     }
 
-    /// The same, with no receipt handed in. The room for the answers is made before any change is.
-    pub(crate) fn answer_each(
+    /// The same, with no receipt handed in, if each command gets the reply that it would get by itself after those before it. `None`: a
+    /// change finds no room by itself, and nothing was done.
+    pub(crate) fn answer_as_alone(
         &mut self,
         commands: &[Command],
-    ) -> Result<Vec<(Reply, Receipt<J>)>, Refusal>
-        ensures leads { (h : CurrentOpening) → IsAt h (world_book self.old) → LeadsGroup h (world_book self.new) commands.now (replies_of (told result))
-            (upshot self.new.shown (nat_lt (D.fault_count self.old.disk) (D.fault_count self.new.disk))) }
-        ensures device { UsesDevice D.Disk (is_fault_result result) self.old self.new
-            (IsLeft (world_book self.old) (grouping commands.now)) }
-        ensures receipts { (h : CurrentOpening) → IsAt h (world_book self.old) → HasReceipts h (log_in (world_book self.new)) commands.now (told result) }
-        ensures shown { HaveShown self.new.shown (told result) }
-        ensures stays { StaysUnlessAnyKept (replies_of (told result)) self.old self.new }
-        ensures opening { KeepsOpening self.old self.new }
+    ) -> Option<Result<Vec<(Reply, Receipt<J>)>, Refusal>>
+        ensures group { IfSome result (λ r. IsGroupAsAlone D.Disk self.old self.new commands.now (told r)) }
+        ensures none { (result ≡ None) → self.new ≡ self.old }
     {
-        self.check_all(commands)?;
+        match self.plan(commands) {
+            Ok(course) => {
+                if course.each_has_room {
+                    Some(self.answer_course(commands, course))
+                } else {
+                    None
+                }
+            }
+            Err(refusal) => Some(Err(refusal)),
+        }
+    }
+
+    // The replies to a group with their receipts, by what it comes to. The room for the answers is made before any change is kept.
+    fn answer_course(
+        &mut self,
+        commands: &[Command],
+        course: Course,
+    ) -> Result<Vec<(Reply, Receipt<J>)>, Refusal>
+        requires { IsPlanned (world_book self.old) commands.now course.replies.items course.changes.items course.next }
+        ensures { IsGroupOf D.Disk self.old self.new commands.now (told result) }
+    {
         let answers = Vec::with_capacity(self.alloc, commands.len())?;
         let before = self.log.len();
-        match self.call_all(commands) {
+        match self.finish(commands, course) {
             Ok((replies, given)) => Ok(self.pair(before, replies, given, answers)),
             Err(refusal) => Err(refusal),
         }

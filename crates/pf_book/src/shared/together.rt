@@ -164,8 +164,8 @@ impl<D: Disk + Drop, J: Chapter, S: Publisher<J> + Drop> RunsTogether for Locked
         Ok(self.run(&command, last.as_ref()))
     }
 
-    // A group that is refused whole is handed back, so that each command gets what it gets alone. After a fault of the device none is tried
-    // alone: its changes may survive.
+    // A group that is refused whole, or in which a change finds no room by itself, is handed back, so that each command gets what it gets
+    // alone. After a fault of the device none is tried alone: its changes may survive.
     fn run_all(&mut self, asked: Vec<Asked<J>>) -> Result<Vec<Given<J>>, Vec<Asked<J>>>
         requires some { 2 ≤ vec_len asked }
         requires few { vec_len asked ≤ 64 }
@@ -184,16 +184,16 @@ impl<D: Disk + Drop, J: Chapter, S: Publisher<J> + Drop> RunsTogether for Locked
         } = room;
         part(asked, &mut commands, &mut lasts);
         self.look_at_each(&lasts);
-        match self.group_for_all(&commands) {
-            Ok(answers) => {
+        match self.group_as_alone(&commands) {
+            Some(Ok(answers)) => {
                 tell_answers(answers, &mut told);
                 Ok(told)
             }
-            Err(Refusal::Fault) => {
+            Some(Err(Refusal::Fault)) => {
                 give_back(lasts, &mut told);
                 Ok(told)
             }
-            Err(_) => {
+            Some(Err(_)) | None => {
                 rejoin(commands, lasts, &mut back);
                 Err(back)
             }

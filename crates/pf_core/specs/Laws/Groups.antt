@@ -1,6 +1,6 @@
 -- What a group of commands comes to, compared with the same commands one by one.
-use Rattle.std.specs.{Prelude.{◌≡◌, Bool, true, false, not, List, [], ◌∷◌, ◌++◌}, List.AllByRecursion}
-use Rattle.pf_core.specs.{declared.{command.Command.Command, reply.Refusal.Refusal, reply.Refusal.TheVariants.HistoryFull, reply.Refusal.TheVariants.Full, reply.Reply.Reply, reply.Reply.TheVariants.Answer, reply.Reply.TheVariants.Applied, reply.Reply.TheVariants.Stored, reply.Reply.TheVariants.Refused}, Calls.call, Commands.may_be_grouped, Worlds.{CurrentOpening, flat, due, amid, changes_due, replies_due, upshot, heard, shown_by}}
+use Rattle.std.specs.{Prelude.{◌≡◌, Bool, true, false, not, List, [], ◌∷◌, ◌++◌, ⊤, Ok}, List.AllByRecursion}
+use Rattle.pf_core.specs.{declared.{command.Command.Command, reply.Refusal.Refusal, reply.Refusal.TheVariants.HistoryFull, reply.Refusal.TheVariants.Full, reply.Reply.Reply, reply.Reply.TheVariants.Answer, reply.Reply.TheVariants.Applied, reply.Reply.TheVariants.Stored, reply.Reply.TheVariants.Refused}, Calls.call, Commands.may_be_grouped, Durable.Changes.PlainChange, Worlds.{CurrentOpening, flat, due, room_for, amid, changes_due, replies_due, upshot, heard, shown_by}}
 
 -- the opening after a command got the reply that it is due
 abbrev pub heard_due : CurrentOpening → Command → CurrentOpening
@@ -36,3 +36,13 @@ pub record AreInTurn (h : CurrentOpening) (commands : List Command) : Type 0 whe
 abbrev pub GroupsAreInTurn : Type 0
 GroupsAreInTurn = (h : CurrentOpening) (commands : List Command) → h.pending ≡ [] → AllByRecursion (λ c. may_be_grouped c ≡ true) commands →
     AllByRecursion (λ r. has_room r ≡ true) (dues_one_by_one h commands) → AreInTurn h commands
+
+-- Each of these changes finds room in a group of its own, after those before it.
+abbrev pub HaveRoomEach : CurrentOpening → List PlainChange → Type 0
+HaveRoomEach h [] = ⊤
+HaveRoomEach h (e ∷ es) = (room_for h (e ∷ []) ≡ Ok tt) × HaveRoomEach (amid h (e ∷ [])) es
+
+-- So it is where each change that a group wants finds room by itself.
+abbrev pub RoomyGroupsAreInTurn : Type 0
+RoomyGroupsAreInTurn = (h : CurrentOpening) (commands : List Command) → h.pending ≡ [] → AllByRecursion (λ c. may_be_grouped c ≡ true) commands →
+    HaveRoomEach h (changes_due h [] commands) → AreInTurn h commands

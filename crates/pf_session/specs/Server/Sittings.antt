@@ -4,7 +4,7 @@ use Rattle.std.proofs.Common.{inl, inr}
 use mathlib.Core.List.{IsPrefix}
 use Rattle.pf_rule.specs.Packets.{PlainPacket}
 use Rattle.pf_core.specs.declared.{command.Command.Command, command.Command.TheVariants.Ask, command.Question.TheVariants.Judge, reply.Answer.TheVariants.Judged, reply.Refusal.TheVariants.Fault, reply.Reply.Reply, reply.Reply.TheVariants.{Answer, Refused}}
-use Rattle.pf_core.specs.{Durable.Changes.{PlainDurable, after, verdict}, Worlds.{Setting, CurrentOpening, amid, changes_due}}
+use Rattle.pf_core.specs.{Durable.Changes.{PlainDurable, after, verdict}, Laws.Groups.AreInTurn, Worlds.{Setting, CurrentOpening, amid, changes_due}}
 use Rattle.pf_view.specs.Seers.{PlainSeer}
 use Rattle.pf_line.specs.{declared.{request.Request.Request, request.Request.TheVariants.{Run, ShowStatus, ShowAnchors}}, Reply.Replies.reply_text}
 use Rattle.pf_book.specs.{Anchors.SaysAnchors, Groups.{Answered as Receipted, IsGroupAnswered}, Receipts.{PlainReceipt, IsAnswered, learns_from}, Statuses.SaysStatus, declared.status.BookStatus.BookStatus}
@@ -60,8 +60,8 @@ pub record Keeps (slip : PlainReceipt) (old new : Sitting) : Type 0 where
   pub learnt : ForSome slip.token (λ token. IsPrefix token new.seer.learnt)
   pub still : IsPrefix old.seer.learnt new.seer.learnt
 
--- The Book ran a group that had the command behind these earlier ones, and this is what it was answered at its place. The receipt of the
--- session's last call is the one that was handed in, where the other commands are of other callers; or that of the place before, or the one
+-- The Book ran a group that had the command behind these earlier ones, and this is what it was answered at its place: the reply that it would
+-- have got by itself after them. The receipt of the session's last call is the one that was handed in, where the other commands are of other callers; or that of the place before, or the one
 -- that was handed in if there is none. So lines of one session at one group's places get its replies in order.
 pub record IsAnsweredInGroup (base : PlainDurable) (setting : Setting) (c : Command) (r : Reply) (slip : PlainReceipt) (last : Option PlainReceipt) : Type 0 where
   pub earlier : List Command
@@ -71,6 +71,7 @@ pub record IsAnsweredInGroup (base : PlainDurable) (setting : Setting) (c : Comm
   pub others : List Receipted
   pub handed : Option PlainReceipt
   pub group : IsGroupAnswered base setting (earlier ++ c ∷ later) (Ok (told ++ (r, slip) ∷ others)) handed
+  pub in_turn : AreInTurn group.before (earlier ++ c ∷ later)
   pub place : length told ≡ length earlier
   pub last_is : (last ≡ handed) ⊎ (last ≡ last_receipt handed (Ok told))
 

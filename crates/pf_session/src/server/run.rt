@@ -3,7 +3,7 @@ ghost use Rattle.std.specs.Prelude.{◌≡◌, ℕ, List, [], ◌∷◌, ◌++�
 ghost use Rattle.pf_addr.specs.Writing.{Writes};
 ghost use Rattle.pf_core.specs.declared.{command.Command.Command, reply.Refusal.TheVariants.Fault};
 ghost use Rattle.pf_line.specs.{Lines.{Parses, Refused as IsRefusal, line_at}, Reply.Replies.reply_text};
-ghost use Rattle.pf_book.specs.Groups.{IsGroupAnswered};
+ghost use Rattle.pf_book.specs.Groups.{IsAnsweredAsAlone, IsGroupAnswered};
 ghost use Rattle.pf_session.specs.{LineEngine.{Chains.Chain, Lines.seen, Pieces.{Answers, TakesSome}}, Server.{Sittings.{Keeps, RunsBy, packet_in}, SessionRuns.{AreMeant, HavePassed, IsMeant, IsSame, TakesInSession, sitting}}};
 
 use crate::line_engine::AnswerLine;
@@ -113,10 +113,10 @@ impl<'a, C: CallBook<J>, J: Chapter, G: Gate> Session<'a, C, J, G> {
         if asked.len() < 2 {
             return self.run_each(commands, writer);
         }
-        match self.book.call_group(asked, self.last.as_ref()) {
-            Ok(answers) => self.tell_each(answers, writer),
-            Err(Refusal::Fault) => self.tell_fault(asked, writer),
-            Err(_) => self.run_each(commands, writer),
+        match self.book.call_as_alone(asked, self.last.as_ref()) {
+            Some(Ok(answers)) => self.tell_each(answers, writer),
+            Some(Err(Refusal::Fault)) => self.tell_fault(asked, writer),
+            Some(Err(_)) | None => self.run_each(commands, writer),
         }
     }
 
@@ -154,7 +154,7 @@ impl<'a, C: CallBook<J>, J: Chapter, G: Gate> Session<'a, C, J, G> {
     ) -> io::Result<()>
         ensures { (lines : List (List ℕ)) (commands : List Command) → AreMeant lines commands
             → HavePassed (G.passed self.old.gate.now self.old.number) self.old.line (length commands)
-            → IsGroupAnswered J.base J.setting commands (Ok answers.items) self.old.last.now
+            → IsAnsweredAsAlone J.base J.setting commands (Ok answers.items) self.old.last.now
             → Answers (Chain (TakesInSession G.passed J.base J.setting)) result lines self.old self.new (O.contents writer.old) (O.contents writer.new) }
     {
         for answer in answers {

@@ -227,13 +227,13 @@ fn run_session<C: CallBook<J>, J: Chapter, G: Gate, R: Read, O: Write>(
 /// receipt of the session's last call, so that it is answered by no less than that was. Before the reply to a change that is applied is
 /// written, the seer learns it, with all before it.
 ///
-/// Consecutive lines that one read completed go through `Shared::group` instead, up to 64 of them at once, if a group may have their
-/// commands. If the group is refused whole, they go through `Shared::run` one by one. But if the device failed in it each of them is told
-/// so, as the changes may be kept all the same; such a reply has no receipt.
+/// Consecutive lines that one read completed go through `Shared::group_as_alone` instead, up to 64 of them at once, if a group may have
+/// their commands. If the group is refused whole, or one finds no room by itself, they go through `Shared::run` one by one. But if the
+/// device failed in it each of them is told so, as the changes may be kept all the same; such a reply has no receipt.
 ///
-/// It waits for the reader, the writer, the gate and the Book's lock, and holds that lock only within `Shared::run` and `Shared::group`.
-/// Faults are those of [`serve_alone`](crate::serve_alone); what was learnt stays learnt. At `Err(Write)` the lines behind the last one that
-/// was answered may have been run, if they went in a group with it.
+/// It waits for the reader, the writer, the gate and the Book's lock, and holds that lock only within `Shared::run` and
+/// `Shared::group_as_alone`. Faults are those of [`serve_alone`](crate::serve_alone); what was learnt stays learnt. At `Err(Write)` the
+/// lines behind the last one that was answered may have been run, if they went in a group with it.
 pub fn serve<
     W: Wait,
     D: Disk + Drop,

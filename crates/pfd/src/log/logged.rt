@@ -1,6 +1,6 @@
 //! A caller of a Book whose replies are noted.
-ghost use Rattle.std.specs.{Option.option_copied, Prelude.{◌≡◌, MatchOption, None, Ok, Err}};
-ghost use Rattle.pf_book.specs.{Anchors.{SaysAnchors, listed_in}, Groups.{IsGroupAnswered, told}, Receipts.IsAnswered, Statuses.SaysStatus, Together.IsAnsweredTogether};
+ghost use Rattle.std.specs.{Option.option_copied, Prelude.{◌≡◌, IfSome, MatchOption, None, Ok, Err}};
+ghost use Rattle.pf_book.specs.{Anchors.{SaysAnchors, listed_in}, Groups.{IsAnsweredAsAlone, IsGroupAnswered, told}, Receipts.IsAnswered, Statuses.SaysStatus, Together.IsAnsweredTogether};
 
 use crate::log::KeepLog;
 use crate::log::deed::deed_in;
@@ -60,6 +60,18 @@ impl<C: CallBook<J>, J: Chapter, L: KeepLog> CallBook<J> for Logged<'_, C, L> {
     ) -> Result<Vec<(Reply, Receipt<J>)>, Refusal> {
         let told = self.book.call_group(commands, last);
         if let Ok(answers) = &told {
+            self.note_each(commands, answers);
+        }
+        told
+    }
+
+    fn call_as_alone(
+        &self,
+        commands: &[Command],
+        last: Option<&Receipt<J>>,
+    ) -> Option<Result<Vec<(Reply, Receipt<J>)>, Refusal>> {
+        let told = self.book.call_as_alone(commands, last);
+        if let Some(Ok(answers)) = &told {
             self.note_each(commands, answers);
         }
         told

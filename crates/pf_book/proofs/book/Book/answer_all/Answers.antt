@@ -1,31 +1,17 @@
-use Rattle.std.proofs.Common.{subst}
-use Rattle.std.specs.Prelude.{nat_lt}
-use Rattle.pf_core.specs.{WorldBooks.{IsAt, LeadsGroup}, Worlds.{CurrentOpening, grouping, upshot}}
-use Rattle.pf_book.specs.{Books.{IsLeft, KeepsOpening, PlainBook, StaysUnlessAnyKept, UsesDevice, is_fault_result, world_book, log_in}, Groups.{HasReceipts, replies_of, told}}
+use Rattle.std.proofs.Common.{◌∙◌, Err, subst, sym}
+use Rattle.pf_book.specs.{Books.{PlainBook, world_book}, Courses.IsPlanned, Groups.{IsGroupOf, told}}
+use Rattle.pf_book.proofs.Grouping.{refused-whole}
 use Rattle.pf_book.proofs.book.Book.answer_all.Goals as goal
 
-pub returns-clause-leads : goal.returns-clause-leads
-returns-clause-leads g c =
-    let new = c.answer_each.new.self in
-    subst (λ (l : PlainBook g.row.D.Denot). (h : CurrentOpening) → IsAt h (world_book l) → LeadsGroup h (world_book new) c.args.commands.now (replies_of (told c.answer_each.result)) (upshot new.shown (nat_lt (g.D.Disk.fault_count l.disk) (g.D.Disk.fault_count new.disk))))
-    c.look_at.ensures.same c.answer_each.ensures.leads
+pub answer_course-requires : goal.answer_course-requires
+answer_course-requires g c =
+    subst (λ (l : PlainBook g.row.D.Denot). IsPlanned (world_book l) c.args.commands.now c.in-Ok.course.replies.items c.in-Ok.course.changes.items c.in-Ok.course.next) (sym c.plan.ensures.same) c.in-Ok.ensures.planned
 
-pub returns-clause-receipts : goal.returns-clause-receipts
-returns-clause-receipts g c =
-    subst (λ (l : PlainBook g.row.D.Denot). (h : CurrentOpening) → IsAt h (world_book l) → HasReceipts h (log_in (world_book c.answer_each.new.self)) c.args.commands.now (told c.answer_each.result)) c.look_at.ensures.same c.answer_each.ensures.receipts
+pub returns-in-Ok-clause-group : goal.returns-in-Ok-clause-group
+returns-in-Ok-clause-group g c =
+    subst (λ (l : PlainBook g.row.D.Denot). IsGroupOf g.D.Disk l c.answer_course.new.self c.args.commands.now (told c.answer_course.result)) (c.plan.ensures.same ∙ c.look_at.ensures.same) c.answer_course.ensures
 
-pub returns-clause-stays : goal.returns-clause-stays
-returns-clause-stays g c = subst (λ (l : PlainBook g.row.D.Denot). StaysUnlessAnyKept (replies_of (told c.answer_each.result)) l c.answer_each.new.self) c.look_at.ensures.same c.answer_each.ensures.stays
-
-pub returns-clause-shown : goal.returns-clause-shown
-returns-clause-shown g c = c.answer_each.ensures.shown
-
-pub returns-clause-last : goal.returns-clause-last
-returns-clause-last g c = c.look_at.ensures.last
-
-pub returns-clause-opening : goal.returns-clause-opening
-returns-clause-opening g c = subst (λ (l : PlainBook g.row.D.Denot). KeepsOpening l c.answer_each.new.self) c.look_at.ensures.same c.answer_each.ensures.opening
-
-pub returns-clause-device : goal.returns-clause-device
-returns-clause-device g c =
-    subst (λ (l : PlainBook g.row.D.Denot). UsesDevice g.D.Disk (is_fault_result c.answer_each.result) l c.answer_each.new.self (IsLeft (world_book l) (grouping c.args.commands.now))) c.look_at.ensures.same c.answer_each.ensures.device
+pub returns-in-Err-clause-group : goal.returns-in-Err-clause-group
+returns-in-Err-clause-group g c =
+    subst (λ (l : PlainBook g.row.D.Denot). IsGroupOf g.D.Disk l c.plan.new.self c.args.commands.now (Err c.in-Err.refusal)) c.look_at.ensures.same
+    (refused-whole g.D.Disk c.look_at.new.self c.plan.new.self c.args.commands.now c.in-Err.refusal c.plan.ensures.same c.in-Err.ensures.calm c.in-Err.ensures.refused c.plan.ensures.device)

@@ -1,7 +1,7 @@
 use Rattle.std.proofs.Common.{subst}
 use Rattle.std.specs.{Option.option_copied, Prelude.nat_lt}
-use Rattle.pf_core.specs.{WorldBooks.{IsAt, LeadsGroup}, Worlds.{CurrentOpening, Upshot, grouping, upshot}}
-use Rattle.pf_book.specs.{Books.{IsLeft, PlainBook, StaysUnlessAnyKept, UsesDevice, is_fault_result, world_book}, Groups.{replies_of, told}}
+use Rattle.pf_core.specs.Worlds.{Upshot, upshot}
+use Rattle.pf_book.specs.{Books.{PlainBook, world_book}, Groups.{IsGroupOf, told}}
 use Rattle.pf_book.proofs.LockedCalls.{group-answered, reached-behind}
 use Rattle.pf_book.proofs.shared.Locked.group.Goals as goal
 
@@ -10,7 +10,7 @@ invariant_of-self g c =
     let old = c.self.inside.book in
     let new = c.answer_all-answers.new.self in
     let t : Upshot = upshot new.shown (nat_lt (g.D.Disk.fault_count old.disk) (g.D.Disk.fault_count new.disk)) in
-    let e = c.answer_all-answers.ensures in
+    let e = c.answer_all-answers.ensures.group in
     reached-behind g.J.Naming.base g.J.Chapter.setting (world_book old) (world_book new) c.args.commands.now (told c.answer_all-answers.result) t c.self.invariant e.leads c.between_calls.ensures.folded e.opening.base e.opening.setting
 
 pub returns-clause-answered : goal.returns-clause-answered
@@ -18,19 +18,9 @@ returns-clause-answered g c =
     let old = c.self.inside.book in
     let new = c.answer_all-answers.new.self in
     let t : Upshot = upshot new.shown (nat_lt (g.D.Disk.fault_count old.disk) (g.D.Disk.fault_count new.disk)) in
-    let e = c.answer_all-answers.ensures in
-    group-answered g.J.Naming.base g.J.Chapter.setting (world_book old) (world_book new) c.args.commands.now (told c.answer_all-answers.result) t c.self.invariant e.leads c.between_calls.ensures.folded (option_copied c.args.last) e.receipts e.shown e.last.follows e.last.shows
+    let e = c.answer_all-answers.ensures.group in
+    let last = c.answer_all-answers.ensures.last in
+    group-answered g.J.Naming.base g.J.Chapter.setting (world_book old) (world_book new) c.args.commands.now (told c.answer_all-answers.result) t c.self.invariant e.leads c.between_calls.ensures.folded (option_copied c.args.last) e.receipts e.shown last.follows last.shows
 
-pub returns-clause-leads : goal.returns-clause-leads
-returns-clause-leads g c =
-    let new = c.answer_all-answers.new.self in
-    let before : PlainBook g.row.D.Denot → Type 0 =
-    λ l. (h : CurrentOpening) → IsAt h (world_book l) → LeadsGroup h (world_book new) c.args.commands.now (replies_of (told c.answer_all-answers.result)) (upshot new.shown (nat_lt (g.D.Disk.fault_count l.disk) (g.D.Disk.fault_count new.disk))) in
-    subst before c.self.view_is c.answer_all-answers.ensures.leads
-
-pub returns-clause-stays : goal.returns-clause-stays
-returns-clause-stays g c = subst (λ (l : PlainBook g.row.D.Denot). StaysUnlessAnyKept (replies_of (told c.answer_all-answers.result)) l c.answer_all-answers.new.self) c.self.view_is c.answer_all-answers.ensures.stays
-
-pub returns-clause-device : goal.returns-clause-device
-returns-clause-device g c =
-    subst (λ (l : PlainBook g.row.D.Denot). UsesDevice g.D.Disk (is_fault_result c.answer_all-answers.result) l c.answer_all-answers.new.self (IsLeft (world_book l) (grouping c.args.commands.now))) c.self.view_is c.answer_all-answers.ensures.device
+pub returns-clause-group : goal.returns-clause-group
+returns-clause-group g c = subst (λ (l : PlainBook g.row.D.Denot). IsGroupOf g.D.Disk l c.answer_all-answers.new.self c.args.commands.now (told c.answer_all-answers.result)) c.self.view_is c.answer_all-answers.ensures.group

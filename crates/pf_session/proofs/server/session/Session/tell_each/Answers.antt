@@ -1,6 +1,6 @@
 use Rattle.std.proofs.{Common.{◌∙◌, List, [], ◌∷◌, ◌++◌, Ok, sym, ap, subst, append_assoc, arith}, lemmas.Result.err_from_is_err_and}
 use Rattle.std.specs.Vec.Iter.{into_iter_items}
-use Rattle.pf_book.specs.Groups.{Answered as Receipted, IsGroupAnswered}
+use Rattle.pf_book.specs.Groups.{Answered as Receipted, IsAnsweredAsAlone}
 use Rattle.pf_session.proofs.Running.{IsTelling, telling-begun, one-told, told-cut, all-told}
 use Rattle.pf_session.proofs.server.session.Session.tell_each.Goals as goal
 
@@ -27,7 +27,7 @@ loop-answer-preserved g c =
       len = omega (arith);
       all = append_assoc at.yielded (c.in-Some.answer ∷ []) left ∙ sym whole;
       way = λ lines commands meant gates group.
-          one-told passed base setting c.in-Some.answer left (subst (λ (l : List Receipted). IsGroupAnswered base setting commands (Ok l) c.args.self.now.last.now) whole group)
+          one-told passed base setting c.in-Some.answer left (subst (λ (l : List Receipted). IsAnsweredAsAlone base setting commands (Ok l) c.args.self.now.last.now) whole group)
           (subst (λ (l : List Receipted). IsTelling passed base setting lines commands at.yielded l c.args.self.now at.self (g.O.Write.contents c.args.writer.now) (g.O.Write.contents at.writer)) steps.0 (at.invariant.way lines commands meant gates group))
           c.tell_one.new.self c.saturating_add-self.result c.saturating_add-self.ensures c.tell_one.ensures.same c.tell_one.ensures.kept (g.O.Write.contents c.tell_one.new.writer) c.in_ok-tell_one.ensures.written;
     }
@@ -42,7 +42,7 @@ returns-in_err-tell_one g c = λ lines commands meant gates group.
     let setting = g.J.Chapter.setting in
     let left = into_iter_items c.next.new.self in
     let whole = sym at.invariant.all ∙ ap (λ (l : List Receipted). at.yielded ++ l) steps.0 in
-    rw failed (told-cut passed base setting c.in-Some.answer left (subst (λ (l : List Receipted). IsGroupAnswered base setting commands (Ok l) c.args.self.now.last.now) whole group)
+    rw failed (told-cut passed base setting c.in-Some.answer left (subst (λ (l : List Receipted). IsAnsweredAsAlone base setting commands (Ok l) c.args.self.now.last.now) whole group)
     (subst (λ (l : List Receipted). IsTelling passed base setting lines commands at.yielded l c.args.self.now at.self (g.O.Write.contents c.args.writer.now) (g.O.Write.contents at.writer)) steps.0 (at.invariant.way lines commands meant gates group))
     c.tell_one.new.self c.saturating_add-self.result c.saturating_add-self.ensures c.tell_one.ensures.same c.tell_one.ensures.kept (g.O.Write.contents c.tell_one.new.writer) c.in_err-tell_one.ensures.written)
 
