@@ -6,24 +6,17 @@ use pf_conf::{Interface, Mode, read_interface};
 use pf_tokens::{Bytes, Contents, File, Items};
 use std::alloc::{AllocError, Global};
 
-/// What a row is.
-#[derive(Clone, Copy, Debug, PartialEq, Eq)]
-pub(crate) enum Kind {
-    /// A file that any case may name.
-    File,
-    /// A file whose meaning is told.
-    Case,
-}
-
-/// A file that cases may name, or a case.
+/// A file that others may name, a case, or what is asked of a file.
 #[derive(Clone, Copy)]
 pub(crate) struct Row<'a> {
-    pub(crate) kind: Kind,
+    /// `file`, `case`, or the word that is asked.
+    pub(crate) kind: &'a str,
+    /// The file's name, or that of the file which is asked about.
     pub(crate) name: &'a str,
-    /// The words that a case is read with.
-    words: &'a str,
-    /// The lines of the file, as they are spelled.
-    lines: &'a str,
+    /// The words that a case is read with, or the further ones that are asked.
+    pub(crate) words: &'a str,
+    /// The lines of the file, or those that are wanted, as they are spelled.
+    pub(crate) lines: &'a str,
 }
 
 impl<'a> Row<'a> {
@@ -32,11 +25,6 @@ impl<'a> Row<'a> {
         let (head, lines) = text.split_once('\n').unwrap_or((text, ""));
         let (kind, named) = head.split_once(' ').unwrap_or((head, ""));
         let (name, words) = named.split_once(' ').unwrap_or((named, ""));
-        let kind = if kind == "file" {
-            Kind::File
-        } else {
-            Kind::Case
-        };
         Row {
             kind,
             name,
@@ -126,7 +114,7 @@ fn push_line(bytes: &mut Bytes, line: &[u8]) -> Result<(), AllocError> {
 }
 
 /// The bytes that lines spell.
-fn bytes_of(alloc: Global, lines: &str) -> Result<Bytes, AllocError> {
+pub(crate) fn bytes_of(alloc: Global, lines: &str) -> Result<Bytes, AllocError> {
     let mut bytes = Items::new(alloc);
     for line in lines.lines() {
         match line.as_bytes() {

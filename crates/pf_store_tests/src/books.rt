@@ -4,7 +4,7 @@ ghost use Rattle.pf_book.specs.Books.{IsNamed};
 ghost use Rattle.pf_store_tests.specs.declared.books.TheConstants.{HISTORY_LIMIT};
 
 use crate::rows::GROUPED;
-use pf_book::{Book, Chapter, Disk, MemDisk, OpenFault, Opening, Reply};
+use pf_book::{Book, Chapter, Disk, MemDisk, OpenFault, Opening, Publisher, Reply, book};
 use pf_core::{Command, Durable, Refusal};
 use pf_line::{Request, parse_line, write_reply};
 use pf_snap::look;
@@ -15,7 +15,7 @@ use std::sync::Wait;
 /// The most changes that a history may have. No rows have so many.
 pub const HISTORY_LIMIT: usize = 1000;
 
-/// A Book, whatever its device, the name of its opening and what waits.
+/// A Book, whatever its device, the name of its opening and what it publishes to.
 pub trait Answer {
     /// One call.
     fn answer(&mut self, command: Command) -> Reply;
@@ -27,7 +27,7 @@ pub trait Answer {
     fn kept(&self) -> &Durable;
 }
 
-impl<D: Disk + Drop, J: Chapter, H: Wait + Drop> Answer for Book<D, J, H> {
+impl<D: Disk + Drop, J: Chapter, S: Publisher<J> + Drop> Answer for book::Book<D, J, S> {
     fn answer(&mut self, command: Command) -> Reply {
         self.run(command)
     }
@@ -47,7 +47,7 @@ pub trait Hold: Answer {
     fn device(&self) -> &MemDisk;
 }
 
-impl<J: Chapter, H: Wait + Drop> Hold for Book<MemDisk, J, H> {
+impl<J: Chapter, S: Publisher<J> + Drop> Hold for book::Book<MemDisk, J, S> {
     fn device(&self) -> &MemDisk {
         self.disk()
     }
@@ -71,7 +71,7 @@ pub fn asked_by(alloc: Global, line: &[u8]) -> Result<Asked, AllocError> {
         Ok(Some(Request::ShowStatus | Request::ShowAnchors(_))) | Ok(None) => {
             Ok(Asked::Nothing(String::new(alloc)))
         }
-        Err(refusal) => Ok(Asked::Nothing(text_of(alloc, &Reply::Refused(refusal))?)),
+        Err(refusal) => Ok(Asked::Nothing(text_of_refusal(alloc, refusal)?)),
     }
 }
 
@@ -82,18 +82,29 @@ pub fn asked_by_row(alloc: Global, row: &str) -> Result<Asked, AllocError> {
     };
     let mut commands = Vec::new(alloc);
     for line in lines.trim_start().split(GROUPED) {
-        if let Ok(Some(Request::Run(command))) = parse_line(alloc, line.as_bytes()) {
-            commands.push(command)?;
-        }
+        add_command(alloc, &mut commands, line)?;
     }
     Ok(Asked::Group(commands))
+}
+
+// Appends the command that a line is, if it is one.
+fn add_command(alloc: Global, commands: &mut Vec<Command>, line: &str) -> Result<(), AllocError> {
+    if let Ok(Some(Request::Run(command))) = parse_line(alloc, line.as_bytes()) {
+        return add(commands, command);
+    }
+    Ok(())
+}
+
+// Appends a value, which is dropped if there is no memory for it.
+fn add<T: Drop>(values: &mut Vec<T>, value: T) -> Result<(), AllocError> {
+    Ok(values.push(value)?)
 }
 
 /// What rows with bars between them ask.
 pub fn asked_in_turn(alloc: Global, rows: &str) -> Result<Vec<Asked>, AllocError> {
     let mut asked = Vec::new(alloc);
     for row in rows.split(" | ") {
-        asked.push(asked_by_row(alloc, row)?)?;
+        add(&mut asked, asked_by_row(alloc, row)?)?;
     }
     Ok(asked)
 }
@@ -102,11 +113,19 @@ pub fn asked_in_turn(alloc: Global, rows: &str) -> Result<Vec<Asked>, AllocError
 pub fn told_to<B: Answer>(alloc: Global, book: &mut B, asked: Asked) -> Result<String, AllocError> {
     match asked {
         Asked::One(command) => text_of(alloc, &book.answer(command)),
-        Asked::Group(commands) => match book.answer_all(&commands) {
-            Ok(replies) => texts_of(alloc, &replies),
-            Err(refusal) => text_of(alloc, &Reply::Refused(refusal)),
-        },
+        Asked::Group(commands) => told_to_group(alloc, book, &commands),
         Asked::Nothing(told) => Ok(told),
+    }
+}
+
+fn told_to_group<B: Answer>(
+    alloc: Global,
+    book: &mut B,
+    commands: &[Command],
+) -> Result<String, AllocError> {
+    match book.answer_all(commands) {
+        Ok(replies) => texts_of(alloc, &replies),
+        Err(refusal) => text_of_refusal(alloc, refusal),
     }
 }
 
@@ -116,27 +135,38 @@ pub fn told_in_turn<B: Answer>(
     book: &mut B,
     all: Vec<Asked>,
 ) -> Result<String, AllocError> {
-    let mut text = String::new(alloc);
-    for (place, asked) in all.into_iter().enumerate() {
-        if place > 0 {
-            text.push_str(", ")?;
-        }
-        text.push_str(&told_to(alloc, book, asked)?)?;
+    let mut texts = Vec::new(alloc);
+    for asked in all {
+        texts.push(told_to(alloc, book, asked)?)?;
     }
-    Ok(text)
+    joined(alloc, &texts, ", ")
 }
 
-/// What a device was opened as, what was told over it, and the device then.
-#[derive(Drop)]
-pub struct Told<D: Disk + Drop> {
+/// The epoch and the tick of what an opening gave.
+#[derive(Clone, Copy)]
+pub struct Moment {
     pub epoch: u32,
     pub tick: u64,
+}
+
+/// What a device was opened as, or why it wasn't opened; what was told over it, which is nothing if it wasn't; and the device then.
+#[derive(Drop)]
+pub struct Told<D: Disk + Drop> {
+    pub opened: Result<Moment, OpenFault>,
     pub text: String,
     pub disk: D,
 }
 
-/// What comes of an opening: what was told over it, or the fault and the device.
-pub type Outcome<D> = Result<Told<D>, (OpenFault, D)>;
+impl<D: Disk + Drop> Told<D> {
+    /// A device that wasn't opened.
+    pub fn nothing(alloc: Global, fault: OpenFault, disk: D) -> Told<D> {
+        Told {
+            opened: Err(fault),
+            text: String::new(alloc),
+            disk,
+        }
+    }
+}
 
 /// Opens a device, and asks all this of a Book of the opening.
 pub fn ask<D: Disk + Drop, H: Wait + Drop>(
@@ -144,12 +174,12 @@ pub fn ask<D: Disk + Drop, H: Wait + Drop>(
     alloc: Global,
     disk: D,
     asked: Vec<Asked>,
-) -> Result<Outcome<D>, AllocError>
+) -> Result<Told<D>, AllocError>
     requires { D.fault_count disk < 2 ^ 63 }
 {
     match Opening::open(alloc, disk) {
-        Ok(opening) => Ok(Ok(ask_opened::<_, Brand, _>(waits, alloc, opening, asked)?)),
-        Err(fault) => Ok(Err(fault)),
+        Ok(opening) => ask_opened::<_, Brand, _>(waits, alloc, opening, asked),
+        Err((fault, disk)) => Ok(Told::nothing(alloc, fault, disk)),
     }
 }
 
@@ -162,32 +192,61 @@ pub fn ask_opened<D: Disk + Drop, J: Chapter, H: Wait + Drop>(
 ) -> Result<Told<D>, AllocError>
     requires { IsNamed J.base J.history J.setting opening HISTORY_LIMIT }
 {
-    let (epoch, tick) = (opening.durable().epoch(), opening.durable().tick());
     match Book::<D, J, H>::of(waits, alloc, opening, HISTORY_LIMIT, 1) {
-        Ok((mut book, _seers)) => {
-            let text = told_in_turn(alloc, &mut book, asked)?;
-            let disk = book.into_disk();
-            Ok(Told {
-                epoch,
-                tick,
-                text,
-                disk,
-            })
-        }
+        Ok((book, _seers)) => told_over(alloc, book, asked),
         Err(_) => Err(AllocError),
+    }
+}
+
+// The same of a new Book. It is gone before any of what comes of it is looked at: a Book that lives over few steps is proved quickly.
+fn told_over<D: Disk + Drop, J: Chapter, S: Publisher<J> + Drop>(
+    alloc: Global,
+    book: book::Book<D, J, S>,
+    asked: Vec<Asked>,
+) -> Result<Told<D>, AllocError> {
+    let mut book = book;
+    let opened = Ok(moment_of(&book));
+    let text = told_in_turn(alloc, &mut book, asked);
+    let disk = book.into_disk();
+    Ok(Told {
+        opened,
+        text: text?,
+        disk,
+    })
+}
+
+// The epoch and the tick of what a Book keeps.
+fn moment_of<B: Answer>(book: &B) -> Moment {
+    let kept = book.kept();
+    Moment {
+        epoch: kept.epoch(),
+        tick: kept.tick(),
     }
 }
 
 // The texts of the replies to a group.
 fn texts_of(alloc: Global, replies: &[Reply]) -> Result<String, AllocError> {
-    let mut text = String::new(alloc);
-    for (place, reply) in replies.iter().enumerate() {
-        if place > 0 {
-            text.push_str(GROUPED)?;
-        }
-        text.push_str(&text_of(alloc, reply)?)?;
+    let mut texts = Vec::new(alloc);
+    for reply in replies {
+        texts.push(text_of(alloc, reply)?)?;
     }
-    Ok(text)
+    joined(alloc, &texts, GROUPED)
+}
+
+// Texts with this between them.
+fn joined(alloc: Global, texts: &[String], between: &str) -> Result<String, AllocError> {
+    let mut all = String::new(alloc);
+    for (place, text) in texts.iter().enumerate() {
+        if place > 0 {
+            all.push_str(between)?;
+        }
+        all.push_str(text)?;
+    }
+    Ok(all)
+}
+
+fn text_of_refusal(alloc: Global, refusal: Refusal) -> Result<String, AllocError> {
+    text_of(alloc, &Reply::Refused(refusal))
 }
 
 // A reply's text, with bars between its lines.

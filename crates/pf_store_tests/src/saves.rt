@@ -9,7 +9,8 @@ mod renewals;
 mod stops;
 
 use crate::books::{
-    HISTORY_LIMIT, Hold, Told, ask, asked_by_row, asked_in_turn, closed_gate, told_in_turn, told_to,
+    HISTORY_LIMIT, Hold, Moment, Told, ask, asked_by_row, asked_in_turn, closed_gate, told_in_turn,
+    told_to,
 };
 use crate::files::Image;
 use crate::rows::{
@@ -91,17 +92,26 @@ fn with_tick(alloc: Global, told: &str, tick: u64) -> Result<String, AllocError>
 
 /// Writes how many bytes a snapshot of what is kept has, and whether it reads back the same.
 fn tell_snapshot(alloc: Global, told: &mut String, kept: &Durable) -> Result<(), AllocError> {
-    let Ok(bytes) = write_durable(alloc, NEWEST, kept) else {
-        return Err(AllocError);
-    };
-    let Ok(read) = read_durable(alloc, NEWEST, &bytes) else {
-        return Err(AllocError);
-    };
-    let Ok(again) = write_durable(alloc, NEWEST, &read) else {
-        return Err(AllocError);
-    };
+    let bytes = snapshot_of(alloc, kept)?;
+    let again = snapshot_again(alloc, &bytes)?;
     let is_same = bytes.as_slice() == again.as_slice();
     write!(told, "{} bytes, read back: {is_same}", bytes.len())
+}
+
+/// The bytes of a snapshot of what is kept.
+fn snapshot_of(alloc: Global, kept: &Durable) -> Result<Vec<u8>, AllocError> {
+    match write_durable(alloc, NEWEST, kept) {
+        Ok(bytes) => Ok(bytes),
+        Err(_) => Err(AllocError),
+    }
+}
+
+/// The bytes of a snapshot of what these bytes are read back as.
+fn snapshot_again(alloc: Global, bytes: &[u8]) -> Result<Vec<u8>, AllocError> {
+    match read_durable(alloc, NEWEST, bytes) {
+        Ok(read) => snapshot_of(alloc, &read),
+        Err(_) => Err(AllocError),
+    }
 }
 
 /// One of six fills, of which the last has these bytes.
@@ -119,21 +129,44 @@ fn fill(number: u32, bytes: &[u8]) -> Fill<'_>
 }
 
 /// What was opened, and what was told to the questions then.
-fn opened_as(alloc: Global, told: Told<MemDisk>) -> Result<Opened, AllocError> {
-    let Told {
-        epoch,
-        tick,
-        text,
-        disk,
-    } = told;
-    let kept = with_tick(alloc, text.as_str(), tick)?;
+fn opened_as(
+    alloc: Global,
+    moment: Moment,
+    text: &str,
+    disk: MemDisk,
+) -> Result<Opened, AllocError> {
+    let kept = with_tick(alloc, text, moment.tick)?;
     let gate = closed_gate(alloc, &disk.image(alloc, u64::MAX, Fill::New)?)?;
     Ok(Opened {
-        epoch,
+        epoch: moment.epoch,
         gate,
         kept,
         disk,
     })
+}
+
+/// What was told to the questions over a device, if it was opened.
+fn opened_of(alloc: Global, told: Told<MemDisk>) -> Result<Result<Opened, OpenFault>, AllocError> {
+    let Told { opened, text, disk } = told;
+    match opened {
+        Ok(moment) => match opened_as(alloc, moment, text.as_str(), disk) {
+            Ok(opened) => Ok(Ok(opened)),
+            Err(fault) => Err(fault),
+        },
+        Err(fault) => Ok(Err(fault)),
+    }
+}
+
+/// What was told over an opening, or why there was none.
+fn told_text(
+    alloc: Global,
+    opened: &Result<Moment, OpenFault>,
+    text: String,
+) -> Result<String, AllocError> {
+    match opened {
+        Ok(_) => Ok(text),
+        Err(fault) => format!(in alloc; "{fault:?}"),
+    }
 }
 
 /// Makes a Book of an opening, and plays rows over it.
@@ -146,8 +179,18 @@ fn play_over<J: Chapter, H: Wait + Drop + Copy>(
     requires { IsNamed J.base J.history J.setting opening HISTORY_LIMIT }
 {
     match Book::<MemDisk, J, H>::of(bench.waits, bench.alloc, opening, HISTORY_LIMIT, 1) {
-        Ok((mut book, _seers)) => bench.play_opened(told, &mut book, rows),
+        Ok((book, _seers)) => bench.play_opened(told, book, rows),
         Err(_) => Err(AllocError),
+    }
+}
+
+/// The epoch of an opening of a device, and the device then; or why it isn't opened.
+fn epoch_of(alloc: Global, device: MemDisk) -> Result<(u32, MemDisk), OpenFault>
+    requires { ⟦<MemDisk as Disk>⟧.fault_count device ≡ 0 }
+{
+    match Opening::open(alloc, device) {
+        Ok(opening) => Ok((opening.durable().epoch(), opening.into_disk())),
+        Err((fault, _disk)) => Err(fault),
     }
 }
 
@@ -157,12 +200,28 @@ impl<H: Wait + Drop + Copy> Bench<H> {
             return self.play_unopened(told, &segment.rows);
         }
         told.push_str("open -> ")?;
-        match Opening::open(self.alloc, self.device()?) {
-            Ok(opening) => play_over::<Brand, _>(self, opening, told, &segment.rows),
-            Err((fault, _disk)) => {
+        let device = self.device()?;
+        match self.play_opening(told, device, &segment.rows) {
+            Ok(played) => played,
+            Err(fault) => {
                 write!(told, "{fault:?}\n")?;
                 self.play_unopened(told, &segment.rows)
             }
+        }
+    }
+
+    /// Plays rows over an opening of a device, or says why it isn't opened.
+    fn play_opening(
+        &mut self,
+        told: &mut String,
+        device: MemDisk,
+        rows: &[&str],
+    ) -> Result<Result<(), AllocError>, OpenFault>
+        requires { ⟦<MemDisk as Disk>⟧.fault_count device ≡ 0 }
+    {
+        match Opening::open(self.alloc, device) {
+            Ok(opening) => Ok(play_over::<Brand, _>(self, opening, told, rows)),
+            Err((fault, _disk)) => Err(fault),
         }
     }
 
@@ -176,16 +235,17 @@ impl<H: Wait + Drop + Copy> Bench<H> {
         Ok(())
     }
 
-    fn play_opened<B: Hold>(
+    fn play_opened<B: Hold + Drop>(
         &mut self,
         told: &mut String,
-        book: &mut B,
+        book: B,
         rows: &[&str],
     ) -> Result<(), AllocError> {
-        self.begin(told, book)?;
+        let mut book = book;
+        self.begin(told, &mut book)?;
         for row in rows {
             if tell_row(told, row)? {
-                self.play_row(told, book, row)?;
+                self.play_row(told, &mut book, row)?;
             }
             told.push('\n')?;
         }
@@ -266,12 +326,12 @@ impl<H: Wait + Drop + Copy> Bench<H> {
     fn open_often(&mut self, told: &mut String, times: usize) -> Result<(), AllocError> {
         let mut epoch = 0;
         for number in 0..times {
-            match Opening::open(self.alloc, self.device()?) {
-                Ok(opening) => {
-                    epoch = opening.durable().epoch();
-                    self.bytes = opening.into_disk().image(self.alloc, u64::MAX, Fill::New)?;
+            match epoch_of(self.alloc, self.device()?) {
+                Ok((opened, disk)) => {
+                    epoch = opened;
+                    self.bytes = disk.image(self.alloc, u64::MAX, Fill::New)?;
                 }
-                Err((fault, _disk)) => return write!(told, "{number} times, then {fault:?}"),
+                Err(fault) => return write!(told, "{number} times, then {fault:?}"),
             }
         }
         write!(told, "epoch {epoch}")
@@ -486,10 +546,8 @@ impl<H: Wait + Drop + Copy> Bench<H> {
         requires { ⟦<FuseDisk<MemDisk> as Disk>⟧.fault_count disk ≡ 0 }
     {
         let asked = asked_in_turn(self.alloc, lines)?;
-        match ask(self.waits, self.alloc, disk, asked)? {
-            Ok(Told { text, disk, .. }) => Ok((text, disk)),
-            Err((fault, disk)) => Ok((format!(in self.alloc; "{fault:?}")?, disk)),
-        }
+        let Told { opened, text, disk } = ask(self.waits, self.alloc, disk, asked)?;
+        Ok((told_text(self.alloc, &opened, text)?, disk))
     }
 
     /// Plays each of some lines with each of them after it, in one group and after other lines: writes the replies to the two, and whether
@@ -546,10 +604,8 @@ impl<H: Wait + Drop + Copy> Bench<H> {
             MemDisk::of(self.alloc, bytes)?,
             asked_in_turn(self.alloc, lines)?,
         );
-        match ask(self.waits, self.alloc, disk, asked)? {
-            Ok(over) => told.push_str(&over.text),
-            Err(_) => Ok(()),
-        }
+        let over = ask(self.waits, self.alloc, disk, asked)?;
+        told.push_str(&over.text)
     }
 
     /// Opens a device with these bytes.
@@ -558,9 +614,9 @@ impl<H: Wait + Drop + Copy> Bench<H> {
             MemDisk::of(self.alloc, bytes)?,
             asked_in_turn(self.alloc, QUESTIONS)?,
         );
-        match ask(self.waits, self.alloc, disk, asked)? {
-            Ok(told) => Ok(Ok(opened_as(self.alloc, told)?)),
-            Err((fault, _disk)) => Ok(Err(fault)),
+        match ask(self.waits, self.alloc, disk, asked) {
+            Ok(told) => opened_of(self.alloc, told),
+            Err(fault) => Err(fault),
         }
     }
 

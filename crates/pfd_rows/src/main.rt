@@ -1,6 +1,6 @@
 //! A program of tests: it plays tables of rows, each of which says what has to come of it. For each table it writes how many rows it has,
 //! and then each row that came to something else. The head of its input, `stdin`, says how rows are written; `stdout` is what it has to
-//! write.
+//! write. Behind the tables it looks at facts that no row can say, and writes how many of them there are, and each that doesn't hold.
 //!
 //! It uses `pfd` as any other program would, and knows how rows are spelled. It doesn't know what a right reply is: that is in the rows,
 //! which were worked out by hand. The modules:
@@ -13,13 +13,18 @@
 //! - `table` and `spelling`: how tables and rows are read.
 //! - `tally`: what a table came to.
 //! - `streams`: readers and writers that follow a script, faults included.
+//! - `server_tests`: callers that share a Book, each in a thread of its own, seers that judge beside it, and a listener whose accept fails.
+//! - `pfd_tests`: calls that no line comes to, lists longer than a line, the texts of faults, a file that isn't formatted.
 //!
 //! One thing is proved: if a row of lines differs in nothing, a session over the Book came to its end and wrote just the wanted bytes for
-//! the row's input (`written_instead` in `playing`). All else that the rows show is tested.
+//! the row's input (`written_instead` in `playing`). All else that the rows show is tested. That threads really do what the contracts take
+//! them to do is only tested too.
 #![tactic(auto)]
 
+mod pfd_tests;
 mod playing;
 mod refusing;
+mod server_tests;
 mod serving;
 mod sharing;
 mod spelling;
@@ -40,17 +45,26 @@ use std::sync::Wait;
 use std::thread::Threads;
 
 fn main(rt: HostRuntime) -> io::Result<()> {
-    let alloc = rt.alloc();
-    let text = io::read_to_string(alloc, rt.stdin())?;
-    let mut out = BufWriter::new(alloc, rt.stdout())?;
-    // The text before the first table says how rows are written.
-    for table in text.as_str().split("\n== ").skip(1) {
-        let table = Table::read(alloc, table)?;
-        let tally = play(&rt, &rt, &table)?;
-        writeln!(out, "{}: {} rows", table.name, tally.rows)?;
-        out.write_all(tally.differing.as_bytes())?;
-    }
+    let text = io::read_to_string(rt.alloc(), rt.stdin())?;
+    let mut out = BufWriter::new(rt.alloc(), rt.stdout())?;
+    play_all(&rt, &rt, &mut out, text.as_str())?;
+    server_tests::tell_all(&rt, rt.alloc(), &mut out)?;
+    pfd_tests::tell_each(&rt, &mut out)?;
     out.flush()
+}
+
+// Plays the tables of a text, and writes what each came to. What stands before the first one says how rows are written.
+fn play_all<N: Wait + Threads + Net<Listener = TcpListener, Stream = TcpStream> + Sync, W: Write>(
+    machine: &N,
+    rt: &HostRuntime,
+    out: &mut W,
+    text: &str,
+) -> io::Result<()> {
+    for text in text.split("\n== ").skip(1) {
+        let table = Table::read(rt.alloc(), text)?;
+        play(machine, rt, &table)?.tell(out, table.name)?;
+    }
+    Ok(())
 }
 
 // Plays all rows of a table.

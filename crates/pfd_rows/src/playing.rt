@@ -109,24 +109,32 @@ fn play_some<B: Play>(
     Ok(())
 }
 
-// A fresh disk of a table, opened, whose calls fail after the first `calls`; or none if it can't be opened so.
-fn opened(alloc: Global, table: &Table, calls: u64) -> Result<Option<Opening<Device>>, AllocError> {
+// A fresh disk of a table, opened, whose calls fail after the first `calls`.
+fn opened(alloc: Global, table: &Table, calls: u64) -> Result<Opening<Device>, AllocError> {
     let bytes = Vec::from_elem(alloc, 0, table.size)?;
     let disk = FuseDisk::after(MemDisk::of(alloc, bytes)?, calls);
-    Ok(open_fresh(alloc, disk).ok())
+    match open_fresh(alloc, disk) {
+        Ok(opening) => Ok(opening),
+        Err(_) => Err(AllocError),
+    }
+}
+
+// How many calls of a table's disk go through: all, or those of the opening and as many more as the table says.
+fn calls_of(alloc: Global, table: &Table) -> u64 {
+    let Some(more) = table.fails else {
+        return u64::MAX;
+    };
+    for calls in 0..MOST_CALLS {
+        if opened(alloc, table, calls).is_ok() {
+            return calls.saturating_add(more);
+        }
+    }
+    0
 }
 
 /// A fresh disk of a table, opened, whose calls fail after those of the opening and as many more as the table says.
 pub(crate) fn opening_of(alloc: Global, table: &Table) -> Result<Opening<Device>, AllocError> {
-    let Some(more) = table.fails else {
-        return opened(alloc, table, u64::MAX)?.ok_or(AllocError);
-    };
-    for calls in 0..MOST_CALLS {
-        if opened(alloc, table, calls)?.is_some() {
-            return opened(alloc, table, calls.saturating_add(more))?.ok_or(AllocError);
-        }
-    }
-    Err(AllocError)
+    opened(alloc, table, calls_of(alloc, table))
 }
 
 /// The most changes that the history of a table's Book may have.

@@ -7,13 +7,12 @@ use crate::refusing::{Refusals, Refusing};
 use crate::spelling::line_bytes;
 use crate::streams::{Script, Tight, Watch};
 use crate::table::{Kind, Table};
-use crate::tally::{Case, Outcome, Tally};
+use crate::tally::{Outcome, Tally};
 use pf_book::book::Book;
 use pf_book::shared::Shared;
 use pf_view::views;
 use pfd::{
-    Chapter, EngineFault, Gate, NewCalls, Numbering, OpenGate, Opening, Seer, serve, serve_asking,
-    serve_peer,
+    Chapter, EngineFault, Gate, NewCalls, Numbering, Opening, Seer, serve, serve_asking, serve_peer,
 };
 use std::alloc::{AllocError, Global};
 use std::marker::Brand;
@@ -34,6 +33,21 @@ const OPEN: u32 = 3;
 struct Counting {
     last: AtomicU32,
     is_wrong: AtomicBool,
+}
+
+impl Counting {
+    fn new() -> Counting {
+        Counting {
+            last: AtomicU32::new(0),
+            is_wrong: AtomicBool::new(false),
+        }
+    }
+
+    // How a session ended whose lines came to this gate, and how many they were.
+    fn end_of(&self, alloc: Global, ended: Result<(), EngineFault>) -> Result<String, AllocError> {
+        let lines = self.last.load(Ordering::SeqCst) as usize;
+        end_of(alloc, ended, lines, self.is_wrong.load(Ordering::SeqCst))
+    }
 }
 
 impl Gate for Counting {
@@ -66,6 +80,41 @@ fn end_of(
     format!(in alloc; "{word} {number}{order}\n")
 }
 
+// What a row gives a session or a peer: its input, and the limits of the writer.
+#[derive(Drop)]
+struct Given<'a> {
+    input: Vec<u8>,
+    limits: &'a str,
+}
+
+impl<'a> Given<'a> {
+    fn read(alloc: Global, line: &'a str) -> Result<Given<'a>, AllocError> {
+        let (input, limits) = line.split_once(" > ").unwrap_or((line, ""));
+        let input = line_bytes(alloc, input)?;
+        Ok(Given { input, limits })
+    }
+}
+
+// Serves a session, and appends what it is told.
+fn serve_given<J: Chapter + Numbering, R: Wait>(
+    rt: &R,
+    alloc: Global,
+    kind: Kind,
+    shared: &SharedBook<J, &R>,
+    seer: &mut Seer<J>,
+    gate: &Counting,
+    given: &Given,
+    written: &mut Vec<u8>,
+) -> Result<(), EngineFault> {
+    let watch = &Watch::new(true);
+    let reader = &mut Script::new(given.input.as_slice(), watch);
+    let writer = &mut Tight::new(written, given.limits, watch);
+    match kind {
+        Kind::Askers => serve_asking(rt, alloc, reader, writer, shared, seer, gate, SESSION),
+        _ => serve(rt, alloc, reader, writer, shared, seer, gate, SESSION),
+    }
+}
+
 // Plays what a session says before that of a row. What it is told is in no row.
 fn begin_with<J: Chapter + Numbering, R: Wait>(
     rt: &R,
@@ -76,20 +125,10 @@ fn begin_with<J: Chapter + Numbering, R: Wait>(
 ) -> Result<(), AllocError> {
     for text in before {
         let input = line_bytes(alloc, text)?;
-        let watch = &Watch::new(true);
-        let mut written = Vec::new(alloc);
-        let mut reader = Script::new(input.as_slice(), watch);
-        let mut writer = Tight::new(&mut written, "", watch);
-        let _ = serve(
-            rt,
-            alloc,
-            &mut reader,
-            &mut writer,
-            shared,
-            seer,
-            &OpenGate,
-            SESSION,
-        );
+        let given = &Given { input, limits: "" };
+        let gate = &Counting::new();
+        let told = &mut Vec::new(alloc);
+        let _ = serve_given(rt, alloc, Kind::Sessions, shared, seer, gate, given, told);
     }
     Ok(())
 }
@@ -101,27 +140,27 @@ fn run_session<J: Chapter + Numbering, R: Wait>(
     kind: Kind,
     shared: &SharedBook<J, &R>,
     seer: &mut Seer<J>,
-    case: &Case,
+    given: &Given,
 ) -> Result<Outcome, AllocError> {
-    let line = case.line.as_str();
-    let (input, limits) = line.split_once(" > ").unwrap_or((line, ""));
-    let input = line_bytes(alloc, input)?;
-    let watch = &Watch::new(true);
+    let gate = Counting::new();
     let mut written = Vec::new(alloc);
-    let mut reader = Script::new(input.as_slice(), watch);
-    let mut writer = Tight::new(&mut written, limits, watch);
-    let gate = Counting {
-        last: AtomicU32::new(0),
-        is_wrong: AtomicBool::new(false),
-    };
-    let (reader, writer) = (&mut reader, &mut writer);
-    let ended = match kind {
-        Kind::Askers => serve_asking(rt, alloc, reader, writer, shared, seer, &gate, SESSION),
-        _ => serve(rt, alloc, reader, writer, shared, seer, &gate, SESSION),
-    };
-    let lines = gate.last.load(Ordering::SeqCst) as usize;
-    let end = end_of(alloc, ended, lines, gate.is_wrong.load(Ordering::SeqCst))?;
+    let ended = serve_given(rt, alloc, kind, shared, seer, &gate, given, &mut written);
+    let end = gate.end_of(alloc, ended)?;
     Ok(Outcome { end, written })
+}
+
+// Serves a peer's stream, and appends what it is told.
+fn follow_given<J: Chapter + Numbering, R: Wait>(
+    rt: &R,
+    alloc: Global,
+    shared: &SharedBook<J, &R>,
+    given: &Given,
+    written: &mut Vec<u8>,
+) -> Result<(), EngineFault> {
+    let watch = &Watch::new(true);
+    let reader = &mut Script::new(given.input.as_slice(), watch);
+    let writer = &mut Tight::new(written, given.limits, watch);
+    serve_peer(rt, alloc, reader, writer, shared)
 }
 
 // Plays a peer's stream. Its end says how many changes the Book then has.
@@ -129,16 +168,10 @@ fn follow<J: Chapter + Numbering, R: Wait>(
     rt: &R,
     alloc: Global,
     shared: SharedBook<J, &R>,
-    case: &Case,
+    given: &Given,
 ) -> Result<Outcome, AllocError> {
-    let line = case.line.as_str();
-    let (input, limits) = line.split_once(" > ").unwrap_or((line, ""));
-    let input = line_bytes(alloc, input)?;
-    let watch = &Watch::new(true);
     let mut written = Vec::new(alloc);
-    let mut reader = Script::new(input.as_slice(), watch);
-    let mut writer = Tight::new(&mut written, limits, watch);
-    let ended = serve_peer(rt, alloc, &mut reader, &mut writer, &shared);
+    let ended = follow_given(rt, alloc, &shared, given, &mut written);
     let end = end_of(alloc, ended, shared.close().log_len(), false)?;
     Ok(Outcome { end, written })
 }
@@ -172,6 +205,26 @@ fn book_of<'a, J: Chapter, R: Wait>(
     }
 }
 
+// Plays a case over a Book that is shared.
+fn share_over<J: Chapter + Numbering, R: Wait>(
+    rt: &R,
+    alloc: Global,
+    table: &Table,
+    shared: SharedBook<J, &R>,
+    seers: Vec<Seer<J>>,
+    given: &Given,
+) -> Result<Outcome, AllocError> {
+    let mut seers = seers;
+    let Some(mut seer) = seers.pop() else {
+        return Err(AllocError);
+    };
+    begin_with(rt, alloc, &shared, &mut seer, table.before.as_slice())?;
+    match table.kind {
+        Kind::Peers => follow(rt, alloc, shared, given),
+        kind => run_session(rt, alloc, kind, &shared, &mut seer, given),
+    }
+}
+
 // Plays a case over an opening.
 fn share<J: Chapter + Numbering, R: Wait>(
     rt: &R,
@@ -180,23 +233,14 @@ fn share<J: Chapter + Numbering, R: Wait>(
     opening: Opening<Device>,
     calls: NewCalls,
     history: usize,
-    case: &Case,
+    given: &Given,
 ) -> Result<Outcome, AllocError>
     requires name { IsNamed J.base J.history J.setting opening history }
     requires calls { calls ≡ J.register }
     requires history { (1 ≤ history) × (history ≤ 1_048_576) }
 {
-    let (_, limits) = case.line.split_once(" > ").unwrap_or(("", ""));
-    let (book, mut seers) = book_of::<J, R>(rt, alloc, opening, history, limits)?;
-    let shared = Shared::new(book, calls);
-    let Some(mut seer) = seers.pop() else {
-        return Err(AllocError);
-    };
-    begin_with(rt, alloc, &shared, &mut seer, table.before.as_slice())?;
-    match table.kind {
-        Kind::Peers => follow(rt, alloc, shared, case),
-        kind => run_session(rt, alloc, kind, &shared, &mut seer, case),
-    }
+    let (book, seers) = book_of::<J, R>(rt, alloc, opening, history, given.limits)?;
+    share_over(rt, alloc, table, Shared::new(book, calls), seers, given)
 }
 
 /// Plays all rows of a table of sessions or of peers' streams.
@@ -208,9 +252,10 @@ pub(crate) fn share_each<R: Wait>(
     let history = history_of(table);
     let mut tally = Tally::none(alloc);
     for case in &table.cases(alloc)? {
+        let given = Given::read(alloc, case.line.as_str())?;
         let opening = opening_of(alloc, table)?;
         let calls = NewCalls::open();
-        let outcome = share::<Brand, _>(rt, alloc, table, opening, calls, history, case)?;
+        let outcome = share::<Brand, _>(rt, alloc, table, opening, calls, history, &given)?;
         tally.note(alloc, case, &outcome)?;
     }
     Ok(tally)

@@ -7,37 +7,63 @@ pub(crate) fn choose(
     text: &str,
     number: usize,
 ) -> Result<(String, usize), AllocError> {
-    let mut chosen = String::new(alloc);
+    let mut pieces = text.split('(');
+    let mut chosen = String::from_str(alloc, pieces.next().unwrap_or(""))?;
     let mut left = number;
-    for (place, piece) in text.split('(').enumerate() {
-        match piece.split_once(')') {
-            Some((choices, rest)) if place > 0 => {
-                let count = choices.split('|').count().max(1);
-                let choice = choices.split('|').nth(left % count);
-                chosen.push_str(choice.unwrap_or(""))?;
-                chosen.push_str(rest)?;
-                left /= count;
-            }
-            _ => chosen.push_str(piece)?,
-        }
+    for piece in pieces {
+        left = push_choice(&mut chosen, piece, left)?;
     }
     Ok((chosen, left))
 }
 
+// Appends what stands behind a parenthesis, one of its choices taken, and returns what is left of the number.
+fn push_choice(chosen: &mut String, piece: &str, number: usize) -> Result<usize, AllocError> {
+    let Some((choices, rest)) = piece.split_once(')') else {
+        chosen.push_str(piece)?;
+        return Ok(number);
+    };
+    let (choice, left) = choice_of(choices, number);
+    chosen.push_str(choice)?;
+    chosen.push_str(rest)?;
+    Ok(left)
+}
+
+// One of the choices with bars between them, as the number says, and what is left of the number.
+fn choice_of(choices: &str, number: usize) -> (&str, usize) {
+    let count = choices.split('|').count().max(1);
+    (nth_of(choices, number % count), number / count)
+}
+
+// The choice at a place.
+fn nth_of(choices: &str, place: usize) -> &str {
+    choices.split('|').nth(place).unwrap_or("")
+}
+
 /// A shape with the fields in place of `$1`, `$2` and so on.
 pub(crate) fn fill(alloc: Global, shape: &str, fields: &[String]) -> Result<String, AllocError> {
-    let mut filled = String::new(alloc);
-    for (place, piece) in shape.split('$').enumerate() {
-        match piece.as_bytes() {
-            [digit, ..] if place > 0 => {
-                let index = usize::from(digit.wrapping_sub(b'1'));
-                filled.push_str(fields.get(index).map_or("", |field| field.as_str()))?;
-                filled.push_str(piece.get(1..).unwrap_or(""))?;
-            }
-            _ => filled.push_str(piece)?,
-        }
+    let mut pieces = shape.split('$');
+    let mut filled = String::from_str(alloc, pieces.next().unwrap_or(""))?;
+    for piece in pieces {
+        push_field(&mut filled, piece, fields)?;
     }
     Ok(filled)
+}
+
+// Appends what stands behind a dollar, with the field that its digit names.
+fn push_field(filled: &mut String, piece: &str, fields: &[String]) -> Result<(), AllocError> {
+    if let [digit, ..] = piece.as_bytes() {
+        filled.push_str(field_of(fields, *digit))?;
+        filled.push_str(piece.get(1..).unwrap_or(""))?;
+    }
+    Ok(())
+}
+
+// The field that a digit names, or nothing.
+fn field_of(fields: &[String], digit: u8) -> &str {
+    match fields.get(usize::from(digit.wrapping_sub(b'1'))) {
+        Some(field) => field.as_str(),
+        None => "",
+    }
 }
 
 /// Appends the bytes of a text in which `\` and two hexadecimal digits stand for a byte.

@@ -12,7 +12,7 @@ const DISK_SIZE: usize = 8_192;
 const MOST_WAYS: usize = 100_000;
 
 /// What the rows of a table are.
-#[derive(Clone, Copy, Debug, PartialEq, Eq)]
+#[derive(Clone, Copy)]
 pub(crate) enum Kind {
     /// Lines of a session that has a Book alone.
     Lines,

@@ -2,6 +2,7 @@
 
 use crate::spelling::is_reply;
 use std::alloc::{AllocError, Global};
+use std::io::{self, Write};
 
 /// A row that isn't a line: what is played, how it has to end, and what has to be written.
 #[derive(Drop)]
@@ -18,7 +19,7 @@ pub(crate) struct Outcome {
     pub(crate) written: Vec<u8>,
 }
 
-/// What a table came to: how many rows were played, and a line for each that differs.
+/// What a table came to: how many rows were played, or facts looked at, and a line for each that differs.
 #[derive(Drop)]
 pub(crate) struct Tally {
     pub(crate) rows: usize,
@@ -54,5 +55,20 @@ impl Tally {
             "  {} -> {end:?} -> {written:?}\n",
             case.line
         )
+    }
+
+    /// Counts a fact, and notes it if it doesn't hold.
+    pub(crate) fn hold(&mut self, fact: &str, holds: bool) -> Result<(), AllocError> {
+        self.rows = self.rows.saturating_add(1);
+        if holds {
+            return Ok(());
+        }
+        write!(self.differing, "  {fact}\n")
+    }
+
+    /// Writes how many rows were played, and those that differ.
+    pub(crate) fn tell<W: Write>(&self, out: &mut W, name: &str) -> io::Result<()> {
+        writeln!(out, "{name}: {} rows", self.rows)?;
+        out.write_all(self.differing.as_bytes())
     }
 }

@@ -107,9 +107,10 @@ impl<H: Wait + Drop + Copy> Bench<H> {
     /// What a stream in these pieces comes to over the device with its bytes.
     fn stream_text(&self, pieces: &[&[u8]]) -> Result<String, AllocError> {
         let (head, asked) = asked_by_stream(self.alloc, pieces)?;
-        match ask(self.waits, self.alloc, self.device()?, asked)? {
-            Ok(told) => format!(in self.alloc; "{head}{}", told.text),
-            Err((fault, _disk)) => format!(in self.alloc; "{fault:?}"),
+        let over = ask(self.waits, self.alloc, self.device()?, asked)?;
+        match over.opened {
+            Ok(_) => format!(in self.alloc; "{head}{}", over.text),
+            Err(fault) => format!(in self.alloc; "{fault:?}"),
         }
     }
 

@@ -5,7 +5,7 @@ ghost use Rattle.pf_store_tests.specs.declared.books.TheConstants.{HISTORY_LIMIT
 
 use super::{Bench, fill};
 use crate::books::{
-    Asked, HISTORY_LIMIT, Outcome, Told, ask, ask_opened, asked_in_turn, told_in_turn,
+    Asked, HISTORY_LIMIT, Moment, Told, ask, ask_opened, asked_in_turn, told_in_turn,
 };
 use crate::rows::{cut_word, number};
 use pf_book::book::Book;
@@ -33,7 +33,7 @@ struct Renewal<D: Disk + Drop> {
     /// What was told to the lines.
     replies: String,
     /// What came of the second opening, and what was told to the questions then.
-    again: Outcome<D>,
+    again: Told<D>,
 }
 
 /// Opens a device, asks these lines of a Book of the opening, opens its device again, and asks these questions. `None` if it isn't opened
@@ -48,9 +48,7 @@ fn renew<D: Disk + Drop, H: Wait + Drop + Copy>(
     requires { D.fault_count disk < 2 ^ 63 }
 {
     match Opening::open(alloc, disk) {
-        Ok(opening) => Ok(Some(renew_opened::<_, Brand, _>(
-            waits, alloc, opening, lines, questions,
-        )?)),
+        Ok(opening) => renew_opened::<_, Brand, _>(waits, alloc, opening, lines, questions),
         Err(_) => Ok(None),
     }
 }
@@ -62,17 +60,30 @@ fn renew_opened<D: Disk + Drop, J: Chapter, H: Wait + Drop + Copy>(
     opening: Opening<D>,
     lines: Vec<Asked>,
     questions: Vec<Asked>,
-) -> Result<Renewal<D>, AllocError>
+) -> Result<Option<Renewal<D>>, AllocError>
     requires { IsNamed J.base J.history J.setting opening HISTORY_LIMIT }
 {
     match Book::<D, J, Shower<J, H>>::of(waits, alloc, opening, HISTORY_LIMIT, 1) {
-        Ok((mut book, _seers)) => {
-            let replies = told_in_turn(alloc, &mut book, lines)?;
-            let again = open_again(waits, alloc, book, questions)?;
-            Ok(Renewal { replies, again })
-        }
+        Ok((book, _seers)) => renew_over(waits, alloc, book, lines, questions),
         Err(_) => Err(AllocError),
     }
+}
+
+// The same of a new Book.
+fn renew_over<D: Disk + Drop, J: Chapter, S: Publisher<J> + Drop, H: Wait + Drop + Copy>(
+    waits: H,
+    alloc: Global,
+    book: Book<D, J, S>,
+    lines: Vec<Asked>,
+    questions: Vec<Asked>,
+) -> Result<Option<Renewal<D>>, AllocError> {
+    let mut book = book;
+    let replies = told_in_turn(alloc, &mut book, lines);
+    let again = open_again(waits, alloc, book, questions);
+    Ok(Some(Renewal {
+        replies: replies?,
+        again: again?,
+    }))
 }
 
 // Opens a Book's device again, and asks these questions.
@@ -81,22 +92,46 @@ fn open_again<D: Disk + Drop, J: Chapter, S: Publisher<J> + Drop, H: Wait + Drop
     alloc: Global,
     book: Book<D, J, S>,
     questions: Vec<Asked>,
-) -> Result<Outcome<D>, AllocError> {
-    if MOST_FAULTS <= book.disk().faults() {
-        return Ok(Err((OpenFault::Fault, book.into_disk())));
-    }
-    let (opened, _closed) = book.open_again(alloc);
-    match opened {
-        Ok(opening) => Ok(Ok(ask_opened::<_, Brand, _>(waits, alloc, opening, questions)?)),
-        Err(fault) => Ok(Err(fault)),
+) -> Result<Told<D>, AllocError> {
+    match opened_again(alloc, book) {
+        Ok(opening) => ask_opened::<_, Brand, _>(waits, alloc, opening, questions),
+        Err((fault, disk)) => Ok(Told::nothing(alloc, fault, disk)),
     }
 }
 
+// Opens a Book's device again.
+fn opened_again<D: Disk + Drop, J: Chapter, S: Publisher<J> + Drop>(
+    alloc: Global,
+    book: Book<D, J, S>,
+) -> Result<Opening<D>, (OpenFault, D)> {
+    if MOST_FAULTS <= book.disk().faults() {
+        return Err((OpenFault::Fault, book.into_disk()));
+    }
+    let (opened, _closed) = book.open_again(alloc);
+    opened
+}
+
+// The same with the device within.
+fn within<D: Disk + Drop>(renewal: Renewal<FuseDisk<D>>) -> Renewal<D> {
+    let Renewal { replies, again } = renewal;
+    let Told { opened, text, disk } = again;
+    let again = Told {
+        opened,
+        text,
+        disk: disk.into_inner(),
+    };
+    Renewal { replies, again }
+}
+
 // Writes an opening's epoch and what was told over it, or why it isn't opened.
-fn tell_outcome<D: Disk + Drop>(told: &mut String, outcome: &Outcome<D>) -> Result<(), AllocError> {
-    match outcome {
-        Ok(Told { epoch, text, .. }) => write!(told, "epoch {epoch}: {text}"),
-        Err((fault, _disk)) => write!(told, "{fault:?}"),
+fn tell_over(
+    told: &mut String,
+    opened: &Result<Moment, OpenFault>,
+    text: &str,
+) -> Result<(), AllocError> {
+    match opened {
+        Ok(moment) => write!(told, "epoch {}: {text}", moment.epoch),
+        Err(fault) => write!(told, "{fault:?}"),
     }
 }
 
@@ -122,10 +157,7 @@ impl<H: Wait + Drop + Copy> Bench<H> {
         renewal: Renewal<FuseDisk<MemDisk>>,
         how: &str,
     ) -> Result<bool, AllocError> {
-        let is_whole = match &renewal.again {
-            Ok(over) => over.disk.faults() == 0,
-            Err(_) => false,
-        };
+        let is_whole = renewal.again.opened.is_ok() && renewal.again.disk.faults() == 0;
         let text = self.text_of(renewal, how)?;
         if is_whole {
             write!(told, "\n  no call fails: {text}")?;
@@ -159,12 +191,11 @@ impl<H: Wait + Drop + Copy> Bench<H> {
         let first = number(first) as u64;
         for calls in first.saturating_add(1)..MOST_CALLS {
             let disk = FuseDisk::once(FuseDisk::once(self.device()?, first), calls);
-            if let Some(Renewal { replies, again }) = self.renewed(disk, how)? {
-                let again = match again {
-                    Ok(_told) => return Ok(()),
-                    Err((fault, disk)) => Err((fault, disk.into_inner())),
-                };
-                let text = self.text_of(Renewal { replies, again }, how)?;
+            if let Some(renewal) = self.renewed(disk, how)? {
+                if renewal.again.opened.is_ok() {
+                    return Ok(());
+                }
+                let text = self.text_of(within(renewal), how)?;
                 write!(told, "\n  and one behind {calls}: {text}")?;
             }
         }
@@ -189,20 +220,24 @@ impl<H: Wait + Drop + Copy> Bench<H> {
         how: &str,
     ) -> Result<String, AllocError> {
         let Renewal { replies, again } = renewal;
-        let mut text = replies;
-        text.push_str("; again ")?;
-        tell_outcome(&mut text, &again)?;
-        match again {
-            Ok(_told) => Ok(text),
-            Err((_fault, disk)) => {
-                self.tell_left(&mut text, &disk.into_inner(), how)?;
-                Ok(text)
-            }
+        let Told { opened, text, disk } = again;
+        let mut told = replies;
+        told.push_str("; again ")?;
+        tell_over(&mut told, &opened, text.as_str())?;
+        if opened.is_err() {
+            self.tell_left(&mut told, disk, how)?;
         }
+        Ok(told)
     }
 
     // Writes what is opened of the bytes of a device's last sync, and of all written bytes.
-    fn tell_left(&self, told: &mut String, below: &MemDisk, how: &str) -> Result<(), AllocError> {
+    fn tell_left(
+        &self,
+        told: &mut String,
+        disk: FuseDisk<MemDisk>,
+        how: &str,
+    ) -> Result<(), AllocError> {
+        let below = disk.into_inner();
         told.push_str("; then ")?;
         self.tell_answers(told, below.image(self.alloc, u64::MAX, Fill::Old)?, how)?;
         told.push_str("; or ")?;
@@ -216,6 +251,7 @@ impl<H: Wait + Drop + Copy> Bench<H> {
             MemDisk::of(self.alloc, bytes)?,
             asked_in_turn(self.alloc, questions)?,
         );
-        tell_outcome(told, &ask(self.waits, self.alloc, disk, asked)?)
+        let over = ask(self.waits, self.alloc, disk, asked)?;
+        tell_over(told, &over.opened, over.text.as_str())
     }
 }

@@ -3,6 +3,7 @@ ghost use Rattle.std.specs.Prelude.{◌≡◌};
 ghost use Rattle.pfd_words.specs.declared.words.TheConstants.{HISTORY_LIMIT};
 ghost use Rattle.pf_book.specs.Books.{IsNamed};
 
+use crate::tally::Tally;
 use pf_core::Command;
 use pf_line::{Request, parse_line, write_judged};
 use pf_rule::Packet;
@@ -11,12 +12,10 @@ use pfd::{
     Numbering, OpenGate, Opening, Receipt, Seer, Shared, open_fresh, serve_listener,
 };
 use std::alloc::Global;
-use std::io::{self, ErrorKind};
+use std::io::{self, ErrorKind, Write};
 use std::marker::Brand;
-use std::process::Abort;
 use std::sync::Wait;
 use std::sync::atomic::{AtomicU32, Ordering};
-use std::test::*;
 use std::thread;
 use std::thread::Threads;
 
@@ -112,51 +111,61 @@ fn commit_block<J: Chapter + Numbering, R: Wait>(
 }
 
 /// Each change of two callers has its own number. Behind them a rule that blocks is committed: the receipt of that.
-fn change<J: Chapter + Numbering + Send + Sync, R: Wait + Threads + Abort + Sync>(
+fn change<J: Chapter + Numbering + Send + Sync, R: Wait + Threads + Sync>(
     rt: &R,
     alloc: Global,
     shared: &Shared<MemDisk, J, &R>,
-) -> Result<Receipt<J>, Fail> {
+    tally: &mut Tally,
+) -> io::Result<Receipt<J>> {
     let mut numbers = change_at_once(rt, alloc, shared)?;
     numbers.sort()?;
-    assert!(rt; numbers.iter().copied().eq(1..ALL));
+    let is_each = numbers.iter().copied().eq(1..ALL);
+    tally.hold("each change has a number of its own", is_each)?;
     let commit = commit_block(rt, alloc, shared)?;
-    assert!(rt; commit.seq() == ALL && commit.change().is_some());
+    let is_last = commit.seq() == ALL && commit.change().is_some();
+    tally.hold("the commit is the last change", is_last)?;
     Ok(commit)
 }
 
 /// A seer that learns of a commit and one that doesn't both judge by it, each in a thread of its own.
-fn judge<J: Chapter + Send + Sync, R: Threads + Abort + Sync>(
+fn judge<J: Chapter + Send + Sync, R: Threads + Sync>(
     rt: &R,
     alloc: Global,
     commit: &Receipt<J>,
     told: &mut Seer<J>,
     untold: &mut Seer<J>,
-) -> Result<(), Fail> {
+    tally: &mut Tally,
+) -> io::Result<()> {
     let Some(token) = commit.token() else {
-        return Err(Fail::from("a token"));
+        return Err(io::Error::from(ErrorKind::NotFound));
     };
     told.learn(token);
     let (one, other) = thread::join(rt, || judged(alloc, told), || judged(alloc, untold));
-    assert!(rt; one?.as_slice() == b"block rule 0\n".as_slice());
-    assert!(rt; other?.as_slice() == b"block rule 0\n".as_slice());
+    let (one, other) = (is_blocked(one)?, is_blocked(other)?);
+    tally.hold("a seer that is told judges by the commit", one)?;
+    tally.hold("a seer that isn't told judges by it too", other)?;
     Ok(())
 }
 
+/// Whether a verdict is that of the rule that was committed.
+fn is_blocked(verdict: io::Result<Vec<u8>>) -> io::Result<bool> {
+    Ok(verdict?.as_slice() == b"block rule 0\n".as_slice())
+}
+
 /// An answer and a refusal change nothing, and their receipts say so.
-fn ask<J: Chapter + Numbering, R: Wait + Abort>(
+fn ask<J: Chapter + Numbering, R: Wait>(
     rt: &R,
     alloc: Global,
     shared: &Shared<MemDisk, J, &R>,
     commit: &Receipt<J>,
-) -> Result<(), Fail> {
+    tally: &mut Tally,
+) -> io::Result<()> {
     for line in ["test - a 10.0.0.1", "tkill - none"] {
         let (_reply, receipt) = shared.run(rt, command(alloc, line)?, Some(commit));
-        assert!(rt; receipt.seq() == commit.seq(), "at {line}");
-        assert!(rt;
-            receipt.change().is_none() && receipt.token().is_none(),
-            "at {line}"
-        );
+        let is_same = receipt.seq() == commit.seq()
+            && receipt.change().is_none()
+            && receipt.token().is_none();
+        tally.hold(line, is_same)?;
     }
     Ok(())
 }
@@ -179,101 +188,127 @@ impl Accept for Unsteady {
 }
 
 /// A listener that fails ends the server, though it may have any number of sessions.
-fn fail_to_listen<J: Chapter + Numbering + Send + Sync, R: Wait + Threads + Abort + Sync>(
+fn fail_to_listen<J: Chapter + Numbering + Send + Sync, R: Wait + Threads + Sync>(
     rt: &R,
     alloc: Global,
     shared: &Shared<MemDisk, J, &R>,
     seers: Vec<Seer<J>>,
-) {
+    tally: &mut Tally,
+) -> io::Result<()> {
     let listener = Unsteady {
         calls: AtomicU32::new(0),
     };
     let served = serve_listener(rt, alloc, &listener, shared, seers, &OpenGate, 0);
-    assert!(rt; served == Err(EngineFault::Read));
-    assert!(rt; listener.calls.load(Ordering::SeqCst) == 3);
+    let has_failed = served == Err(EngineFault::Read);
+    tally.hold("a listener that fails ends the server", has_failed)?;
+    let calls = listener.calls.load(Ordering::SeqCst);
+    tally.hold("a client that gives up doesn't", calls == 3)?;
+    Ok(())
 }
 
 /// Callers and seers beside a Book that is shared: the receipt of a commit, which both seers then judge by.
-fn call<J: Chapter + Numbering + Send + Sync, R: Wait + Threads + Abort + Sync>(
+fn call<J: Chapter + Numbering + Send + Sync, R: Wait + Threads + Sync>(
     rt: &R,
     alloc: Global,
     shared: &Shared<MemDisk, J, &R>,
     told: &mut Seer<J>,
     untold: &mut Seer<J>,
-) -> Result<Receipt<J>, Fail> {
+    tally: &mut Tally,
+) -> io::Result<Receipt<J>> {
     let before = judged(alloc, untold)?;
-    assert!(rt; before.as_slice() == b"pass default\n".as_slice());
-    let commit = change(rt, alloc, shared)?;
-    judge(rt, alloc, &commit, told, untold)?;
-    ask(rt, alloc, shared, &commit)?;
+    let passes = before.as_slice() == b"pass default\n".as_slice();
+    tally.hold("before the commit all passes", passes)?;
+    let commit = change(rt, alloc, shared, tally)?;
+    judge(rt, alloc, &commit, told, untold, tally)?;
+    ask(rt, alloc, shared, &commit, tally)?;
     Ok(commit)
 }
 
 /// What a Book says of a commit that was the last call.
-fn confirm<J: Chapter, R: Wait + Abort>(
-    rt: &R,
+fn confirm<J: Chapter, R: Wait>(
     book: &mut Book<MemDisk, J, &R>,
     commit: &Receipt<J>,
-) {
-    assert!(rt; book.confirm(commit));
-    assert!(rt; book.log_len() == commit.seq() && book.acked() == commit.seq());
-    assert!(rt; book.change_at(1).is_some() && book.change_at(ALL + 1).is_none());
+    tally: &mut Tally,
+) -> io::Result<()> {
+    tally.hold("the Book knows the commit", book.confirm(commit))?;
+    let is_last = book.log_len() == commit.seq() && book.acked() == commit.seq();
+    tally.hold("the commit is the last of its history", is_last)?;
+    let ends = book.change_at(1).is_some() && book.change_at(ALL + 1).is_none();
+    tally.hold("no change stands behind it", ends)?;
+    Ok(())
 }
 
 /// A seer of a Book that is gone judges no more.
-fn judge_no_more<J: Chapter, R: Abort>(
-    rt: &R,
+fn judge_no_more<J: Chapter>(
     alloc: Global,
     seer: &mut Seer<J>,
-) -> Result<(), Fail> {
+    tally: &mut Tally,
+) -> io::Result<()> {
     let gone = judged(alloc, seer)?;
-    assert!(rt; gone.as_slice() == b"gone\n".as_slice());
+    let is_gone = gone.as_slice() == b"gone\n".as_slice();
+    tally.hold("a seer of a Book that is gone judges no more", is_gone)?;
     Ok(())
 }
 
 /// Shares a Book with callers, seers and a listener, and takes it back from them.
-fn share<J: Chapter + Numbering + Send + Sync, R: Wait + Threads + Abort + Sync>(
+fn share<J: Chapter + Numbering + Send + Sync, R: Wait + Threads + Sync>(
     rt: &R,
     alloc: Global,
     shared: Shared<MemDisk, J, &R>,
     told: &mut Seer<J>,
     untold: &mut Seer<J>,
     seers: Vec<Seer<J>>,
-) -> Result<(), Fail> {
-    let commit = call(rt, alloc, &shared, told, untold)?;
-    fail_to_listen(rt, alloc, &shared, seers);
+    tally: &mut Tally,
+) -> io::Result<()> {
+    let commit = call(rt, alloc, &shared, told, untold, tally)?;
+    fail_to_listen(rt, alloc, &shared, seers, tally)?;
     let mut book = shared.close();
-    confirm(rt, &mut book, &commit);
-    Ok(())
+    confirm(&mut book, &commit, tally)
 }
 
 /// Callers and seers beside a Book, and what the Book says once they have ended.
-fn play<J: Chapter + Numbering + Send + Sync, R: Wait + Threads + Abort + Sync>(
+fn play<J: Chapter + Numbering + Send + Sync, R: Wait + Threads + Sync>(
     rt: &R,
     alloc: Global,
     opening: Opening<MemDisk>,
     calls: NewCalls,
-) -> Result<(), Fail>
+    tally: &mut Tally,
+) -> io::Result<()>
     requires name { IsNamed J.base J.history J.setting opening HISTORY_LIMIT }
     requires calls { calls ≡ J.register }
 {
     let Ok((book, mut seers)) = Book::<MemDisk, J, &R>::of(rt, alloc, opening, HISTORY_LIMIT, 3)
     else {
-        return Err(Fail::from("a Book"));
+        return Err(io::Error::from(ErrorKind::Other));
     };
     let shared = Shared::new(book, calls);
     let (Some(mut told), Some(mut untold)) = (seers.pop(), seers.pop()) else {
-        return Err(Fail::from("two seers"));
+        return Err(io::Error::from(ErrorKind::NotFound));
     };
-    share(rt, alloc, shared, &mut told, &mut untold, seers)?;
-    judge_no_more(rt, alloc, &mut untold)
+    share(rt, alloc, shared, &mut told, &mut untold, seers, tally)?;
+    judge_no_more(alloc, &mut untold, tally)
 }
 
-#[test]
-fn callers_and_seers_go_on_at_once(rt: HostRuntime) -> Result<(), Fail> {
-    let disk = MemDisk::of(rt.alloc(), vec![in rt.alloc(); 0u8; MEMORY_SIZE]?)?;
-    match open_fresh(rt.alloc(), disk) {
-        Ok(opening) => play::<Brand, _>(&rt, rt.alloc(), opening, NewCalls::open()),
-        Err(_) => Err(Fail::from("a fresh disk")),
+/// The same over a new disk in memory.
+fn play_beside<R: Wait + Threads + Sync>(
+    rt: &R,
+    alloc: Global,
+    tally: &mut Tally,
+) -> io::Result<()> {
+    let disk = MemDisk::of(alloc, vec![in alloc; 0u8; MEMORY_SIZE]?)?;
+    match open_fresh(alloc, disk) {
+        Ok(opening) => play::<Brand, _>(rt, alloc, opening, NewCalls::open(), tally),
+        Err(_) => Err(io::Error::from(ErrorKind::Other)),
     }
+}
+
+/// Plays it, and writes what it came to.
+pub(crate) fn tell_all<R: Wait + Threads + Sync, W: Write>(
+    rt: &R,
+    alloc: Global,
+    out: &mut W,
+) -> io::Result<()> {
+    let mut tally = Tally::none(alloc);
+    play_beside(rt, alloc, &mut tally)?;
+    tally.tell(out, "Callers and seers beside one Book")
 }

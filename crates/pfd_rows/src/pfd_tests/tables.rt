@@ -1,4 +1,5 @@
 //! Commands on tables that no line can carry: lists without entries, and lists longer than a line.
+use crate::tally::Tally;
 use pf_addr::path::TableName;
 use pf_addr::{Addr, Net};
 use pf_anchor::Path;
@@ -8,9 +9,9 @@ use pf_core::{
 use pf_line::write_reply;
 use pf_table::{Entry, TABLE_LIMIT};
 use pf_ticket::{RulesetName, RulesetNames, RulesetTicket, RulesetTickets, Ticket};
-use std::alloc::Global;
+use std::alloc::{AllocError, Global};
+use std::io::{self, ErrorKind};
 use std::sync::Arc;
-use std::test::*;
 
 /// What is done with some entries, on the main ruleset's table `banned`.
 #[derive(Clone, Copy)]
@@ -59,7 +60,7 @@ const ROWS: &[(Deed, usize, &str)] = &[
     ),
 ];
 
-fn networks(alloc: Global, count: usize) -> Result<EntryList, Fail> {
+fn networks(alloc: Global, count: usize) -> Result<EntryList, AllocError> {
     let mut entries = Vec::with_capacity(alloc, count)?;
     for number in (0..u32::MAX).take(count) {
         entries.push(Entry::new(Net::new(Addr::V4(number), 32), false))?;
@@ -68,14 +69,14 @@ fn networks(alloc: Global, count: usize) -> Result<EntryList, Fail> {
 }
 
 /// The tables of the main ruleset.
-fn main_tables(alloc: Global) -> Result<RulesetNames, Fail> {
+fn main_tables(alloc: Global) -> Result<RulesetNames, AllocError> {
     let mut names = Vec::new(alloc);
     names.push(RulesetName::table(&Path::main()))?;
     Ok(RulesetNames::new(names))
 }
 
 /// The first ticket, as one for these tables.
-fn first_ticket(alloc: Global) -> Result<RulesetTickets, Fail> {
+fn first_ticket(alloc: Global) -> Result<RulesetTickets, AllocError> {
     let mut tickets = Vec::new(alloc);
     tickets.push(RulesetTicket {
         name: RulesetName::table(&Path::main()),
@@ -127,8 +128,10 @@ fn command(
 }
 
 /// The command of a row.
-fn command_of(alloc: Global, deed: Deed, count: usize) -> Result<Command, Fail> {
-    let name = TableName::from_ascii(b"banned")?;
+fn command_of(alloc: Global, deed: Deed, count: usize) -> io::Result<Command> {
+    let Ok(name) = TableName::from_ascii(b"banned") else {
+        return Err(io::Error::from(ErrorKind::InvalidData));
+    };
     let entries = networks(alloc, count)?;
     let tables = main_tables(alloc)?;
     let tickets = first_ticket(alloc)?;
@@ -153,17 +156,39 @@ fn answer(core: &mut Core, command: &Command, changes: &mut u64) -> Reply {
     }
 }
 
-#[test]
-fn lists_have_any_number_of_entries(rt: HostRuntime) -> Result<(), Fail> {
-    let alloc = rt.alloc();
-    let mut core = Core::new(alloc, Arc::new(alloc, Durable::empty(alloc, 1)?)?);
+// The bytes of a reply.
+fn text_of(alloc: Global, reply: &Reply) -> io::Result<Vec<u8>> {
+    let mut text = Vec::new(alloc);
+    write_reply(&mut text, reply)?;
+    Ok(text)
+}
+
+// What is told to a row's command.
+fn told_to(
+    alloc: Global,
+    core: &mut Core,
+    deed: Deed,
+    count: usize,
+    changes: &mut u64,
+) -> io::Result<Vec<u8>> {
+    let command = command_of(alloc, deed, count)?;
+    text_of(alloc, &answer(core, &command, changes))
+}
+
+// What runs commands, with nothing kept.
+fn fresh(alloc: Global) -> Result<Core, AllocError> {
+    let durable = Arc::new(alloc, Durable::empty(alloc, 1)?)?;
+    Ok(Core::new(alloc, durable))
+}
+
+/// Runs all rows in turn.
+pub(crate) fn run_each(alloc: Global) -> io::Result<Tally> {
+    let mut tally = Tally::none(alloc);
+    let mut core = fresh(alloc)?;
     let mut changes = 0;
     for (deed, count, wanted) in ROWS {
-        let command = command_of(alloc, *deed, *count)?;
-        let mut text = Vec::new(alloc);
-        let reply = answer(&mut core, &command, &mut changes);
-        write_reply(&mut text, &reply)?;
-        assert!(rt; text.as_slice() == wanted.as_bytes(), "at {wanted}");
+        let told = told_to(alloc, &mut core, *deed, *count, &mut changes)?;
+        tally.hold(wanted.trim_end(), told.as_slice() == wanted.as_bytes())?;
     }
-    Ok(())
+    Ok(tally)
 }

@@ -1,6 +1,8 @@
 //! The text of each fault.
+use crate::tally::Tally;
 use pfd_files::Fault;
-use std::test::*;
+use std::alloc::Global;
+use std::io;
 
 /// Each fault with its text.
 const TEXTS: &[(Fault, &str)] = &[
@@ -17,11 +19,12 @@ const TEXTS: &[(Fault, &str)] = &[
     (Fault::Told, "told"),
 ];
 
-#[test]
-fn has_a_text_for_each_fault(rt: HostRuntime) -> Result<(), Fail> {
+/// Looks at the text of each fault.
+pub(crate) fn show_each(alloc: Global) -> io::Result<Tally> {
+    let mut tally = Tally::none(alloc);
     for (fault, wanted) in TEXTS {
-        let text = format!(in rt.alloc(); "{fault}")?;
-        assert!(rt; text.as_str() == *wanted, "at {wanted}");
+        let text = format!(in alloc; "{fault}")?;
+        tally.hold(wanted, text.as_str() == *wanted)?;
     }
-    Ok(())
+    Ok(tally)
 }

@@ -1,6 +1,6 @@
 use Rattle.pf_book.specs.Books.{setting_of}
 use Rattle.pf_store_tests.specs.declared.books.TheConstants.{HISTORY_LIMIT}
-use Rattle.pf_store_tests.proofs.saves.Bench.play_segment.Given as goal
+use Rattle.pf_store_tests.proofs.saves.Bench.play_opening.Given as goal
 
 -- the opening is named by what it gave, its history, and its limits
 abbrev pub ghosts-play_over-J-Naming : goal.ghosts-play_over-J-Naming

@@ -1,6 +1,6 @@
 use Rattle.pf_book.specs.Books.{setting_of}
 use Rattle.pfd_words.specs.declared.words.TheConstants.{HISTORY_LIMIT}
-use Rattle.server_tests.proofs.seers.callers_and_seers_go_on_at_once.Given as goal
+use Rattle.pfd_rows.proofs.server_tests.play_beside.Given as goal
 
 -- the opening is named by what it gave, its history, and its limits
 abbrev pub ghosts-play-J-Naming : goal.ghosts-play-J-Naming
