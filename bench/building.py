@@ -161,10 +161,11 @@ def built(where, name, sources=MAIN, rows=""):
     return program
 
 
-def compiled(source, folder):
-    """The path of a library of a file of bench/ in C, which is left in this folder. A program can load it before all others."""
+def compiled(source, folder, kind=("-shared", "-fPIC")):
+    """The path of a library of a file of bench/ in C, which is left in this folder. A program can load it before all others. With another kind,
+    as that of no words, it is a program."""
     library = os.path.join(folder, os.path.splitext(os.path.basename(source))[0] + ".so")
-    subprocess.run(["cc", "-O2", "-shared", "-fPIC", "-o", library, os.path.join(ROOT, "bench", source)], check=True)
+    subprocess.run(["cc", "-O2", *kind, "-o", library, os.path.join(ROOT, "bench", source)], check=True)
     return library
 
 
