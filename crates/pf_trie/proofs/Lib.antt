@@ -8,3 +8,4 @@ pub mod LastZeros
 pub mod ForkSlots
 pub mod Roots
 pub mod OneSlot
+pub mod LastRow

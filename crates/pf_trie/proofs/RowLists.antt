@@ -1,5 +1,5 @@
 -- Rows: which is at an address or before it, and what edits leave.
-use Rattle.std.proofs.{Common.{◌≡◌, ◌≢◌, ℕ, suc, ◌+◌, ◌-◌, ◌*◌, ◌/◌, ◌%◌, ◌^◌, ◌<◌, ◌≤◌, ◌==◌, ◌&&◌, Bool, true, false, cond, nat_le, nat_lt, List, [], ◌∷◌, ◌++◌, length, get_or, set, take, drop, filter, map, Option, Some, None, All, refl, sym, ap, ◌∙◌, subst, arith}, lemmas.{Bool.and_parts, Bool.Decides.nat_tests, Nat.{mod_below, mul-add-lt, pow_pos, pow-add, shl-shr, shr_below, shr_split}, List.{append-nil, get_or_default, length-set, get_or-set_same, get_or-set_other, map_push}, List.Edits.{insert_end, length-insert, get_or-insert_below, get_or-insert_at, get_or-insert_above, length-remove, get_or-remove_below, get_or-remove_above}, List.Elements.{All-append, All-take, All-drop, All-cons, filter_more}}, Math.Nat.div-mul-le_self}
+use Rattle.std.proofs.{Common.{◌≡◌, ◌≢◌, ℕ, suc, ◌+◌, ◌-◌, ◌*◌, ◌/◌, ◌%◌, ◌^◌, ◌<◌, ◌≤◌, ◌==◌, ◌&&◌, Bool, true, false, cond, nat_le, nat_lt, List, [], ◌∷◌, ◌++◌, length, get_or, set, take, drop, filter, map, Option, Some, None, All, refl, sym, ap, ◌∙◌, subst, arith}, lemmas.{Bool.and_parts, Bool.Decides.nat_tests, Nat.{mod_below, mul-add-lt, pow_pos, pow-add, shl-shr, shr_below, shr_split}, List.{append-nil, get_or_default, length-set, get_or-set_same, get_or-set_other, map_push}, List.Edits.{length-insert, get_or-insert_below, get_or-insert_at, get_or-insert_above, length-remove, get_or-remove_below, get_or-remove_above}, List.Elements.{All-append, All-take, All-drop, All-cons, filter_more}}, Math.Nat.div-mul-le_self}
 use Rattle.std.specs.List.{AllPairs, AllWithin, Any, insert, remove}
 use Rattle.pf_trie.specs.declared.{found.Found.{Found}, prefix.Prefix.{Prefix}, rows.Row.{Row}, signs.Signs.{Signs}}
 use Rattle.pf_trie.specs.{Prefixes.{AllSigns, IsApart, front, first_of, with_sign, Finds}, Signs.{sign_of, IsShortest}, Rows.{HasSigns, IsInOrder, IsAt, AreRows, AreRowsWith, IsUpTo, IsBetween, IsNoStart, Marks, MarksEach, cut_row}}
@@ -283,7 +283,7 @@ one_marked p sign old new from i e x is up lt marks = record {
       subst (λ (y : Row). Marks p sign (get_or old k r) y) (sym (get_or-set_other new i k x r other)) (is.done k r le (omega (arith, less, other)))
 
 -- a prefix contains no address before its first one
-before_first : (p : Prefix) (n : ℕ) → n < first_of p → (n / 2 ^ p.free == front p) ≡ false
+pub before_first : (p : Prefix) (n : ℕ) → n < first_of p → (n / 2 ^ p.free == front p) ≡ false
 before_first p n lt = by (n / 2 ^ p.free == front p) refl where
   by : (t : Bool) → (n / 2 ^ p.free == front p) ≡ t → (n / 2 ^ p.free == front p) ≡ false
   by false t = t
@@ -304,7 +304,7 @@ past_last p n lt = by (n / 2 ^ p.free == front p) refl where
       absurd (omega (arith, whole, rest, lt))
 
 -- a row that the prefix doesn't contain
-unmarked : (p : Prefix) (sign : Option Bool) (r : Row) → (r.first / 2 ^ p.free == front p) ≡ false → Marks p sign r r
+pub unmarked : (p : Prefix) (sign : Option Bool) (r : Row) → (r.first / 2 ^ p.free == front p) ≡ false → Marks p sign r r
 unmarked p sign r out = record {
   first = refl;
   signs = λ k. sym (ap (λ (b : Bool). cond (b && (k == p.free)) sign (sign_of r.signs k)) out);
@@ -506,11 +506,11 @@ abbrev begins_so : ℕ → ℕ → Row → Bool
 begins_so at n r = r.first / 2 ^ at == n
 
 -- one more of them, at the end
-pub one_kept : (at n : ℕ) (rows within : List Row) (i end : ℕ) (r cut : Row) → i < length rows → get_or rows i r ≡ r → r.first / 2 ^ at ≡ n
-    → cut ≡ cut_row at r → end ≡ length within → within ≡ map (cut_row at) (filter (begins_so at n) (take i rows))
-    → insert within end cut ≡ map (cut_row at) (filter (begins_so at n) (take (i + 1) rows))
-one_kept at n rows within i end r cut lt here in_front is_cut is_end is =
-    (λ j. insert within (is_end j) (is_cut j)) ∙ insert_end within (cut_row at r) ∙ ap (λ (xs : List Row). xs ++ cut_row at r ∷ []) is
+pub one_kept : (at n : ℕ) (rows within : List Row) (i : ℕ) (r cut : Row) → i < length rows → get_or rows i r ≡ r → r.first / 2 ^ at ≡ n
+    → cut ≡ cut_row at r → within ≡ map (cut_row at) (filter (begins_so at n) (take i rows))
+    → within ++ cut ∷ [] ≡ map (cut_row at) (filter (begins_so at n) (take (i + 1) rows))
+one_kept at n rows within i r cut lt here in_front is_cut is =
+    ap (λ (x : Row). within ++ x ∷ []) is_cut ∙ ap (λ (xs : List Row). xs ++ cut_row at r ∷ []) is
     ∙ sym (map_push (cut_row at) (filter (begins_so at n) (take i rows)) r)
     ∙ ap (λ (xs : List Row). map (cut_row at) xs) (sym (filter_more (begins_so at n) rows i r lt ∙ step))
   where

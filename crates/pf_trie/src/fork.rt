@@ -86,7 +86,7 @@ fn empty_slots<T: Level>(alloc: Global) -> Result<Vec<Slot<T>>, AllocError>
     ensures empty { IfOk result (λ v. All (IsEmptySlot T.holds) v.items) }
 {
     let mut slots = Vec::with_capacity(alloc, SLOTS)?;
-    for place in 0..SLOTS {
+    for _ in 0..SLOTS {
         slots.push(Slot::none())?;
     }
     Ok(slots)

@@ -1,5 +1,5 @@
 //! Rows in order: which is at an address, and what edits leave.
-ghost use Rattle.std.specs.Prelude.{◌≡◌, ℕ, ◌/◌, ◌^◌, ◌<◌, ◌≤◌, ◌==◌, length, filter, map, Some, None, IfOk, IfNone, IfSome};
+ghost use Rattle.std.specs.Prelude.{◌≡◌, ℕ, ◌++◌, ◌∷◌, [], ◌/◌, ◌^◌, ◌<◌, ◌≤◌, ◌==◌, length, filter, map, Some, None, IfOk, IfNone, IfSome};
 ghost use Rattle.std.specs.List.{insert};
 ghost use Rattle.pf_trie.specs.Prefixes.{AllSigns, first_of, with_sign};
 ghost use Rattle.pf_trie.specs.Rows.{HasSigns, IsInOrder, AreOfOneSlot, AreRows, AreRowsWith, IsUpTo, IsBetween, MarksEach, cut_row};
@@ -35,7 +35,11 @@ pub(crate) fn up_to_between(rows: &RowList, address: u128, from: usize, to: usiz
 pub(crate) fn up_to(rows: &RowList, address: u128) -> usize
     ensures { IsUpTo rows.now address result }
 {
-    up_to_between(rows, address, 0, rows.len())
+    let count = rows.len();
+    if count == 0 || rows.at(count - 1).first <= address {
+        return count;
+    }
+    up_to_between(rows, address, 0, count)
 }
 
 /// The signs of an address's prefixes, by the last row that isn't past it, of so many rows that aren't. Each prefix that has a sign and contains
@@ -72,6 +76,18 @@ pub(crate) fn lacking(rows: &RowList, place: usize, address: u128) -> Option<Row
         first: address,
         signs: signs_by(rows, place, address),
     })
+}
+
+// The row that rows lack at an address, whose place is behind them. `None`: they have one there, or one past it.
+fn lacking_behind(rows: &RowList, address: u128) -> Option<Row>
+    ensures address { IfSome result (λ row. row.first ≡ address) }
+    ensures lacks { IfSome result (λ row. (s : AllSigns) (top front : ℕ) → AreRows s top front rows.now → address / 2 ^ top ≡ front → AreRowsWith s top front address (rows.now ++ row ∷ [])) }
+{
+    let count = rows.len();
+    if count > 0 && rows.at(count - 1).first > address {
+        return None;
+    }
+    lacking(rows, count, address)
 }
 
 // Rows with one at this address. `AllocError`: nothing is left of them.
@@ -122,8 +138,24 @@ fn clear(rows: RowList, address: u128) -> RowList
     rows
 }
 
-/// Rows with a sign at a prefix. `AllocError`: nothing is left of them.
+/// Rows with a sign at a prefix. Where they come in order, few steps are taken for each. `AllocError`: nothing is left of them.
 pub(crate) fn with_sign(
+    alloc: Global,
+    rows: RowList,
+    prefix: Prefix,
+    sign: bool,
+) -> Result<RowList, AllocError>
+    requires { prefix.free < 128 }
+    ensures { IfOk result (λ v. (s : AllSigns) (top front : ℕ) → AreRows s top front rows → prefix.free < top → prefix.address / 2 ^ top ≡ front → AreRows (with_sign s prefix (Some sign)) top front v) }
+{
+    match lacking_behind(&rows, prefix.first()) {
+        Some(row) => rows.push(alloc, row.marked(prefix, Some(sign))),
+        None => with_sign_among(alloc, rows, prefix, sign),
+    }
+}
+
+// Rows with a sign at a prefix, wherever it belongs. `AllocError`: nothing is left of them.
+fn with_sign_among(
     alloc: Global,
     rows: RowList,
     prefix: Prefix,
@@ -186,8 +218,7 @@ pub(crate) fn rows_within(
     for place in 0..rows.len() {
         let row = rows.at(place);
         if row.first >> at == front {
-            let end = within.len();
-            within = within.insert(alloc, end, row.cut(at))?;
+            within = within.push(alloc, row.cut(at))?;
         }
     }
     Ok(within)

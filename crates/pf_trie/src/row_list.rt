@@ -188,6 +188,28 @@ impl RowList {
         }
     }
 
+    /// With a row behind the last one. `AllocError`: nothing is left of them.
+    pub(crate) fn push(self, alloc: Global, row: Row) -> Result<RowList, AllocError>
+        ensures { IfOk result (λ l. l ≡ self ++ row ∷ []) }
+    {
+        let RowList { kept } = self;
+        match (kept, NarrowRow::of(row)) {
+            (Kept::Narrow(mut rows), Some(narrow)) => {
+                rows.push(narrow)?;
+                Ok(RowList {
+                    kept: Kept::Narrow(rows),
+                })
+            }
+            (kept, _) => {
+                let mut rows = RowList { kept }.wide(alloc)?;
+                rows.push(row)?;
+                Ok(RowList {
+                    kept: Kept::Wide(rows),
+                })
+            }
+        }
+    }
+
     /// With another row at a place. `AllocError`: nothing is left of them.
     pub(crate) fn set(self, alloc: Global, place: usize, row: Row) -> Result<RowList, AllocError>
         requires { place < length self }

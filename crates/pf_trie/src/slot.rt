@@ -1,5 +1,5 @@
 //! Slots of forks.
-ghost use Rattle.std.specs.Prelude.{◌≡◌, ℕ, ◌+◌, ◌-◌, ◌/◌, ◌^◌, ◌<◌, ◌≤◌, ◌≡◌, None, IfOk};
+ghost use Rattle.std.specs.Prelude.{◌≡◌, ℕ, ◌+◌, ◌-◌, ◌/◌, ◌^◌, ◌<◌, ◌≤◌, None, IfOk};
 ghost use Rattle.pf_trie.specs.{Prefixes.{AllSigns, Finds, with_sign}, Signs.sign_of, Rows.AreRows, Forks.{IsSlot, IsEmptySlot, SameSlot}};
 
 use crate::found::Found;

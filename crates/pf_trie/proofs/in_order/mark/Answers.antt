@@ -1,4 +1,4 @@
-use Rattle.std.proofs.Common.{◌≡◌, ◌+◌, ◌-◌, ◌^◌, ◌<◌, ◌≤◌, ℕ, List, sym, subst, arith}
+use Rattle.std.proofs.Common.{◌+◌, ◌-◌, ◌^◌, ◌<◌, ◌≤◌, ℕ, List, sym, subst, arith}
 use Rattle.pf_trie.specs.declared.rows.Row.{Row}
 use Rattle.pf_trie.specs.Prefixes.{first_of}
 use Rattle.pf_trie.proofs.{Marks.{MarkedTo, none_yet, one_further, marked_to_end, marked_to_last}, IndexEdits.marked_addresses}

@@ -1,4 +1,4 @@
-use Rattle.std.proofs.Common.{◌+◌, ◌<◌, ℕ, length, set, sym, subst, arith}
+use Rattle.std.proofs.Common.{◌+◌, ℕ, set, sym, subst, arith}
 use Rattle.pf_trie.proofs.IndexEdits.{AddedBehind, none_added, one_added, index_with_one_more}
 use Rattle.pf_trie.proofs.indexed.with_one_more.Goals as goal
 

@@ -1,7 +1,7 @@
 use Rattle.std.proofs.Common.{◌≡◌, ◌+◌, ◌/◌, ◌^◌, ◌<◌, List, refl, sym, subst, arith}
 use Rattle.std.proofs.lemmas.Result.{IfOk-weaker}
 use Rattle.std.specs.Arc.{arc_value}
-use Rattle.pf_trie.specs.declared.{rows.Row.{Row}, signs.Signs.{Signs}}
+use Rattle.pf_trie.specs.declared.{signs.Signs.{Signs}}
 use Rattle.pf_trie.specs.{Prefixes.with_sign, Rows.AreRows, Forks.IsForkOf}
 use Rattle.pf_trie.proofs.ForkSlots.{fork_below, fork_above, fork_same}
 use Rattle.pf_trie.proofs.branch.BranchLevel.replaced.Goals as goal
