@@ -9,3 +9,4 @@ pub mod ForkSlots
 pub mod Roots
 pub mod OneSlot
 pub mod LastRow
+pub mod RowsWithin

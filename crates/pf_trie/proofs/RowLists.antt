@@ -1,5 +1,5 @@
 -- Rows: which is at an address or before it, and what edits leave.
-use Rattle.std.proofs.{Common.{◌≡◌, ◌≢◌, ℕ, suc, ◌+◌, ◌-◌, ◌*◌, ◌/◌, ◌%◌, ◌^◌, ◌<◌, ◌≤◌, ◌==◌, ◌&&◌, Bool, true, false, cond, nat_le, nat_lt, List, [], ◌∷◌, ◌++◌, length, get_or, set, take, drop, filter, map, Option, Some, None, All, refl, sym, ap, ◌∙◌, subst, arith}, lemmas.{Bool.and_parts, Bool.Decides.nat_tests, Nat.{mod_below, mul-add-lt, pow_pos, pow-add, shl-shr, shr_below, shr_split}, List.{append-nil, get_or_default, length-set, get_or-set_same, get_or-set_other, map_push}, List.Edits.{length-insert, get_or-insert_below, get_or-insert_at, get_or-insert_above, length-remove, get_or-remove_below, get_or-remove_above}, List.Elements.{All-append, All-take, All-drop, All-cons, filter_more}}, Math.Nat.div-mul-le_self}
+use Rattle.std.proofs.{Common.{◌≡◌, ◌≢◌, ℕ, suc, ◌+◌, ◌-◌, ◌*◌, ◌/◌, ◌%◌, ◌^◌, ◌<◌, ◌≤◌, ◌==◌, ◌&&◌, Bool, true, false, cond, nat_le, nat_lt, List, [], ◌∷◌, ◌++◌, length, get_or, set, take, drop, filter, map, Option, Some, None, All, refl, sym, ap, ◌∙◌, subst, arith}, lemmas.{Bool.and_parts, Bool.Decides.nat_tests, Nat.{mod_below, mul-add-lt, pow_pos, pow-add, shl-shr, shr_below, shr_split}, List.{get_or_default, length-set, get_or-set_same, get_or-set_other, map_push}, List.Edits.{length-insert, get_or-insert_below, get_or-insert_at, get_or-insert_above, length-remove, get_or-remove_below, get_or-remove_above}, List.Elements.{All-append, All-take, All-drop, All-cons, filter_more}}, Math.Nat.div-mul-le_self}
 use Rattle.std.specs.List.{AllPairs, AllWithin, Any, insert, remove}
 use Rattle.pf_trie.specs.declared.{found.Found.{Found}, prefix.Prefix.{Prefix}, rows.Row.{Row}, signs.Signs.{Signs}}
 use Rattle.pf_trie.specs.{Prefixes.{AllSigns, IsApart, front, first_of, with_sign, Finds}, Signs.{sign_of, IsShortest}, Rows.{HasSigns, IsInOrder, IsAt, AreRows, AreRowsWith, IsUpTo, IsBetween, IsNoStart, Marks, MarksEach, cut_row}}
@@ -502,7 +502,7 @@ last_fits a free fits lt =
 
 -- ---- rows of one front
 
-abbrev begins_so : ℕ → ℕ → Row → Bool
+abbrev pub begins_so : ℕ → ℕ → Row → Bool
 begins_so at n r = r.first / 2 ^ at == n
 
 -- one more of them, at the end
@@ -521,16 +521,3 @@ one_kept at n rows within i r cut lt here in_front is_cut is =
         ≡ filter (begins_so at n) (take i rows) ++ r ∷ []
     step = ap (λ (x : Row). filter (begins_so at n) (take i rows) ++ cond (begins_so at n x) (x ∷ []) []) here
         ∙ ap (λ (b : Bool). filter (begins_so at n) (take i rows) ++ cond b (r ∷ []) []) passes
-
--- one of another front
-pub one_left_out : (at n : ℕ) (rows within : List Row) (i : ℕ) (r : Row) → i < length rows → get_or rows i r ≡ r → r.first / 2 ^ at ≢ n
-    → within ≡ map (cut_row at) (filter (begins_so at n) (take i rows)) → within ≡ map (cut_row at) (filter (begins_so at n) (take (i + 1) rows))
-one_left_out at n rows within i r lt here other is = is ∙ ap (λ (xs : List Row). map (cut_row at) xs) (sym (filter_more (begins_so at n) rows i r lt ∙ step)) where
-  by : (t : Bool) → begins_so at n r ≡ t → begins_so at n r ≡ false
-  by false t = t
-  by true t = let same : r.first / 2 ^ at ≡ n = grind (arith, nat_tests) in absurd (other same)
-
-  step : filter (begins_so at n) (take i rows) ++ cond (begins_so at n (get_or rows i r)) (get_or rows i r ∷ []) [] ≡ filter (begins_so at n) (take i rows)
-  step = ap (λ (x : Row). filter (begins_so at n) (take i rows) ++ cond (begins_so at n x) (x ∷ []) []) here
-      ∙ ap (λ (b : Bool). filter (begins_so at n) (take i rows) ++ cond b (r ∷ []) []) (by (begins_so at n r) refl)
-      ∙ append-nil (filter (begins_so at n) (take i rows))

@@ -1,6 +1,6 @@
 //! Rows in order: which is at an address, and what edits leave.
-ghost use Rattle.std.specs.Prelude.{◌≡◌, ℕ, ◌++◌, ◌∷◌, [], ◌/◌, ◌^◌, ◌<◌, ◌≤◌, ◌==◌, length, filter, map, Some, None, IfOk, IfNone, IfSome};
-ghost use Rattle.std.specs.List.{insert};
+ghost use Rattle.std.specs.Prelude.{◌≡◌, ℕ, ◌++◌, ◌∷◌, [], ◌-◌, ◌/◌, ◌^◌, ◌<◌, ◌≤◌, ◌==◌, length, filter, map, Some, None, IfOk, IfNone, IfSome};
+ghost use Rattle.std.specs.List.{AllWithin, insert};
 ghost use Rattle.pf_trie.specs.Prefixes.{AllSigns, first_of, with_sign};
 ghost use Rattle.pf_trie.specs.Rows.{HasSigns, IsInOrder, AreOfOneSlot, AreRows, AreRowsWith, IsUpTo, IsBetween, MarksEach, cut_row};
 ghost use Rattle.pf_trie.specs.Addresses.{SameAddresses};
@@ -203,23 +203,38 @@ pub(crate) fn one_slot_of(rows: &RowList, at: u8) -> Option<u128>
     Some(row.first)
 }
 
-/// Of rows those whose addresses begin with `front` before the last `at` bits, with the signs of the prefixes that leave fewer bits free.
-/// `AllocError`: nothing is made.
+// How many rows are before an address.
+fn before(rows: &RowList, address: u128) -> usize
+    ensures within { result ≤ length rows.now }
+    ensures before { IsInOrder rows.now → AllWithin (λ r. r.first < address) rows.now 0 result }
+    ensures behind { IsInOrder rows.now → AllWithin (λ r. address ≤ r.first) rows.now result (length rows.now) }
+{
+    if address == 0 {
+        return 0;
+    }
+    up_to(rows, address - 1)
+}
+
+/// Of rows in order those whose addresses begin with `front` before the last `at` bits, with the signs of the prefixes that leave fewer bits
+/// free. It looks at few others. `AllocError`: nothing is made.
 pub(crate) fn rows_within(
     alloc: Global,
     rows: &RowList,
     at: u8,
     front: u128,
 ) -> Result<RowList, AllocError>
-    requires { at < 128 }
-    ensures { IfOk result (λ v. v ≡ map (cut_row at) (filter (λ r. r.first / 2 ^ at == front) rows.now)) }
+    requires at { at < 128 }
+    requires front { front < 2 ^ (128 - at) }
+    ensures { IfOk result (λ v. IsInOrder rows.now → v ≡ map (cut_row at) (filter (λ r. r.first / 2 ^ at == front) rows.now)) }
 {
     let mut within = RowList::none(alloc);
-    for place in 0..rows.len() {
+    let from = before(rows, front << at);
+    for place in from..rows.len() {
         let row = rows.at(place);
-        if row.first >> at == front {
-            within = within.push(alloc, row.cut(at))?;
+        if row.first >> at != front {
+            return Ok(within);
         }
+        within = within.push(alloc, row.cut(at))?;
     }
     Ok(within)
 }
