@@ -72,12 +72,14 @@ impl Spot {
 pub(crate) fn told_at(alloc: Global, spot: &Spot, mistake: Mistake) -> Unread
     ensures { Tells result (told_at spot.now mistake) }
 {
+    let mistake = Cause::from(mistake);
     match spot.copied(alloc) {
-        Ok(spot) => {
-            let mistake = Cause::from(mistake);
-            Unread::Faulty(Fault { spot, mistake })
+        Ok(spot) => Unread::Faulty(Fault { spot, mistake }),
+        // by a call, so that this proof needn't know all the mistakes that there are
+        Err(_) => {
+            drop(mistake);
+            Unread::Memory
         }
-        Err(_) => Unread::Memory,
     }
 }
 
@@ -93,7 +95,10 @@ pub(crate) fn told(alloc: Global, files: &Files, macros: &Macros, stop: Stop) ->
                 spot,
                 mistake: fault.is,
             }),
-            Err(_) => Unread::Memory,
+            Err(_) => {
+                drop(fault);
+                Unread::Memory
+            }
         },
     }
 }

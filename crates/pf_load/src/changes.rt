@@ -241,16 +241,24 @@ fn rules_heading(alloc: Global, path: &Path) -> Result<Vec<u8>, AllocError>
 
 // ---- tables
 
+/// The fault of a shown table that isn't read. The call of `drop` keeps the stop's parts out of this proof.
+fn fault_of(stop: Stop) -> Fault {
+    let fault = match &stop {
+        Stop::Memory => Fault::Memory,
+        Stop::Faulty(_) | Stop::Needs(_) => Fault::Ended,
+    };
+    drop(stop);
+    fault
+}
+
 /// The entry that a word of a shown table is.
 pub(crate) fn entry_in(alloc: Global, word: &[u8]) -> Result<Entry, Fault> {
     if word.len() > FILE_LIMIT {
         return Err(Fault::Ended);
     }
     let mut entries = Items::new(alloc);
-    match read_entries(alloc, 0, word, &mut entries) {
-        Ok(()) => {}
-        Err(Stop::Memory) => return Err(Fault::Memory),
-        Err(_) => return Err(Fault::Ended),
+    if let Err(stop) = read_entries(alloc, 0, word, &mut entries) {
+        return Err(fault_of(stop));
     }
     match entries.as_slice() {
         [entry] => Ok(Entry::new(entry.net, entry.is_negated)),

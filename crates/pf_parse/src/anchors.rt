@@ -16,7 +16,7 @@ use pf_tokens::{Bytes, Items, Place, Token};
 use std::alloc::{AllocError, Global};
 
 /// What an anchor's name is.
-#[derive(Clone, Copy, Debug, PartialEq, Eq)]
+#[derive(Clone, Copy)]
 pub(crate) enum Named {
     /// What an anchor rule refers to.
     Reference,

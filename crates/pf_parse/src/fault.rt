@@ -5,44 +5,55 @@ ghost use Rattle.pf_parse.specs.Stops.{fault_at, stop_of};
 
 use pf_tokens::{Bytes, Items, Place};
 use std::alloc::{AllocError, AllocFailed};
-use std::fmt::{self, Display, Formatter, Write};
+use std::fmt::{self, Debug, Display, Formatter, Write};
 use std::marker::Model;
 use thiserror::Error;
 
 /// Why a word of pf.conf(5) isn't there.
-#[derive(Clone, Copy, Debug, PartialEq, Eq, Error)]
+#[derive(Clone, Copy, Debug, PartialEq, Eq)]
 pub enum Reason {
-    #[error("addresses aren't translated here")]
     Translation,
-    #[error("addresses of interfaces aren't known here")]
     InterfaceAddress,
-    #[error("FreeBSD 13 has no such rules")]
     NoSuchRules,
-    #[error("packets aren't routed here")]
     Routing,
-    #[error("there are no routes here")]
     Routes,
-    #[error("packets have no owner here")]
     Owner,
-    #[error("packets have no fingerprint here")]
     Fingerprint,
-    #[error("packets have no type of service here")]
     TypeOfService,
-    #[error("packets have no priority here")]
     Priority,
-    #[error("packets have no ICMP type here")]
     IcmpType,
-    #[error("packets are whole here")]
     Fragment,
-    #[error("no verdict is left to chance here")]
     Chance,
-    #[error("packets have no tags here")]
     Tag,
-    #[error("an interface can't be negated")]
     NegatedInterface,
-    #[error("it stands in the main file alone")]
     MainAlone,
 }
+
+/// The text that a user is told.
+impl Display for Reason {
+    fn fmt<W: Write>(&self, f: &mut Formatter<W>) -> fmt::Result {
+        let text = match self {
+            Reason::Translation => "addresses aren't translated here",
+            Reason::InterfaceAddress => "addresses of interfaces aren't known here",
+            Reason::NoSuchRules => "FreeBSD 13 has no such rules",
+            Reason::Routing => "packets aren't routed here",
+            Reason::Routes => "there are no routes here",
+            Reason::Owner => "packets have no owner here",
+            Reason::Fingerprint => "packets have no fingerprint here",
+            Reason::TypeOfService => "packets have no type of service here",
+            Reason::Priority => "packets have no priority here",
+            Reason::IcmpType => "packets have no ICMP type here",
+            Reason::Fragment => "packets are whole here",
+            Reason::Chance => "no verdict is left to chance here",
+            Reason::Tag => "packets have no tags here",
+            Reason::NegatedInterface => "an interface can't be negated",
+            Reason::MainAlone => "it stands in the main file alone",
+        };
+        write!(f, "{text}")
+    }
+}
+
+impl std::error::Error for Reason {}
 
 /// What is left out of a lenient reading. Its text is how a user is told of it.
 #[derive(Debug, Drop, Error)]
@@ -86,105 +97,178 @@ impl Display for Effect<'_> {
     }
 }
 
-/// What is wrong. The text of each is what a user is told.
-#[derive(Debug, Drop, Error)]
+/// What is wrong.
+#[derive(Drop)]
 pub enum Mistake {
-    #[error(transparent)]
     Token(pf_tokens::Mistake),
-    #[error("'{0}' isn't there: {1}")]
     Refused(Bytes, Reason),
-    #[error("'flags' isn't there: no connection's first packet has {0}/{1}")]
     NoFirstPacket(Bytes, Bytes),
-    #[error("{0} isn't there; with --lenient it {effect}", effect = Effect(.0))]
     LeftOut(LeftOut),
-    #[error("rules must be in order: options, normalization, queueing, translation, filtering")]
     Order,
-    #[error("the line ends too early")]
     LineEnds,
-    #[error("'{0}' can't stand here")]
     Misplaced(Bytes),
-    #[error("a list is empty")]
     EmptyList,
-    #[error("a list can't stand within this list")]
     InnerList,
-    #[error("behind a comma a line goes on by a backslash alone")]
     NewlineBehindComma,
-    #[error("'any' can't stand in a list: pfctl leaves it out there")]
     AnyInList,
-    #[error("lists are nested 8 deep at most")]
     DeepList,
-    #[error("an interface's name has 15 bytes at most")]
     LongInterface,
-    #[error("'{0}' is no interface's name")]
     Interface(Bytes),
-    #[error("a table's name has 31 bytes at most")]
     LongTableName,
-    #[error("'{0}' is no table's name")]
     TableName(Bytes),
-    #[error("a label has 63 bytes at most")]
     LongLabel,
-    #[error("a protocol is a number from 1 to 255")]
     ProtocolNumber,
-    #[error("'{0}' is no protocol known here")]
     Protocol(Bytes),
-    #[error("a number has no zeros in front")]
     Zeros,
-    #[error("a port is a number from 0 to 65535")]
     PortNumber,
-    #[error("'{0}' is no port, and no service known here")]
     Port(Bytes),
-    #[error("':' can't stand with another operator")]
     Colon,
-    #[error("'{0}' is no address: names of hosts and interfaces aren't there")]
     Address(Bytes),
-    #[error("ranges of addresses aren't there")]
     AddressRange,
-    #[error("a table can't stand in a table")]
     TableInTable,
-    #[error("a rule has one state option")]
     TwoStates,
-    #[error("a rule has one label")]
     TwoLabels,
-    #[error("a rule has flags once")]
     TwoFlags,
-    #[error("keep state on a block rule doesn't make sense")]
     KeepOnBlock,
-    #[error("an anchor rule has no state option")]
     StateOfAnchor,
-    #[error("flags {0}/{1} are never true")]
     NeverTrue(Bytes, Bytes),
-    #[error("flags apply to tcp alone")]
     FlagsWithoutTcp,
-    #[error("a path with '/' stands in quotes")]
     UnquotedPath,
-    #[error("names of anchors that begin with '_' are reserved")]
     ReservedAnchor,
-    #[error("an anchor's path is too long")]
     LongPath,
-    #[error("'{0}' is no anchor's path")]
     Path(Bytes),
-    #[error("rules in braces have a name without '/'")]
     PathOfBraces,
-    #[error("a new line has to begin behind '{{'")]
     BehindBrace,
-    #[error("an anchor without rules in braces has to have a name")]
     UnnamedAnchor,
-    #[error(transparent)]
     Lists(pf_lists::Mistake),
-    #[error("a ruleset has 1,024 rules at most")]
     ManyRules,
-    #[error("anchor {0} has rules twice")]
     RulesTwice(Bytes),
-    #[error("a commit has 64 rulesets at most")]
     ManyRulesets,
-    #[error("table <{0}> is defined twice")]
     TableTwice(Bytes),
-    #[error("its network stands before it with the other sign")]
     OtherSign,
-    #[error("a table has 65,536 entries at most")]
     ManyEntries,
-    #[error("the commit doesn't fit a line of 4,096 bytes")]
     LongCommit,
+}
+
+/// What the text of a mistake is made of.
+#[derive(Drop)]
+enum Text<'a> {
+    /// All of it.
+    Plain(&'static str),
+    /// What comes before a name, the name, and what comes behind it.
+    Named(&'static str, &'a Bytes, &'static str),
+    /// The same with flags of others.
+    Flags(&'static str, &'a Bytes, &'a Bytes, &'static str),
+    Refused(&'a Bytes, Reason),
+    LeftOut(&'a LeftOut),
+    Token(&'a pf_tokens::Mistake),
+    Lists(&'a pf_lists::Mistake),
+}
+
+impl Mistake {
+    /// What a user is told. Texts are of few kinds, so that the proof of what writes them is short.
+    fn text(&self) -> Text<'_> {
+        match self {
+            Mistake::Token(mistake) => Text::Token(mistake),
+            Mistake::Refused(word, reason) => Text::Refused(word, *reason),
+            Mistake::NoFirstPacket(flags, of) => Text::Flags(
+                "'flags' isn't there: no connection's first packet has ",
+                flags,
+                of,
+                "",
+            ),
+            Mistake::LeftOut(what) => Text::LeftOut(what),
+            Mistake::Order => Text::Plain(
+                "rules must be in order: options, normalization, queueing, translation, filtering",
+            ),
+            Mistake::LineEnds => Text::Plain("the line ends too early"),
+            Mistake::Misplaced(name) => Text::Named("'", name, "' can't stand here"),
+            Mistake::EmptyList => Text::Plain("a list is empty"),
+            Mistake::InnerList => Text::Plain("a list can't stand within this list"),
+            Mistake::NewlineBehindComma => Text::Plain(
+                "behind a comma a line goes on by a backslash alone",
+            ),
+            Mistake::AnyInList => Text::Plain(
+                "'any' can't stand in a list: pfctl leaves it out there",
+            ),
+            Mistake::DeepList => Text::Plain("lists are nested 8 deep at most"),
+            Mistake::LongInterface => Text::Plain("an interface's name has 15 bytes at most"),
+            Mistake::Interface(name) => Text::Named("'", name, "' is no interface's name"),
+            Mistake::LongTableName => Text::Plain("a table's name has 31 bytes at most"),
+            Mistake::TableName(name) => Text::Named("'", name, "' is no table's name"),
+            Mistake::LongLabel => Text::Plain("a label has 63 bytes at most"),
+            Mistake::ProtocolNumber => Text::Plain("a protocol is a number from 1 to 255"),
+            Mistake::Protocol(name) => Text::Named("'", name, "' is no protocol known here"),
+            Mistake::Zeros => Text::Plain("a number has no zeros in front"),
+            Mistake::PortNumber => Text::Plain("a port is a number from 0 to 65535"),
+            Mistake::Port(name) => Text::Named(
+                "'",
+                name,
+                "' is no port, and no service known here",
+            ),
+            Mistake::Colon => Text::Plain("':' can't stand with another operator"),
+            Mistake::Address(name) => Text::Named(
+                "'",
+                name,
+                "' is no address: names of hosts and interfaces aren't there",
+            ),
+            Mistake::AddressRange => Text::Plain("ranges of addresses aren't there"),
+            Mistake::TableInTable => Text::Plain("a table can't stand in a table"),
+            Mistake::TwoStates => Text::Plain("a rule has one state option"),
+            Mistake::TwoLabels => Text::Plain("a rule has one label"),
+            Mistake::TwoFlags => Text::Plain("a rule has flags once"),
+            Mistake::KeepOnBlock => Text::Plain("keep state on a block rule doesn't make sense"),
+            Mistake::StateOfAnchor => Text::Plain("an anchor rule has no state option"),
+            Mistake::NeverTrue(flags, of) => Text::Flags("flags ", flags, of, " are never true"),
+            Mistake::FlagsWithoutTcp => Text::Plain("flags apply to tcp alone"),
+            Mistake::UnquotedPath => Text::Plain("a path with '/' stands in quotes"),
+            Mistake::ReservedAnchor => Text::Plain(
+                "names of anchors that begin with '_' are reserved",
+            ),
+            Mistake::LongPath => Text::Plain("an anchor's path is too long"),
+            Mistake::Path(name) => Text::Named("'", name, "' is no anchor's path"),
+            Mistake::PathOfBraces => Text::Plain("rules in braces have a name without '/'"),
+            Mistake::BehindBrace => Text::Plain("a new line has to begin behind '{'"),
+            Mistake::UnnamedAnchor => Text::Plain(
+                "an anchor without rules in braces has to have a name",
+            ),
+            Mistake::Lists(mistake) => Text::Lists(mistake),
+            Mistake::ManyRules => Text::Plain("a ruleset has 1,024 rules at most"),
+            Mistake::RulesTwice(name) => Text::Named("anchor ", name, " has rules twice"),
+            Mistake::ManyRulesets => Text::Plain("a commit has 64 rulesets at most"),
+            Mistake::TableTwice(name) => Text::Named("table <", name, "> is defined twice"),
+            Mistake::OtherSign => Text::Plain("its network stands before it with the other sign"),
+            Mistake::ManyEntries => Text::Plain("a table has 65,536 entries at most"),
+            Mistake::LongCommit => Text::Plain("the commit doesn't fit a line of 4,096 bytes"),
+        }
+    }
+}
+
+/// The text that a user is told.
+impl Display for Mistake {
+    fn fmt<W: Write>(&self, f: &mut Formatter<W>) -> fmt::Result {
+        match self.text() {
+            Text::Plain(text) => write!(f, "{text}"),
+            Text::Named(before, name, behind) => write!(f, "{before}{name}{behind}"),
+            Text::Flags(before, flags, of, behind) => write!(f, "{before}{flags}/{of}{behind}"),
+            Text::Refused(word, reason) => write!(f, "'{word}' isn't there: {reason}"),
+            Text::LeftOut(what) => {
+                let effect = Effect(what);
+                write!(f, "{what} isn't there; with --lenient it {effect}")
+            }
+            Text::Token(mistake) => write!(f, "{mistake}"),
+            Text::Lists(mistake) => write!(f, "{mistake}"),
+        }
+    }
+}
+
+impl std::error::Error for Mistake {}
+
+/// Its text, which tells one from the others.
+impl Debug for Mistake {
+    fn fmt<W: Write>(&self, f: &mut Formatter<W>) -> fmt::Result {
+        write!(f, "{self}")
+    }
 }
 
 /// The mistake of a fault, as it is handed on: whatever does so needn't know all the mistakes that there are, which keeps its proof short.

@@ -23,14 +23,14 @@ const LIST_LIMIT: u32 = 8;
 const INTERFACE_BYTES: usize = 15;
 
 /// What is tested by one of these or a list of them.
-#[derive(Clone, Copy, Debug, PartialEq, Eq)]
+#[derive(Clone, Copy)]
 pub(crate) enum Tested {
     Protocol,
     Port,
 }
 
 /// The operator of a test of one port.
-#[derive(Clone, Copy, Debug, PartialEq, Eq)]
+#[derive(Clone, Copy)]
 enum Operator {
     Same,
     Other,

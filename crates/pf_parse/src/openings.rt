@@ -11,7 +11,7 @@ use pf_tokens::{Items, Token};
 use std::alloc::{AllocError, Global};
 
 /// Which way a packet goes.
-#[derive(Clone, Copy, Debug, PartialEq, Eq)]
+#[derive(Clone, Copy)]
 pub(crate) enum Direction {
     In,
     Out,

@@ -22,7 +22,7 @@ pub enum Mode {
 }
 
 /// What the lines of a file have to be in the order of (pf.conf(5), "require-order").
-#[derive(Clone, Copy, Debug, PartialEq, Eq)]
+#[derive(Clone, Copy)]
 pub(crate) enum Rank {
     Options,
     Normalization,

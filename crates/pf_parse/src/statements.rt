@@ -41,7 +41,7 @@ const HOLDS: [(&[u8], &[u8]); 3] = [
 ];
 
 /// What a file has, and what is noted of it, in the order of its text.
-#[derive(Debug, Drop)]
+#[derive(Drop)]
 pub struct Parsed {
     pub tree: Tree,
     pub notes: Items<At<Remark>>,
@@ -587,9 +587,9 @@ impl Parser<'_> {
     {
         let direction = self.direction();
         let quick = self.log_and_quick()?;
+        let opening = rule_opening(self.alloc(), word, direction, quick)?;
         let (tests, closing) = self.tests_and_options(start)?;
         self.end_line()?;
-        let opening = rule_opening(self.alloc(), word, direction, quick)?;
         let product = Product::of(self.alloc(), place, opening, tests, closing)?;
         self.keep_rule(self.within, product)
     }

@@ -8,7 +8,7 @@ use pf_tokens::{Bytes, Items, Place, Token};
 use std::alloc::{AllocError, Global};
 
 /// How a rule begins.
-#[derive(Clone, Copy, Debug, PartialEq, Eq)]
+#[derive(Clone, Copy, PartialEq, Eq)]
 pub(crate) enum Start {
     Pass,
     Block,
@@ -16,7 +16,7 @@ pub(crate) enum Start {
 }
 
 /// A rule as a file has it: each part that may be a list is one.
-#[derive(Debug, Drop)]
+#[derive(Drop)]
 pub struct Product {
     /// Where its first word stands.
     pub place: Place,
@@ -25,7 +25,7 @@ pub struct Product {
 }
 
 /// A rule, and the number of the braces that it stands in.
-#[derive(Debug, Drop)]
+#[derive(Drop)]
 pub struct Written {
     pub within: usize,
     pub product: Product,
@@ -33,7 +33,7 @@ pub struct Written {
 
 /// An anchor's braces: the name of their ruleset, below that of the braces that they stand in. Braces have numbers as they open, from 1;
 /// a file's own ruleset has the number 0.
-#[derive(Debug, Drop)]
+#[derive(Drop)]
 pub struct Braces {
     pub within: usize,
     /// Where the anchor's first word stands.
@@ -42,7 +42,7 @@ pub struct Braces {
 }
 
 /// What a rule tests, each list in order. A list has one item without words if nothing is tested.
-#[derive(Debug, Drop)]
+#[derive(Drop)]
 pub(crate) struct Tests {
     pub(crate) interfaces: Items<Words>,
     pub(crate) family: Words,
@@ -52,14 +52,14 @@ pub(crate) struct Tests {
 }
 
 /// The hosts and the ports of one side.
-#[derive(Debug, Drop)]
+#[derive(Drop)]
 pub(crate) struct Side {
     pub(crate) hosts: Items<Words>,
     pub(crate) ports: Items<Words>,
 }
 
 /// A host of a list: the words that it adds to a rule, and its network if it isn't a table.
-#[derive(Debug, Drop)]
+#[derive(Drop)]
 pub(crate) struct Host {
     pub(crate) place: Place,
     pub(crate) words: Words,
@@ -68,7 +68,7 @@ pub(crate) struct Host {
 }
 
 /// An entry of a table, where it stands.
-#[derive(Clone, Copy, Debug)]
+#[derive(Clone, Copy)]
 pub struct Entry {
     pub place: Place,
     pub net: Net,
@@ -77,7 +77,7 @@ pub struct Entry {
 }
 
 /// Where entries of a table come from.
-#[derive(Debug, Drop)]
+#[derive(Drop)]
 pub enum Entries {
     Listed(Items<Entry>),
     /// The file that this token names.
@@ -85,7 +85,7 @@ pub enum Entries {
 }
 
 /// A table's line.
-#[derive(Debug, Drop)]
+#[derive(Drop)]
 pub struct Table {
     /// Where its name stands.
     pub place: Place,
@@ -94,7 +94,7 @@ pub struct Table {
 }
 
 /// A line that loads an anchor from a file.
-#[derive(Debug, Drop)]
+#[derive(Drop)]
 pub struct Load {
     /// Where `load` stands.
     pub place: Place,
@@ -104,7 +104,7 @@ pub struct Load {
 }
 
 /// What a file has, each in order.
-#[derive(Debug, Drop)]
+#[derive(Drop)]
 pub struct Tree {
     /// The rules that stand for skipped interfaces; they come before the file's own.
     pub skips: Items<Product>,

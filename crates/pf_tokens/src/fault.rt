@@ -6,61 +6,127 @@ ghost use Rattle.pf_tokens.specs.Stops.{faulty};
 use crate::items::Bytes;
 use crate::place::Place;
 use std::alloc::{AllocError, AllocFailed};
-use thiserror::Error;
+use std::fmt::{self, Debug, Display, Formatter, Write};
 
-/// What is wrong. The text of each is what a user is told.
-#[derive(Debug, Drop, Error)]
+/// What is wrong.
+#[derive(Drop)]
 pub enum Mistake {
-    #[error("the file {0} can't be read")]
     Unreadable(Bytes),
-    #[error("a file has 1,048,576 bytes at most")]
     LongFile,
-    #[error("64 files are read at most")]
     ManyFiles,
-    #[error("byte 0x{0:02x} can't stand here")]
     Byte(u8),
-    #[error("'{0}' can't stand here")]
     Character(char),
-    #[error("a backslash can only stand at the end of a line")]
     Backslash,
-    #[error("the quote isn't closed on its line")]
     OpenQuote,
-    #[error("a quote can't stand within a word")]
     QuoteInWord,
-    #[error("'$' can't stand within a word: a macro is a whole word")]
     DollarInWord,
-    #[error("a macro's name has to stand behind '$'")]
     NoMacroName,
-    #[error("'{0}' is joined to a macro whose value isn't one word")]
     InterfaceAddress(Bytes),
-    #[error("'{0}' is joined to a macro: a macro is a whole word")]
     Joined(Bytes),
-    #[error("macros aren't replaced within quotes")]
     MacroInValue,
-    #[error("'#' can't stand in a macro's value")]
     CommentInValue,
-    #[error("'{0}' is reserved and can't name a macro")]
     ReservedName(Bytes),
-    #[error("a macro's name has letters, digits and '_' alone, and isn't a number")]
     MacroName,
-    #[error("a macro's value has to stand behind '='")]
     NoValue,
-    #[error("'{0}' can't stand in a macro's value: put the value in quotes")]
     SymbolInValue(Bytes),
-    #[error("'{0}' is reserved: in a macro's value it stands in quotes")]
     ReservedInValue(Bytes),
-    #[error("a macro's value has 4,096 bytes at most")]
     LongValue,
-    #[error("macro '{0}' isn't defined")]
     Undefined(Bytes),
-    #[error("one file's name has to stand behind 'include'")]
     NoFileName,
-    #[error("files are included 16 deep at most")]
     DeepInclude,
-    #[error("a brace isn't closed")]
     OpenBrace,
-    #[error("262,144 words are read at most")]
     ManyWords,
+}
+
+/// What the text of a mistake is made of.
+#[derive(Drop)]
+enum Text<'a> {
+    /// All of it.
+    Plain(&'static str),
+    /// What comes before a name, the name, and what comes behind it.
+    Named(&'static str, &'a Bytes, &'static str),
+    /// A byte that can't stand there.
+    Byte(u8),
+    /// A character that can't.
+    Character(char),
+}
+
+impl Mistake {
+    /// What a user is told. Texts are of few kinds, so that the proof of what writes them is short.
+    fn text(&self) -> Text<'_> {
+        match self {
+            Mistake::Unreadable(name) => Text::Named("the file ", name, " can't be read"),
+            Mistake::LongFile => Text::Plain("a file has 1,048,576 bytes at most"),
+            Mistake::ManyFiles => Text::Plain("64 files are read at most"),
+            Mistake::Byte(byte) => Text::Byte(*byte),
+            Mistake::Character(character) => Text::Character(*character),
+            Mistake::Backslash => Text::Plain("a backslash can only stand at the end of a line"),
+            Mistake::OpenQuote => Text::Plain("the quote isn't closed on its line"),
+            Mistake::QuoteInWord => Text::Plain("a quote can't stand within a word"),
+            Mistake::DollarInWord => Text::Plain(
+                "'$' can't stand within a word: a macro is a whole word",
+            ),
+            Mistake::NoMacroName => Text::Plain("a macro's name has to stand behind '$'"),
+            Mistake::InterfaceAddress(name) => Text::Named(
+                "'",
+                name,
+                "' is joined to a macro whose value isn't one word",
+            ),
+            Mistake::Joined(name) => Text::Named(
+                "'",
+                name,
+                "' is joined to a macro: a macro is a whole word",
+            ),
+            Mistake::MacroInValue => Text::Plain("macros aren't replaced within quotes"),
+            Mistake::CommentInValue => Text::Plain("'#' can't stand in a macro's value"),
+            Mistake::ReservedName(name) => Text::Named(
+                "'",
+                name,
+                "' is reserved and can't name a macro",
+            ),
+            Mistake::MacroName => Text::Plain(
+                "a macro's name has letters, digits and '_' alone, and isn't a number",
+            ),
+            Mistake::NoValue => Text::Plain("a macro's value has to stand behind '='"),
+            Mistake::SymbolInValue(name) => Text::Named(
+                "'",
+                name,
+                "' can't stand in a macro's value: put the value in quotes",
+            ),
+            Mistake::ReservedInValue(name) => Text::Named(
+                "'",
+                name,
+                "' is reserved: in a macro's value it stands in quotes",
+            ),
+            Mistake::LongValue => Text::Plain("a macro's value has 4,096 bytes at most"),
+            Mistake::Undefined(name) => Text::Named("macro '", name, "' isn't defined"),
+            Mistake::NoFileName => Text::Plain("one file's name has to stand behind 'include'"),
+            Mistake::DeepInclude => Text::Plain("files are included 16 deep at most"),
+            Mistake::OpenBrace => Text::Plain("a brace isn't closed"),
+            Mistake::ManyWords => Text::Plain("262,144 words are read at most"),
+        }
+    }
+}
+
+/// The text that a user is told.
+impl Display for Mistake {
+    fn fmt<W: Write>(&self, f: &mut Formatter<W>) -> fmt::Result {
+        match self.text() {
+            Text::Plain(text) => write!(f, "{text}"),
+            Text::Named(before, name, behind) => write!(f, "{before}{name}{behind}"),
+            Text::Byte(byte) => write!(f, "byte 0x{byte:02x} can't stand here"),
+            Text::Character(character) => write!(f, "'{character}' can't stand here"),
+        }
+    }
+}
+
+impl std::error::Error for Mistake {}
+
+/// Its text, which tells one from the others.
+impl Debug for Mistake {
+    fn fmt<W: Write>(&self, f: &mut Formatter<W>) -> fmt::Result {
+        write!(f, "{self}")
+    }
 }
 
 /// What is wrong at a place.

@@ -7,8 +7,8 @@ use Rattle.pf_tokens.specs.declared.{place.Place.Place, files.File.File}
 use Rattle.pf_parse.specs.declared.fault.At.{At}
 use Rattle.pf_conf.specs.declared.found.Ruleset.{Ruleset}
 use Rattle.pf_conf.specs.Shown.{newline}
-use Rattle.pfd_conf.specs.declared.{firewall.Decided.Decided, firewall.Firewall.Firewall, outcomes.Outcome.Outcome, outcomes.Tried.Tried}
-use Rattle.pfd_conf.specs.{Firewalls.{rule_at, is_in, place_text}, Reports.sayable}
+use Rattle.pfd_conf.specs.declared.{firewall.Decided.Decided, outcomes.Outcome.Outcome, outcomes.Tried.Tried}
+use Rattle.pfd_conf.specs.{Firewalls.{Origins, rule_at, is_in, place_text}, Reports.sayable}
 
 -- it decides if it matches; an anchor rule doesn't
 abbrev pub decides_by : Effect → Bool
@@ -95,6 +95,6 @@ abbrev pub count_text : ℕ → ℕ → List ℕ
 count_text uncovered deciding = decimal (deciding - uncovered) ++ codes " of " ++ decimal deciding ++ codes " rules decide a case\n"
 
 -- those that decide none, and how many decide one
-abbrev pub cover_text : Firewall → List Tried → List ℕ
-cover_text f ts = let rs = f.taken.conf.rulesets in
-    lines_of_rules f.taken.files rs (uncovered_of ts rs) ++ count_text (length (uncovered_of ts rs)) (deciding_count rs)
+abbrev pub cover_text : Origins → List Tried → List ℕ
+cover_text f ts = let rs = f.rulesets in
+    lines_of_rules f.files rs (uncovered_of ts rs) ++ count_text (length (uncovered_of ts rs)) (deciding_count rs)

@@ -14,7 +14,7 @@ use Rattle.pf_case.specs.declared.trace.{Matched.Matched, Traced.Traced}
 use Rattle.pf_case.specs.{Cases.passes, Matches.IsTrace}
 use Rattle.pfd_conf.specs.declared.{firewall.Firewall.Firewall, fault.Fault.Fault}
 use Rattle.pfd_conf.specs.declared.fault.Fault.TheVariants as faults
-use Rattle.pfd_conf.specs.{Firewalls.{ruleset_at, decided_in}, Outcomes.mistake_of, Reports.got_text, Covering.line_of_rule}
+use Rattle.pfd_conf.specs.{Firewalls.{Origins, origins_of, ruleset_at, decided_in}, Outcomes.mistake_of, Reports.got_text, Covering.line_of_rule}
 
 -- the texts, each with a space behind it
 abbrev pub joined : List (Bor (List ℕ)) → List ℕ
@@ -27,8 +27,8 @@ abbrev pub lines_of_matches : List File → List Ruleset → List Matched → Li
 lines_of_matches files rs ms = flat_map (line_of_match files rs) ms
 
 -- the verdict, and where the rule is written that decides
-abbrev pub verdict_line : Firewall → RuleVerdict → List ℕ
-verdict_line f v = got_text f (passes v) (decided_in f.taken.conf.rulesets v) ++ newline
+abbrev pub verdict_line : Origins → RuleVerdict → List ℕ
+verdict_line f v = got_text f (passes v) (decided_in f.rulesets v) ++ newline
 
 -- what is said where not all rules that match are listed
 abbrev pub note_text : Bool → List ℕ
@@ -38,7 +38,8 @@ note_text false = codes "more than 4,096 rules match: the others aren't listed\n
 -- the rules that match, as the evaluation looks at them, and the verdict
 abbrev pub explained_text : Firewall → PlainPacket → Traced → List ℕ
 explained_text f p t =
-    lines_of_matches f.taken.files f.taken.conf.rulesets t.matched.items ++ note_text t.is_whole ++ verdict_line f (judged f.config p)
+    lines_of_matches f.taken.files f.taken.conf.rulesets t.matched.items ++ note_text t.is_whole
+    ++ verdict_line (origins_of f) (judged f.config p)
 
 -- The words are no packet.
 abbrev pub RefusesPacket : List ℕ → Fault → Type 0

@@ -11,7 +11,7 @@ use Rattle.pf_tokens.specs.declared.{place.Place.Place, files.File.File}
 use Rattle.pf_parse.specs.declared.fault.At.{At}
 use Rattle.pf_conf.specs.declared.{found.Conf.Conf, found.Ruleset.Ruleset, found.FilledTable.FilledTable}
 use Rattle.pf_conf.specs.Telling.{name_of_file}
-use Rattle.pfd_conf.specs.declared.firewall.Decided.{Decided}
+use Rattle.pfd_conf.specs.declared.firewall.{Decided.Decided, Firewall.Firewall}
 
 -- ---- what packets are judged by
 
@@ -51,6 +51,14 @@ abbrev pub rule_at : List Ruleset → Decided → Option (At PlainRule)
 rule_at rs d = option_and_then (λ (r : Ruleset). slice_get r.rules d.number) (slice_get rs d.within)
 
 -- ---- where it is written
+
+-- the files and the rulesets of a firewall, by which a user is told where a rule is written
+pub record Origins : Type 0 where
+  pub files : List File
+  pub rulesets : List Ruleset
+
+abbrev pub origins_of : Firewall → Origins
+origins_of f = record { files = f.taken.files; rulesets = f.taken.conf.rulesets }
 
 -- FILE:LINE
 abbrev pub place_text : List File → Place → List ℕ

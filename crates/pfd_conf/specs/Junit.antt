@@ -2,7 +2,8 @@
 use Rattle.std.specs.Prelude.{ℕ, ◌+◌, ◌==◌, nat_lt, Bool, true, false, List, [], ◌∷◌, ◌++◌, count_by, codes, decimal, if◌then◌else◌}
 use Rattle.std.specs.List.{flat_map}
 use Rattle.pf_form.specs.Form.Words.{Word}
-use Rattle.pfd_conf.specs.declared.{firewall.Firewall.Firewall, outcomes.Outcome.Outcome, outcomes.Tried.Tried, report.Tally.Tally}
+use Rattle.pfd_conf.specs.declared.{outcomes.Outcome.Outcome, outcomes.Tried.Tried, report.Tally.Tally}
+use Rattle.pfd_conf.specs.Firewalls.{Origins}
 use Rattle.pfd_conf.specs.Reports.{spaced, words_at, difference_text, has, tally, sayable}
 
 -- a byte as an attribute has it; one that XML can't have is a question mark
@@ -28,7 +29,7 @@ abbrev pub name_text : ℕ → List Word → List ℕ
 name_text line ws = codes "line " ++ decimal line ++ codes ":" ++ spaced ws
 
 -- why a case doesn't hold
-abbrev pub message_text : Firewall → List Word → Outcome → List ℕ
+abbrev pub message_text : Origins → List Word → Outcome → List ℕ
 message_text f ws o = if o.holds then [] else difference_text f ws o
 
 abbrev pub end_text : Bool → List ℕ → List ℕ
@@ -39,10 +40,10 @@ abbrev pub element_text : List ℕ → List ℕ → Bool → List ℕ → List �
 element_text file name holds message =
     codes "    <testcase classname=\"" ++ escaped_text file ++ codes "\" name=\"" ++ escaped_text name ++ end_text holds message
 
-abbrev pub testcase_text : Firewall → Tried → Outcome → List ℕ
+abbrev pub testcase_text : Origins → Tried → Outcome → List ℕ
 testcase_text f t o = element_text t.name.now (name_text o.line (words_at t o)) o.holds (message_text f (words_at t o) o)
 
-abbrev pub testcases_text : Firewall → Tried → List ℕ
+abbrev pub testcases_text : Origins → Tried → List ℕ
 testcases_text f t = flat_map (testcase_text f t) t.outcomes
 
 abbrev pub tally_in : Tried → Tally
@@ -51,14 +52,14 @@ tally_in t = record { passed = count_by (has true) t.outcomes; failed = count_by
 abbrev pub suite_head : List ℕ → Tally → List ℕ
 suite_head file t = codes "  <testsuite name=\"" ++ escaped_text file ++ codes "\"" ++ counts_text t ++ codes ">\n"
 
-abbrev pub suite_text : Firewall → Tried → List ℕ
+abbrev pub suite_text : Origins → Tried → List ℕ
 suite_text f t = suite_head t.name.now (tally_in t) ++ testcases_text f t ++ codes "  </testsuite>\n"
 
-abbrev pub suites_text : Firewall → List Tried → List ℕ
+abbrev pub suites_text : Origins → List Tried → List ℕ
 suites_text f ts = flat_map (suite_text f) ts
 
 abbrev pub head_text : Tally → List ℕ
 head_text t = codes "<?xml version=\"1.0\" encoding=\"UTF-8\"?>\n<testsuites" ++ counts_text t ++ codes ">\n"
 
-abbrev pub junit_text : Firewall → List Tried → List ℕ
+abbrev pub junit_text : Origins → List Tried → List ℕ
 junit_text f ts = head_text (tally ts) ++ suites_text f ts ++ codes "</testsuites>\n"

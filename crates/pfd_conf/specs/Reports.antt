@@ -5,8 +5,8 @@ use Rattle.pf_form.specs.Form.Words.{Word, words_of, texts}
 use Rattle.pf_conf.specs.declared.found.Ruleset.{Ruleset}
 use Rattle.pf_conf.specs.Shown.{newline}
 use Rattle.pf_case.specs.Cases.{word_of, decided_text, same}
-use Rattle.pfd_conf.specs.declared.{firewall.Decided.Decided, firewall.Firewall.Firewall, outcomes.Outcome.Outcome, outcomes.Tried.Tried, report.Tally.Tally, report.TheConstants.PACKET_WORDS}
-use Rattle.pfd_conf.specs.{Firewalls.behind_text, Outcomes.line_of}
+use Rattle.pfd_conf.specs.declared.{firewall.Decided.Decided, outcomes.Outcome.Outcome, outcomes.Tried.Tried, report.Tally.Tally, report.TheConstants.PACKET_WORDS}
+use Rattle.pfd_conf.specs.{Firewalls.{Origins, behind_text}, Outcomes.line_of}
 
 -- ---- words
 
@@ -37,17 +37,17 @@ decider_text rs None = codes " default"
 decider_text rs (Some d) = rule_text_of rs d
 
 -- and where the rule is written
-abbrev pub got_text : Firewall → Bool → Option Decided → List ℕ
-got_text f passes d = word_of passes ++ decider_text f.taken.conf.rulesets d ++ behind_text f.taken.files f.taken.conf.rulesets d
+abbrev pub got_text : Origins → Bool → Option Decided → List ℕ
+got_text f passes d = word_of passes ++ decider_text f.rulesets d ++ behind_text f.files f.rulesets d
 
 -- ---- cases that don't hold
 
 -- what a case with these words came to, and what was wanted
-abbrev pub difference_text : Firewall → List Word → Outcome → List ℕ
+abbrev pub difference_text : Origins → List Word → Outcome → List ℕ
 difference_text f ws o = got_text f o.passes o.decided ++ codes ", not" ++ spaced (wanted_of ws)
 
 -- FILE:LINE: PACKET -> VERDICT (FILE:LINE), not WANTED
-abbrev pub failure_text : Firewall → List ℕ → List Word → Outcome → List ℕ
+abbrev pub failure_text : Origins → List ℕ → List Word → Outcome → List ℕ
 failure_text f file ws o =
     file ++ codes ":" ++ decimal o.line ++ codes ":" ++ spaced (packet_of ws) ++ codes " -> " ++ difference_text f ws o ++ newline
 
@@ -55,13 +55,13 @@ failure_text f file ws o =
 abbrev pub words_at : Tried → Outcome → List Word
 words_at t o = words_of (line_of (texts t.lines) o)
 
-abbrev pub told_text : Firewall → Tried → Outcome → List ℕ
+abbrev pub told_text : Origins → Tried → Outcome → List ℕ
 told_text f t o = if o.holds then [] else failure_text f t.name.now (words_at t o) o
 
-abbrev pub failures_text : Firewall → Tried → List ℕ
+abbrev pub failures_text : Origins → Tried → List ℕ
 failures_text f t = flat_map (told_text f t) t.outcomes
 
-abbrev pub all_failures : Firewall → List Tried → List ℕ
+abbrev pub all_failures : Origins → List Tried → List ℕ
 all_failures f ts = flat_map (failures_text f) ts
 
 -- ---- how many hold
@@ -83,7 +83,7 @@ tally ts = record { passed = counted true ts; failed = counted false ts }
 abbrev pub tally_text : Tally → List ℕ
 tally_text t = decimal t.passed ++ codes " passed, " ++ decimal t.failed ++ codes " failed" ++ newline
 
-abbrev pub report_text : Firewall → List Tried → List ℕ
+abbrev pub report_text : Origins → List Tried → List ℕ
 report_text f ts = all_failures f ts ++ tally_text (tally ts)
 
 -- ---- in TAP, the Test Anything Protocol: a line for each case, at last how many there are
@@ -93,22 +93,22 @@ result_word true = codes "ok "
 result_word false = codes "not ok "
 
 -- why a case doesn't hold
-abbrev pub reason_text : Firewall → List Word → Outcome → List ℕ
+abbrev pub reason_text : Origins → List Word → Outcome → List ℕ
 reason_text f ws o = if o.holds then [] else (codes "# " ++ difference_text f ws o ++ newline)
 
-abbrev pub point_text : Firewall → ℕ → List Word → Outcome → List ℕ
+abbrev pub point_text : Origins → ℕ → List Word → Outcome → List ℕ
 point_text f n ws o =
     result_word o.holds ++ decimal n ++ codes " - line " ++ decimal o.line ++ codes ":" ++ spaced ws ++ newline ++ reason_text f ws o
 
 -- the cases of a file from this one on, before which so many came in all files
-abbrev pub points_text : Firewall → Tried → ℕ → List Outcome → List ℕ
+abbrev pub points_text : Origins → Tried → ℕ → List Outcome → List ℕ
 points_text f t before [] = []
 points_text f t before (o ∷ os) = point_text f (sayable (before + 1)) (words_at t o) o ++ points_text f t (before + 1) os
 
-abbrev pub file_points : Firewall → ℕ → Tried → List ℕ
+abbrev pub file_points : Origins → ℕ → Tried → List ℕ
 file_points f before t = codes "# " ++ t.name.now ++ newline ++ points_text f t before t.outcomes
 
-abbrev pub files_points : Firewall → ℕ → List Tried → List ℕ
+abbrev pub files_points : Origins → ℕ → List Tried → List ℕ
 files_points f before [] = []
 files_points f before (t ∷ ts) = file_points f before t ++ files_points f (before + length t.outcomes) ts
 
@@ -119,5 +119,5 @@ case_count ts = sum_by (λ (t : Tried). length t.outcomes) ts
 abbrev pub plan_text : ℕ → Tally → List ℕ
 plan_text n t = codes "1.." ++ decimal n ++ codes "\n# " ++ tally_text t
 
-abbrev pub tap_text : Firewall → List Tried → List ℕ
+abbrev pub tap_text : Origins → List Tried → List ℕ
 tap_text f ts = codes "TAP version 13\n" ++ files_points f 0 ts ++ plan_text (sayable (case_count ts)) (tally ts)

@@ -2,10 +2,11 @@
 ghost use Rattle.std.specs.Prelude.{◌≡◌, ◌++◌, ◌==◌, ◌||◌, ℕ, Bool, length, IfOk, OnOk, IfErr};
 ghost use Rattle.pf_addr.specs.Writing.{Continues, Writes};
 ghost use Rattle.pf_rule.specs.RuleText.{rule_text};
+ghost use Rattle.pfd_conf.specs.Firewalls.{origins_of};
 ghost use Rattle.pfd_conf.specs.Covering.{is_deciding, is_of, decides_any, decides_some, AreMarks, unmarked_from, uncovered_of, deciding_count, count_text, sign_text, place_front, rule_line, line_of_rule, lines_of_rules, cover_text};
 
 use crate::fault::Fault;
-use crate::firewall::{Decided, Firewall, is_in, write_place};
+use crate::firewall::{Decided, Firewall, Origins, is_in, write_place};
 use crate::outcomes::{Outcome, Tried};
 use crate::report::written;
 use pf_addr::{write_more, write_more_number};
@@ -141,7 +142,7 @@ fn write_front<W: Write>(
     write_more(out, so_far, b": ")
 }
 
-impl Firewall {
+impl Origins<'_> {
     /// Writes the line of a rule: its place, its ruleset's path unless that is main's, its number and its text.
     fn write_rule<W: Write>(
         &self,
@@ -152,9 +153,9 @@ impl Firewall {
         rule: &At<Rule>,
     ) -> io::Result<()>
         ensures { Continues so_far (W.contents out.old) result (W.contents out.new)
-            (rule_line self.now.taken.files path.now number rule.now) }
+            (rule_line self.now.files path.now number rule.now) }
     {
-        let so_far = write_front(out, so_far, &self.taken.files, rule.place);
+        let so_far = write_front(out, so_far, self.files(), rule.place);
         let so_far = write_more(out, so_far, path);
         let so_far = write_more(out, so_far, sign(path));
         let so_far = write_more_number(out, so_far, number as u64);
@@ -171,7 +172,7 @@ impl Firewall {
         decided: Decided,
     ) -> io::Result<()>
         ensures { Continues so_far (W.contents out.old) result (W.contents out.new)
-            (line_of_rule self.now.taken.files self.now.taken.conf.rulesets decided) }
+            (line_of_rule self.now.files self.now.rulesets decided) }
     {
         let ruleset = self.rulesets().get(decided.within);
         match (ruleset, self.rule_at(decided)) {
@@ -191,7 +192,7 @@ impl Firewall {
         rules: &[Decided],
     ) -> io::Result<()>
         ensures { Continues begun (W.contents out.old) result (W.contents out.new)
-            (lines_of_rules self.now.taken.files self.now.taken.conf.rulesets rules.now) }
+            (lines_of_rules self.now.files self.now.rulesets rules.now) }
     {
         let mut so_far = begun;
         for rule in rules {
@@ -201,12 +202,8 @@ impl Firewall {
     }
 
     /// The rules that could decide, and decide none of these cases, in order.
-    pub fn uncovered(
-        &self,
-        alloc: Global,
-        tried: &[Tried<'_>],
-    ) -> Result<Items<Decided>, AllocError>
-        ensures { IfOk result (λ rules. rules ≡ uncovered_of tried.now self.now.taken.conf.rulesets) }
+    fn uncovered(&self, alloc: Global, tried: &[Tried<'_>]) -> Result<Items<Decided>, AllocError>
+        ensures { IfOk result (λ rules. rules ≡ uncovered_of tried.now self.now.rulesets) }
     {
         let mut uncovered = Items::new(alloc);
         for (within, ruleset) in self.rulesets().iter().enumerate() {
@@ -218,15 +215,14 @@ impl Firewall {
     }
 
     /// Writes the line of each rule that decides none of these cases, and how many rules decide one. Returns whether all do that could.
-    /// `Fault::Output`: a front of that was written; `Fault::Memory`: nothing was.
-    pub fn cover<W: Write>(
+    fn cover<W: Write>(
         &self,
         alloc: Global,
         out: &mut W,
         tried: &[Tried<'_>],
     ) -> Result<bool, Fault>
         ensures text { Writes result (W.contents out.old) (W.contents out.new) (cover_text self.now tried.now) }
-        ensures all { IfOk result (λ all. all ≡ (length (uncovered_of tried.now self.now.taken.conf.rulesets) == 0)) }
+        ensures all { IfOk result (λ all. all ≡ (length (uncovered_of tried.now self.now.rulesets) == 0)) }
     {
         let uncovered = self.uncovered(alloc, tried)?;
         let deciding = deciding_count(self.rulesets());
@@ -234,5 +230,32 @@ impl Firewall {
         written(write_count(out, so_far, uncovered.len(), deciding))?;
         written(out.flush())?;
         Ok(uncovered.len() == 0)
+    }
+}
+
+impl Firewall {
+    /// The rules that could decide, and decide none of these cases, in order.
+    pub fn uncovered(
+        &self,
+        alloc: Global,
+        tried: &[Tried<'_>],
+    ) -> Result<Items<Decided>, AllocError>
+        ensures { IfOk result (λ rules. rules ≡ uncovered_of tried.now self.now.taken.conf.rulesets) }
+    {
+        self.origins().uncovered(alloc, tried)
+    }
+
+    /// Writes the line of each rule that decides none of these cases, and how many rules decide one. Returns whether all do that could.
+    /// `Fault::Output`: a front of that was written; `Fault::Memory`: nothing was.
+    pub fn cover<W: Write>(
+        &self,
+        alloc: Global,
+        out: &mut W,
+        tried: &[Tried<'_>],
+    ) -> Result<bool, Fault>
+        ensures text { Writes result (W.contents out.old) (W.contents out.new) (cover_text (origins_of self.now) tried.now) }
+        ensures all { IfOk result (λ all. all ≡ (length (uncovered_of tried.now self.now.taken.conf.rulesets) == 0)) }
+    {
+        self.origins().cover(alloc, out, tried)
     }
 }

@@ -6,7 +6,7 @@ ghost use Rattle.pf_rule.specs.{PacketGrammar.packet, Refusals.reading};
 ghost use Rattle.pfd_conf.specs.Explaining.{joined, IsExplained, RefusesPacket, note_text, verdict_line, explained_text, line_of_match, lines_of_matches};
 
 use crate::fault::Fault;
-use crate::firewall::{Decided, Firewall, ruleset_at};
+use crate::firewall::{Decided, Firewall, Origins, ruleset_at};
 use crate::outcomes::mistake_of;
 use crate::report::written;
 use pf_addr::write_more;
@@ -17,7 +17,7 @@ use pf_rule::Packet;
 use std::alloc::{AllocError, Global};
 use std::io::{self, Write};
 
-impl Firewall {
+impl Origins<'_> {
     /// Writes the line of a rule that matches, if the file has it.
     fn write_match<W: Write>(
         &self,
@@ -26,7 +26,7 @@ impl Firewall {
         matched: &Matched,
     ) -> io::Result<()>
         ensures { Continues so_far (W.contents out.old) result (W.contents out.new)
-            (line_of_match self.now.taken.files self.now.taken.conf.rulesets matched.now) }
+            (line_of_match self.now.files self.now.rulesets matched.now) }
     {
         let number = matched.number;
         match ruleset_at(self.rulesets(), &matched.path) {
@@ -43,7 +43,7 @@ impl Firewall {
         matched: &[Matched],
     ) -> io::Result<()>
         ensures { Continues begun (W.contents out.old) result (W.contents out.new)
-            (lines_of_matches self.now.taken.files self.now.taken.conf.rulesets matched.now) }
+            (lines_of_matches self.now.files self.now.rulesets matched.now) }
     {
         let mut so_far = begun;
         for rule in matched {
@@ -65,7 +65,9 @@ impl Firewall {
         let so_far = self.write_got(out, so_far, passes(verdict), decided);
         write_more(out, so_far, b"\n")
     }
+}
 
+impl Firewall {
     /// Writes the rules that match a packet, and the verdict on it.
     fn write_explained<W: Write>(
         &self,
@@ -75,9 +77,10 @@ impl Firewall {
     ) -> io::Result<()>
         ensures { Writes result (W.contents out.old) (W.contents out.new) (explained_text self.now packet.now traced.now) }
     {
-        let so_far = self.write_matches(out, Ok(()), &traced.matched);
+        let so_far = self.origins().write_matches(out, Ok(()), &traced.matched);
         let so_far = write_more(out, so_far, note(traced.is_whole));
-        self.write_verdict(out, so_far, &self.config.judge(packet))
+        self.origins()
+            .write_verdict(out, so_far, &self.config.judge(packet))
     }
 
     /// Writes each rule whose tests hold for the packet with these words, in the order in which they are looked at; and the verdict.

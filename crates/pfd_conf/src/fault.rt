@@ -4,10 +4,11 @@ ghost use Rattle.pfd_conf.specs.declared.fault.Fault.TheVariants.{Anchor, Interf
 
 use pf_tokens::{Bytes, Items};
 use std::alloc::{AllocError, AllocFailed, Global};
+use std::fmt::{self, Debug, Formatter, Write};
 use thiserror::Error;
 
 /// What is wrong with a case or a packet. The text of each is what a user is told.
-#[derive(Debug, Drop, Error)]
+#[derive(Drop, Error)]
 pub enum CaseMistake {
     #[error("'{0}' can't stand here")]
     Misplaced(Bytes),
@@ -21,8 +22,15 @@ pub enum CaseMistake {
     Families,
 }
 
+/// Its text, which tells one from the others.
+impl Debug for CaseMistake {
+    fn fmt<W: Write>(&self, f: &mut Formatter<W>) -> fmt::Result {
+        write!(f, "{self}")
+    }
+}
+
 /// Why there is no answer. The text of each is what a user is told.
-#[derive(Debug, Drop, Error)]
+#[derive(Drop, Error)]
 pub enum Fault {
     /// What is wrong with a pf.conf, or with a file that it names.
     #[error("{0}")]
@@ -59,6 +67,13 @@ pub enum Fault {
     /// Out of memory.
     #[error("pfd: memory")]
     Memory,
+}
+
+/// Its text.
+impl Debug for Fault {
+    fn fmt<W: Write>(&self, f: &mut Formatter<W>) -> fmt::Result {
+        write!(f, "{self}")
+    }
 }
 
 impl Fault {

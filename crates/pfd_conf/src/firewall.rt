@@ -4,7 +4,7 @@ ghost use Rattle.std.specs.Option.{option_map, option_and_then};
 ghost use Rattle.std.specs.List.{filter_map, slice_get};
 ghost use Rattle.pf_addr.specs.Writing.{Continues};
 ghost use Rattle.pf_conf.specs.Telling.{name_of_file};
-ghost use Rattle.pfd_conf.specs.Firewalls.{plain_rules, placed_of, table_of, config_of, ruleset_at, decided_in, rule_at, is_in, place_text, parenthesized, behind_text};
+ghost use Rattle.pfd_conf.specs.Firewalls.{origins_of, plain_rules, placed_of, table_of, config_of, ruleset_at, decided_in, rule_at, is_in, place_text, parenthesized, behind_text};
 
 use crate::taking::Taken;
 use pf_addr::path::{Path, TableName};
@@ -15,12 +15,29 @@ use pf_rule::Rule;
 use pf_tokens::{Files, Place};
 use std::alloc::{AllocError, Global};
 use std::io::{self, Write};
+use std::marker::Model;
 
 /// A file's rules and tables, as packets are judged by them, and where each rule is written.
 #[derive(Drop)]
 pub struct Firewall {
     pub taken: Taken,
     pub config: Config,
+}
+
+/// The files and the rulesets of a firewall, by which a user is told where a rule is written. What tells needn't know what packets are
+/// judged by, which keeps its proof short. Contracts see the lists.
+#[derive(Drop)]
+pub(crate) struct Origins<'a> {
+    files: &'a Files,
+    rulesets: &'a [Ruleset],
+}
+
+impl<'a> Model for Origins<'a> {
+    ghost use Rattle.pfd_conf.specs.Firewalls.{Origins};
+
+    ghost Value = { Origins };
+
+    ghost view = { λ o. record { files = o.files.now; rulesets = o.rulesets.now } };
 }
 
 /// The rule that decides.
@@ -109,20 +126,37 @@ impl Firewall {
         Ok(Firewall { taken, config })
     }
 
-    /// The rulesets of the file.
-    pub(crate) fn rulesets(&self) -> &[Ruleset]
-        ensures { result.now ≡ self.now.taken.conf.rulesets }
+    /// Where its rules are written.
+    pub(crate) fn origins(&self) -> Origins<'_>
+        ensures { result ≡ origins_of self.now }
     {
-        self.taken.conf.rulesets.as_slice()
+        Origins {
+            files: &self.taken.files,
+            rulesets: self.taken.conf.rulesets.as_slice(),
+        }
+    }
+}
+
+impl Origins<'_> {
+    pub(crate) fn files(&self) -> &Files
+        ensures { result.now ≡ self.now.files }
+    {
+        self.files
+    }
+
+    pub(crate) fn rulesets(&self) -> &[Ruleset]
+        ensures { result.now ≡ self.now.rulesets }
+    {
+        self.rulesets
     }
 
     /// Which rule of the file decides by this verdict, if one does.
     pub(crate) fn decided(&self, verdict: &RuleVerdict) -> Option<Decided>
-        ensures { result ≡ decided_in self.now.taken.conf.rulesets verdict.now }
+        ensures { result ≡ decided_in self.now.rulesets verdict.now }
     {
         match verdict {
             RuleVerdict::Rule { path, number, .. } => {
-                let within = ruleset_at(self.rulesets(), path)?;
+                let within = ruleset_at(self.rulesets, path)?;
                 let number = *number as usize;
                 Some(Decided { within, number })
             }
@@ -132,15 +166,15 @@ impl Firewall {
 
     /// The rule that decides, with its place.
     pub(crate) fn rule_at(&self, decided: Decided) -> Option<&At<Rule>>
-        ensures { option_map (λ r. r.now) result ≡ rule_at self.now.taken.conf.rulesets decided }
+        ensures { option_map (λ r. r.now) result ≡ rule_at self.now.rulesets decided }
     {
-        let ruleset = self.rulesets().get(decided.within)?;
+        let ruleset = self.rulesets.get(decided.within)?;
         ruleset.rules.as_slice().get(decided.number)
     }
 
     /// The rule that decides, with its place, if one does.
     fn rule_of(&self, decided: Option<Decided>) -> Option<&At<Rule>>
-        ensures { option_map (λ r. r.now) result ≡ option_and_then (rule_at self.now.taken.conf.rulesets) decided }
+        ensures { option_map (λ r. r.now) result ≡ option_and_then (rule_at self.now.rulesets) decided }
     {
         self.rule_at(decided?)
     }
@@ -153,10 +187,10 @@ impl Firewall {
         decided: Option<Decided>,
     ) -> io::Result<()>
         ensures { Continues so_far (W.contents out.old) result (W.contents out.new)
-            (behind_text self.now.taken.files self.now.taken.conf.rulesets decided) }
+            (behind_text self.now.files self.now.rulesets decided) }
     {
         match self.rule_of(decided) {
-            Some(rule) => write_in_parentheses(out, so_far, &self.taken.files, rule.place),
+            Some(rule) => write_in_parentheses(out, so_far, self.files, rule.place),
             None => write_more(out, so_far, b""),
         }
     }

@@ -2,10 +2,11 @@
 ghost use Rattle.std.specs.Prelude.{◌≡◌, IfOk};
 ghost use Rattle.pf_addr.specs.Writing.{Continues, Writes};
 ghost use Rattle.pf_form.specs.Form.Words.{texts};
+ghost use Rattle.pfd_conf.specs.Firewalls.{origins_of};
 ghost use Rattle.pfd_conf.specs.Junit.{escaped, escaped_text, counts_text, name_text, message_text, end_text, element_text, testcase_text, testcases_text, tally_in, suite_head, suite_text, suites_text, head_text, junit_text};
 
 use crate::fault::Fault;
-use crate::firewall::Firewall;
+use crate::firewall::{Firewall, Origins};
 use crate::outcomes::{Outcome, Tried};
 use crate::report::{Tally, count_in, write_spaced, written};
 use pf_addr::{write_more, write_more_number};
@@ -120,7 +121,7 @@ fn write_element<W: Write>(
     write_end(out, so_far, holds, message)
 }
 
-impl Firewall {
+impl Origins<'_> {
     /// What a case with these words came to, and what was wanted.
     fn message_of(
         &self,
@@ -199,8 +200,8 @@ impl Firewall {
         Ok(())
     }
 
-    /// Writes an element for each case, in JUnit's XML. `Fault::Output`, `Fault::Memory`: a front of that was written.
-    pub fn report_junit<W: Write>(
+    /// Writes an element for each case, in JUnit's XML.
+    fn report_junit<W: Write>(
         &self,
         alloc: Global,
         out: &mut W,
@@ -212,6 +213,20 @@ impl Firewall {
         self.write_suites(alloc, out, tried)?;
         written(write_more(out, Ok(()), b"</testsuites>\n"))?;
         written(out.flush())
+    }
+}
+
+impl Firewall {
+    /// Writes an element for each case, in JUnit's XML. `Fault::Output`, `Fault::Memory`: a front of that was written.
+    pub fn report_junit<W: Write>(
+        &self,
+        alloc: Global,
+        out: &mut W,
+        tried: &[Tried<'_>],
+    ) -> Result<(), Fault>
+        ensures { Writes result (W.contents out.old) (W.contents out.new) (junit_text (origins_of self.now) tried.now) }
+    {
+        self.origins().report_junit(alloc, out, tried)
     }
 }
 

@@ -153,7 +153,7 @@ impl Firewall {
         Outcome {
             line,
             passes: passes(&verdict),
-            decided: self.decided(&verdict),
+            decided: self.origins().decided(&verdict),
             holds: case.wanted.holds(&verdict),
         }
     }

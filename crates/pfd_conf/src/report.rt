@@ -4,10 +4,11 @@ ghost use Rattle.pf_addr.specs.Writing.{Continues, Writes};
 ghost use Rattle.pf_form.specs.Form.Words.{texts};
 ghost use Rattle.pf_case.specs.Cases.{at_text};
 ghost use Rattle.pfd_conf.specs.declared.fault.Fault.TheVariants.{Output};
+ghost use Rattle.pfd_conf.specs.Firewalls.{origins_of};
 ghost use Rattle.pfd_conf.specs.Reports.{spaced, packet_of, wanted_of, path_of, rule_text_of, got_text, difference_text, failure_text, told_text, failures_text, all_failures, has, counted, tally, tally_text, report_text};
 
 use crate::fault::Fault;
-use crate::firewall::{Decided, Firewall};
+use crate::firewall::{Decided, Firewall, Origins};
 use crate::outcomes::{Outcome, Tried};
 use pf_addr::{write_more, write_more_number};
 use pf_case::action_text;
@@ -68,10 +69,10 @@ fn wanted_of<'a>(words: Words<'a>) -> Words<'a>
     &words[words.len().min(PACKET_WORDS + 1)..]
 }
 
-impl Firewall {
+impl Origins<'_> {
     /// The path of the ruleset of the rule that decides.
     fn path_of(&self, decided: Decided) -> &[u8]
-        ensures { result.now ≡ path_of self.now.taken.conf.rulesets decided }
+        ensures { result.now ≡ path_of self.now.rulesets decided }
     {
         match self.rulesets().get(decided.within) {
             Some(ruleset) => ruleset.path.as_bytes(),
@@ -86,7 +87,7 @@ impl Firewall {
         so_far: io::Result<()>,
         decided: Decided,
     ) -> io::Result<()>
-        ensures { Continues so_far (W.contents out.old) result (W.contents out.new) (rule_text_of self.now.taken.conf.rulesets decided) }
+        ensures { Continues so_far (W.contents out.old) result (W.contents out.new) (rule_text_of self.now.rulesets decided) }
     {
         let so_far = write_more(out, so_far, b" rule ");
         let so_far = write_more_number(out, so_far, decided.number as u64);
@@ -196,6 +197,17 @@ impl Firewall {
         Ok(())
     }
 
+    /// Writes a line for each case that doesn't hold, and how many hold and don't.
+    fn report<W: Write>(&self, alloc: Global, out: &mut W, tried: &[Tried<'_>]) -> Result<(), Fault>
+        ensures { Writes result (W.contents out.old) (W.contents out.new) (report_text self.now tried.now) }
+    {
+        self.write_all_failures(alloc, out, tried)?;
+        written(write_tally(out, Ok(()), Tally::of(tried)))?;
+        written(out.flush())
+    }
+}
+
+impl Firewall {
     /// Writes a line for each case that doesn't hold, and how many hold and don't. `Fault::Output`, `Fault::Memory`: a front of that was
     /// written.
     pub fn report<W: Write>(
@@ -204,11 +216,9 @@ impl Firewall {
         out: &mut W,
         tried: &[Tried<'_>],
     ) -> Result<(), Fault>
-        ensures { Writes result (W.contents out.old) (W.contents out.new) (report_text self.now tried.now) }
+        ensures { Writes result (W.contents out.old) (W.contents out.new) (report_text (origins_of self.now) tried.now) }
     {
-        self.write_all_failures(alloc, out, tried)?;
-        written(write_tally(out, Ok(()), Tally::of(tried)))?;
-        written(out.flush())
+        self.origins().report(alloc, out, tried)
     }
 }
 

@@ -2,10 +2,11 @@
 ghost use Rattle.std.specs.Prelude.{◌≡◌, ◌+◌, IfOk};
 ghost use Rattle.pf_addr.specs.Writing.{Continues, Writes};
 ghost use Rattle.pf_form.specs.Form.Words.{texts};
+ghost use Rattle.pfd_conf.specs.Firewalls.{origins_of};
 ghost use Rattle.pfd_conf.specs.Reports.{result_word, reason_text, point_text, sayable, words_at, file_points, files_points, case_count, plan_text, tap_text};
 
 use crate::fault::Fault;
-use crate::firewall::Firewall;
+use crate::firewall::{Firewall, Origins};
 use crate::outcomes::{Outcome, Tried};
 use crate::report::{Tally, write_spaced, write_tally, written};
 use pf_addr::{write_more, write_more_number};
@@ -42,7 +43,7 @@ fn number_of(before: usize, index: usize) -> usize
     before.saturating_add(index).saturating_add(1)
 }
 
-impl Firewall {
+impl Origins<'_> {
     /// Writes why a case with these words doesn't hold; nothing if it does.
     fn write_reason<W: Write>(
         &self,
@@ -136,8 +137,8 @@ impl Firewall {
         Ok(count)
     }
 
-    /// Writes a line for each case, in TAP, and how many there are. `Fault::Output`, `Fault::Memory`: a front of that was written.
-    pub fn report_tap<W: Write>(
+    /// Writes a line for each case, in TAP, and how many there are.
+    fn report_tap<W: Write>(
         &self,
         alloc: Global,
         out: &mut W,
@@ -149,5 +150,19 @@ impl Firewall {
         let count = self.write_all_points(alloc, out, tried)?;
         written(write_plan(out, Ok(()), count, Tally::of(tried)))?;
         written(out.flush())
+    }
+}
+
+impl Firewall {
+    /// Writes a line for each case, in TAP, and how many there are. `Fault::Output`, `Fault::Memory`: a front of that was written.
+    pub fn report_tap<W: Write>(
+        &self,
+        alloc: Global,
+        out: &mut W,
+        tried: &[Tried<'_>],
+    ) -> Result<(), Fault>
+        ensures { Writes result (W.contents out.old) (W.contents out.new) (tap_text (origins_of self.now) tried.now) }
+    {
+        self.origins().report_tap(alloc, out, tried)
     }
 }

@@ -5,6 +5,6 @@ pub returns : goal.returns
 returns g c =
     let w =
     behind_nothing tt
-    (Continues-then (Continues-then (rw c.deref.ensures.value at c.write_matches-so_far.ensures)
-    (rw c.note.ensures at c.write_more-so_far.ensures)) (rw c.judge.ensures at c.write_verdict.ensures)) in
+    (Continues-then (Continues-then (rw (c.deref.ensures.value, c.origins.ensures) at c.write_matches-so_far.ensures)
+    (rw c.note.ensures at c.write_more-so_far.ensures)) (rw (c.judge.ensures, c.origins-2.ensures) at c.write_verdict.ensures)) in
     w.0

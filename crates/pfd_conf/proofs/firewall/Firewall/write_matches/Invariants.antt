@@ -1,9 +1,0 @@
-use Rattle.pfd_conf.specs.Explaining.{line_of_match}
-use Rattle.pf_conf.proofs.Texts.{Before}
-use Rattle.pfd_conf.proofs.firewall.Firewall.write_matches.Given as goal
-
-abbrev pub invariant-loop-rule : goal.invariant-loop-rule
-invariant-loop-rule g l =
-    Before (line_of_match l.self.taken.files l.self.taken.conf.rulesets) l.fn.begun (g.W.Write.contents l.initial.out) l.so_far
-    (g.W.Write.contents l.out)
-    l.matched l.rule-index
