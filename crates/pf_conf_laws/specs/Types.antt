@@ -1,6 +1,6 @@
 -- Types of values that pf_parse and pf_conf keep to themselves, by the definitions that speak of them.
 use Rattle.std.specs.Prelude.{List}
-use Rattle.pf_conf.specs.{Filling.before_sources, Found.nothing_found, Resolving.main_file}
+use Rattle.pf_conf.specs.{Found.nothing_found, Resolving.main_file}
 use Rattle.pf_parse.specs.{Anchors.name_fault, Criteria.no_tests, Lists.text_of_operator, Options.{is_anchor, nothing_said}, Reading.rank_number}
 
 abbrev pub type_of : {A : Type 0} → A → Type 0
@@ -35,13 +35,10 @@ Operator = first_of text_of_operator
 abbrev pub Named : Type 0
 Named = first_of name_fault
 
--- ---- pf_conf's: what was found so far, what was gathered of a table, files that are named, loads that wait
+-- ---- pf_conf's: what was found so far, files that are named, loads that wait
 
 abbrev pub Found : Type 0
 Found = type_of nothing_found
-
-abbrev pub Gathered : Type 0
-Gathered = second_of before_sources
 
 abbrev pub Mention : Type 0
 Mention = second_of main_file
