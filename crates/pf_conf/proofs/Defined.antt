@@ -9,7 +9,8 @@ use Rattle.pf_parse.specs.declared.{fault.Stop.Stop, fault.Stop.TheVariants.{Fau
 use Rattle.pf_parse.specs.declared.fault.Mistake.TheVariants as mistakes
 use Rattle.pf_parse.specs.{Stops.fault_at, Reading.Word}
 use Rattle.pf_conf.specs.declared.found.Found.{Found}
-use Rattle.pf_conf.specs.{Steps.{each, Leaves}, Filling.{with_sources, is_defined, with_definition, once_behind, with_tables}}
+use Rattle.pf_sources.specs.Steps.{each, Leaves}
+use Rattle.pf_conf.specs.Filling.{with_sources, is_defined, with_definition, once_behind, with_tables}
 use Rattle.pf_conf.proofs.Steps.{drop_item, take_item}
 
 -- ---- how many come before that

@@ -14,11 +14,14 @@ use Rattle.pf_parse.specs.declared.fault.Mistake.TheVariants as mistakes
 use Rattle.pf_parse.specs.{Stops.fault_at, Reading.Word}
 use Rattle.pf_interfaces.specs.declared.interface.Interface.{Interface}
 use Rattle.pf_conf.specs.Lines.{parsed_with}
-use Rattle.pf_conf.specs.declared.{fault.Spot.Spot, filling.Gathered.Gathered, found.Conf.Conf, found.FilledTable.FilledTable, found.Found.Found, found.Mention.Mention, found.Ruleset.Ruleset, found.Waiting.Waiting}
+use Rattle.pf_conf.specs.declared.{fault.Spot.Spot, found.Conf.Conf, found.FilledTable.FilledTable, found.Found.Found, found.Mention.Mention, found.Ruleset.Ruleset, found.Waiting.Waiting}
 use Rattle.pf_conf.specs.declared.found.TheConstants.{RULE_LIMIT, RULESET_LIMIT, LINE_LIMIT}
-use Rattle.pf_conf.specs.{Tables.{plain, filled_unless, filled}, Steps.each, Found.{nothing_found, is_full, has_rules, has_tables}, Laws.FitsCommit}
+use Rattle.pf_sources.specs.declared.sources.Gathered.{Gathered}
+use Rattle.pf_sources.specs.{Tables.{plain, filled_unless, filled}, Steps.each}
+use Rattle.pf_conf.specs.{Found.{nothing_found, is_full, has_rules, has_tables}, Laws.FitsCommit}
 use Rattle.pf_conf.specs.Rulesets.{PlacedRule, rule_at, rules_at, with_more, with_product, written_in, skips_in, rules_in, with_ruleset, with_rules, free_path, path_of_braces, Opened, with_braces, with_rulesets}
-use Rattle.pf_conf.specs.Filling.{Defined, gathered, with_filled, is_defined, with_table_path, with_table, with_sources, with_definition, with_tables}
+use Rattle.pf_sources.specs.Sources.{gathered}
+use Rattle.pf_conf.specs.Filling.{Defined, with_filled, is_defined, with_table_path, with_table, with_sources, with_definition, with_tables}
 use Rattle.pf_conf.specs.Telling.{telling, told_at, first_spot}
 use Rattle.pf_conf.specs.Resolving.{is_main, room_for, free_for, with_notes, with_loads, with_tree, flat_of, after_flat, main_file, commit_length, with_flat, with_file, with_load, with_waiting, load_numbered, loads_from, committed, resolved}
 use Rattle.pf_conf.proofs.Kept.{both, each_keeps, if_not, if_room, if_free, if_fits, telling_so}

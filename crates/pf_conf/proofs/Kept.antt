@@ -14,16 +14,18 @@ use Rattle.pf_parse.specs.declared.{fault.Stop.Stop, parser.Mode.Mode, tree.Brac
 use Rattle.pf_conf.specs.declared.{fault.Spot.Spot, fault.Unread.Unread, found.Conf.Conf, found.Found.Found, found.Mention.Mention, found.Ruleset.Ruleset, found.Waiting.Waiting}
 use Rattle.pf_form.specs.declared.form.fault.Kind.{Kind}
 use Rattle.pf_table.specs.Entries.{PlainEntry}
-use Rattle.pf_conf.specs.declared.filling.Gathered.{Gathered}
+use Rattle.pf_sources.specs.declared.sources.Gathered.{Gathered}
 use Rattle.pf_lists.specs.declared.rules.Mistake.TheVariants.{ManyCombinations}
 use Rattle.pf_addr.specs.Path.Paths.{path_text}
 use Rattle.pf_conf.specs.declared.found.TheConstants.{RULE_LIMIT, LINE_LIMIT}
 use Rattle.pf_parse.specs.Stops.{fault_at}
 use Rattle.pf_interfaces.specs.declared.interface.Interface.{Interface}
 use Rattle.pf_conf.specs.Lines.{parsed_with}
-use Rattle.pf_conf.specs.{Tables.filled, Steps.each, Found.{nothing_found, is_full, has_rules, has_tables}}
+use Rattle.pf_sources.specs.{Tables.filled, Steps.each}
+use Rattle.pf_conf.specs.Found.{nothing_found, is_full, has_rules, has_tables}
 use Rattle.pf_conf.specs.Rulesets.{PlacedRule, rule_at, rules_at, with_more, with_product, written_in, skips_in, rules_in, with_ruleset, with_rules, free_path, path_of_braces, Opened, with_braces, with_rulesets}
-use Rattle.pf_conf.specs.Filling.{Defined, gathered, with_filled, is_defined, with_table_path, with_table, with_sources, with_definition, with_tables}
+use Rattle.pf_sources.specs.Sources.{gathered}
+use Rattle.pf_conf.specs.Filling.{Defined, with_filled, is_defined, with_table_path, with_table, with_sources, with_definition, with_tables}
 use Rattle.pf_parse.specs.declared.fault.Mistake.TheVariants as mistakes
 use Rattle.pf_tokens.specs.declared.flat.Macro.{Macro}
 use Rattle.pf_conf.specs.Telling.{telling, told_at, first_spot}

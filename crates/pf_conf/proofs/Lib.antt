@@ -3,7 +3,6 @@ pub mod Written
 pub mod Defined
 pub mod Loads
 pub mod Texts
-pub mod Entries
 pub mod Spoofs
 pub mod Leniently
 pub mod Kept

@@ -16,7 +16,8 @@ use Rattle.pf_interfaces.specs.declared.interface.Interface.{Interface}
 use Rattle.pf_interfaces.specs.Addresses.{with_addresses}
 use Rattle.pf_interfaces.proofs.Words.{words_are}
 use Rattle.pf_conf.specs.declared.{found.TheConstants.RULE_LIMIT}
-use Rattle.pf_conf.specs.{Steps.each, Lines.{spoof_checked, parsed_with}, Laws.{IsRulePlace}}
+use Rattle.pf_sources.specs.Steps.{each}
+use Rattle.pf_conf.specs.{Lines.{spoof_checked, parsed_with}, Laws.IsRulePlace}
 use Rattle.pf_conf.specs.Rulesets.{PlacedRule, rule_at, rules_at, with_more, with_product, written_in, skips_in, rules_in}
 use Rattle.pf_conf.proofs.Kept.{both, if_so, TreeSo, FilesSo}
 

@@ -3,8 +3,10 @@ use Rattle.std.proofs.Common.{◌≡◌, ℕ, ◌+◌, ◌==◌, ◌<◌, ◌≤
 use Rattle.std.proofs.{lemmas.List.drop_all, lemmas.Bool.ne_eqb}
 use Rattle.pf_form.specs.Form.Forms.{◌>>=◌}
 use Rattle.pf_parse.specs.declared.{fault.Stop.Stop, fault.Stop.TheVariants.{Faulty, Needs, Memory}, tree.Product.Product, tree.Tree.Tree, tree.Written.Written}
-use Rattle.pf_conf.specs.{Steps.{each, Leaves}, Rulesets.{PlacedRule, with_product, written_in, skips_in}}
-use Rattle.pf_conf.proofs.Steps.{drop_item, each_none, each_one, each_append}
+use Rattle.pf_sources.specs.Steps.{each, Leaves}
+use Rattle.pf_conf.specs.Rulesets.{PlacedRule, with_product, written_in, skips_in}
+use Rattle.pf_sources.proofs.Steps.{each_none, each_one, each_append}
+use Rattle.pf_conf.proofs.Steps.{drop_item}
 
 first_behind : (found : Bool) (w : Written) (ps : List Product) (rules : List PlacedRule) → each with_product (if found then w.product ∷ ps else ps) rules ≡ (each with_product (if found then w.product ∷ [] else []) rules >>= λ more. each with_product ps more)
 first_behind true w ps rules = each_append with_product (w.product ∷ []) ps rules

@@ -1,5 +1,4 @@
 pub mod Spots
-pub mod Steps
 pub mod Tables
 pub mod Found
 pub mod Rulesets

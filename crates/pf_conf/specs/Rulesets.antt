@@ -11,7 +11,8 @@ use Rattle.pf_parse.specs.declared.{fault.At.At, fault.Stop.Stop, tree.Braces.Br
 use Rattle.pf_parse.specs.declared.fault.Mistake.TheVariants as mistakes
 use Rattle.pf_parse.specs.{Stops.fault_at, Reading.Word}
 use Rattle.pf_conf.specs.declared.{found.Found.Found, found.TheConstants.RULE_LIMIT}
-use Rattle.pf_conf.specs.{Steps.each, Found.{is_full, has_rules}}
+use Rattle.pf_sources.specs.Steps.{each}
+use Rattle.pf_conf.specs.Found.{is_full, has_rules}
 
 -- ---- rules
 

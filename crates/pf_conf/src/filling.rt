@@ -1,100 +1,16 @@
 //! The tables of a file that are filled.
-ghost use Rattle.std.specs.Prelude.{◌≡◌, ◌≤◌, ◌++◌, [], length, IfOk, OnOk};
-ghost use Rattle.pf_parse.specs.Stops.{Gives};
-ghost use Rattle.pf_conf.specs.Steps.{each, Leaves};
-ghost use Rattle.pf_conf.specs.Filling.{with_file_entries, with_source, before_sources, gathered, with_table_path, with_filled, with_table, with_sources, once_behind, with_tables};
+ghost use Rattle.std.specs.Prelude.{◌≡◌, ◌≤◌, [], length, IfOk, OnOk};
+ghost use Rattle.pf_sources.specs.Steps.{each, Leaves};
+ghost use Rattle.pf_conf.specs.Filling.{with_table_path, with_filled, with_table, with_sources, once_behind, with_tables};
 
 use crate::found::{FilledTable, Found};
-use crate::tables::{entries_at, filled};
 use pf_addr::path::Path;
-use pf_parse::{Entries, Entry, Mistake, Stop, Table as TableLine, read_entries, refusal};
+use pf_parse::{Mistake, Stop, Table as TableLine, refusal};
+use pf_sources::{filled, gather};
 use pf_table::Table;
-use pf_tokens::{Files, Items, Place, Token, text_of_file};
+use pf_tokens::{Files, Items, Place};
 use std::alloc::{AllocError, Global};
 use std::collections::BTreeSet;
-
-/// The entries of a table's sources, as they come.
-#[derive(Drop)]
-struct Gathered {
-    /// How many files were read.
-    files_read: usize,
-    entries: Items<Entry>,
-}
-
-/// Appends entries.
-fn push_entries(entries: &mut Items<Entry>, more: &[Entry]) -> Result<(), AllocError>
-    ensures { OnOk result (entries.new ≡ entries.old ++ more.now) }
-{
-    for entry in more {
-        entries.push(*entry)?;
-    }
-    Ok(())
-}
-
-impl Gathered {
-    /// Adds the entries of the file that a token names.
-    #[tactic(auto, unfolding(crate::specs::Filling::with_file_entries))]
-    fn add_file(&mut self, alloc: Global, files: &Files, file: &Token) -> Result<(), Stop>
-        ensures { Leaves result self.new (with_file_entries files.now file.now self.old) }
-    {
-        let name = file.bytes(alloc)?;
-        let (number, text) = text_of_file(
-            alloc,
-            files,
-            self.files_read,
-            file.place,
-            name.as_slice(),
-        )?;
-        self.files_read += 1;
-        read_entries(alloc, number, text, &mut self.entries)
-    }
-
-    /// Adds the entries of a source of a table whose name stands at this place. A file's come behind the table
-    /// that those before it make, so that no more are kept than a table and a file may have.
-    #[tactic(auto, unfolding(crate::specs::Filling::with_source))]
-    fn add_source(
-        &mut self,
-        alloc: Global,
-        files: &Files,
-        named: Place,
-        source: &Entries,
-    ) -> Result<(), Stop>
-        ensures { Leaves result self.new (with_source files.now named source.now self.old) }
-    {
-        match source {
-            Entries::Listed(listed) => {
-                push_entries(&mut self.entries, listed.as_slice())?;
-                Ok(())
-            }
-            Entries::File(file) => {
-                let before = filled(alloc, named, self.entries.as_slice())?;
-                self.entries = entries_at(alloc, named, &before)?;
-                self.add_file(alloc, files, file)
-            }
-        }
-    }
-}
-
-/// The entries of all sources of a table whose name stands at this place, behind so many files that were read.
-fn gather(
-    alloc: Global,
-    files: &Files,
-    named: Place,
-    sources: &[Entries],
-    files_read: usize,
-) -> Result<Gathered, Stop>
-    ensures { Gives result (gathered files.now named sources.now files_read) }
-{
-    let entries = Items::new(alloc);
-    let mut gathered = Gathered {
-        files_read,
-        entries,
-    };
-    for source in sources {
-        gathered.add_source(alloc, files, named, source)?;
-    }
-    Ok(gathered)
-}
 
 /// How many tables come before the first whose name one before it has.
 fn defined_once(alloc: Global, tables: &[TableLine]) -> Result<usize, AllocError>

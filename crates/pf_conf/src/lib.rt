@@ -1,11 +1,11 @@
 //! What a pf.conf means (pf.conf(5)): the rules and the tables that it stands for, by the paths of their rulesets, or the one fault with
 //! its place.
 //!
-//! The modules, each of which uses only those before it: `fault` (what a user is told, and where), `tables` (a table's entries and their
-//! texts), `found` (rulesets, tables and what is still to be loaded), `rulesets` (rules in braces), `filling` (tables from lists and
-//! files), `telling` (places as a user finds them), `lines` (a file's lines), `resolving` (all files), `shown` (what is printed) and
-//! `laws`. Where interfaces are named as hosts, pf_interfaces puts their addresses. The lines of a file are read by pf_parse, the lists of
-//! a rule are multiplied by pf_lists, and a table's entries are put in order by pf_table.
+//! The modules, each of which uses only those before it: `fault` (what a user is told, and where), `tables` (texts of tables' entries),
+//! `found` (rulesets, tables and what is still to be loaded), `rulesets` (rules in braces), `filling` (the tables of a file), `telling`
+//! (places as a user finds them), `lines` (a file's lines), `resolving` (all files), `shown` (what is printed) and `laws`. Where interfaces
+//! are named as hosts, pf_interfaces puts their addresses. The lines of a file are read by pf_parse, the lists of a rule are multiplied by
+//! pf_lists, and what fills a table comes from pf_sources.
 //!
 //! The crate opens no file: [`resolve`] answers with the name of one that isn't given, and whoever reads files asks again. It knows no
 //! server, no ticket and no state.

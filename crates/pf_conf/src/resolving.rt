@@ -2,7 +2,8 @@
 ghost use Rattle.std.specs.Prelude.{◌≡◌, ◌≤◌, ◌<◌, ◌^◌, ◌+◌, ◌-◌, length, sum_by, codes, min, IfOk, OnOk};
 ghost use Rattle.pf_tokens.specs.declared.files.TheConstants.{FILE_LIMIT, READING_LIMIT};
 ghost use Rattle.pf_tokens.specs.{Places.start_of, Files.text_of_file};
-ghost use Rattle.pf_conf.specs.{Steps.Leaves, Lines.parsed_with, Telling.{telling, telling_at, GivesTold, FindsTold, LeavesTold}};
+ghost use Rattle.pf_sources.specs.Steps.{Leaves};
+ghost use Rattle.pf_conf.specs.{Lines.parsed_with, Telling.{telling, telling_at, GivesTold, FindsTold, LeavesTold}};
 ghost use Rattle.pf_conf.specs.Resolving.{note_of, waiting_of, with_notes, with_loads, with_tree, is_main, room_for, free_for, with_load, with_flat, flat_of, with_file, load_numbered, loads_from, part_length, commit_length, committed, main_file, resolved};
 
 use crate::fault::{Note, Spot, Unread};

@@ -2,7 +2,7 @@
 ghost use Rattle.std.specs.Prelude.{◌≡◌, ◌++◌, ◌∷◌, [], map, OnOk};
 ghost use Rattle.pf_lists.specs.Multiplied.{multiplied};
 ghost use Rattle.pf_parse.specs.Stops.{Gives};
-ghost use Rattle.pf_conf.specs.Steps.{each, Leaves};
+ghost use Rattle.pf_sources.specs.Steps.{each, Leaves};
 ghost use Rattle.pf_conf.specs.Rulesets.{rule_at, rules_at, with_product, written_in, skips_in, rules_in, with_rules, free_path, path_of_braces, with_braces, with_rulesets};
 
 use crate::found::{Found, RULE_LIMIT, Ruleset, path_text};

@@ -1,71 +1,11 @@
-//! Tables that are filled.
-ghost use Rattle.std.specs.Prelude.{◌≡◌, map, codes, IfOk, if◌then◌else◌, []};
+//! Texts of tables' entries.
+ghost use Rattle.std.specs.Prelude.{◌≡◌, codes, if◌then◌else◌, []};
 ghost use Rattle.pf_addr.specs.Writing.{Continues};
-ghost use Rattle.pf_parse.specs.Stops.{Gives};
-ghost use Rattle.pf_conf.specs.Tables.{plain, entry_at, filled, entry_text, entries_text};
+ghost use Rattle.pf_conf.specs.Tables.{entry_text, entries_text};
 
 use pf_addr::{write_more, write_more_net};
-use pf_parse::{Entry, Mistake, Stop, refusal};
-use pf_table::{Entry as TableEntry, Table, TableRefusal};
-use pf_tokens::{Items, Place};
-use std::alloc::{AllocError, Global};
+use pf_table::{Entry, Table};
 use std::io::{self, Write};
-
-/// The entries without their places.
-#[tactic(auto, using(crate::proofs::Steps::map_item))]
-fn plain_entries(alloc: Global, entries: &[Entry]) -> Result<Vec<TableEntry>, AllocError>
-    ensures { IfOk result (λ v. v.items ≡ map plain entries.now) }
-{
-    let mut listed = Vec::new(alloc);
-    for entry in entries {
-        listed.push(TableEntry::new(entry.net, entry.is_negated))?;
-    }
-    Ok(listed)
-}
-
-/// The table of these entries, whose name stands at this place: an entry is once in it, and has one sign.
-#[tactic(auto, unfolding(crate::specs::Tables::filled))]
-pub(crate) fn filled(alloc: Global, named: Place, entries: &[Entry]) -> Result<Table, Stop>
-    ensures { Gives result (filled named entries.now) }
-{
-    let listed = plain_entries(alloc, entries)?;
-    let mut table = Table::empty();
-    match table.replace(alloc, &listed) {
-        Ok(()) => Ok(table),
-        Err(TableRefusal::Conflict { at }) if at < entries.len() => {
-            Err(refusal(entries[at].place, Mistake::OtherSign))
-        }
-        Err(TableRefusal::Conflict { .. }) => Err(refusal(named, Mistake::OtherSign)),
-        Err(TableRefusal::TableFull) => Err(refusal(named, Mistake::ManyEntries)),
-        Err(TableRefusal::Memory) => Err(Stop::Memory),
-    }
-}
-
-/// An entry of a table, as one that stands at this place.
-fn entry_at(place: Place, entry: TableEntry) -> Entry
-    ensures { result ≡ entry_at place entry }
-{
-    Entry {
-        place,
-        net: entry.net(),
-        is_negated: entry.is_negated(),
-    }
-}
-
-/// The entries of a table, as some that stand at this place.
-pub(crate) fn entries_at(
-    alloc: Global,
-    place: Place,
-    table: &Table,
-) -> Result<Items<Entry>, AllocError>
-    ensures { IfOk result (λ es. es ≡ map (entry_at place) table.now) }
-{
-    let mut entries = Items::new(alloc);
-    for entry in table.entries() {
-        entries.push(entry_at(place, *entry))?;
-    }
-    Ok(entries)
-}
 
 fn sign(is_negated: bool) -> &'static [u8]
     ensures { result.now ≡ (if is_negated then codes "!" else []) }
@@ -74,7 +14,7 @@ fn sign(is_negated: bool) -> &'static [u8]
 }
 
 /// Writes an entry as it is shown.
-fn write_entry<W: Write>(out: &mut W, so_far: io::Result<()>, entry: TableEntry) -> io::Result<()>
+fn write_entry<W: Write>(out: &mut W, so_far: io::Result<()>, entry: Entry) -> io::Result<()>
     ensures { Continues so_far (W.contents out.old) result (W.contents out.new) (entry_text entry) }
 {
     let so_far = write_more(out, so_far, sign(entry.is_negated()));

@@ -11,16 +11,20 @@ use Rattle.pf_parse.specs.declared.fault.Mistake.TheVariants as mistakes
 use Rattle.pf_parse.specs.{Stops.fault_at, Reading.Word}
 use Rattle.pf_conf.specs.declared.{fault.Spot.Spot, fault.Unread.Unread, found.Conf.Conf, found.FilledTable.FilledTable, found.Ruleset.Ruleset}
 use Rattle.pf_conf.specs.declared.found.TheConstants.{RULESET_LIMIT, LINE_LIMIT}
-use Rattle.pf_conf.specs.{Tables.filled, Steps.each, Found.{nothing_found, is_full, has_rules, has_tables}}
+use Rattle.pf_sources.specs.declared.sources.Gathered.{Gathered}
+use Rattle.pf_sources.specs.{Tables.filled, Steps.each}
+use Rattle.pf_conf.specs.Found.{nothing_found, is_full, has_rules, has_tables}
 use Rattle.pf_conf.specs.Rulesets.{PlacedRule, rules_in, with_ruleset, with_rules, free_path, path_of_braces, Opened, with_braces, with_rulesets}
-use Rattle.pf_conf.specs.Filling.{Defined, gathered, with_filled, is_defined, with_table_path, with_table, with_sources, with_definition, with_tables}
+use Rattle.pf_sources.specs.Sources.{gathered}
+use Rattle.pf_conf.specs.Filling.{Defined, with_filled, is_defined, with_table_path, with_table, with_sources, with_definition, with_tables}
 use Rattle.pf_interfaces.specs.declared.interface.Interface.{Interface}
 use Rattle.pf_conf.specs.Lines.{parsed_with}
 use Rattle.pf_conf.specs.Telling.{telling, told_at, first_spot}
 use Rattle.pf_conf.specs.Resolving.{is_main, room_for, free_for, with_notes, with_loads, with_tree, flat_of, after_flat, main_file, commit_length, with_flat, with_file, with_load, with_waiting, load_numbered, loads_from, committed, resolved}
 use Rattle.pf_conf.proofs.Kept.{both, each_keeps, if_not, if_room, if_free, telling_so}
-use Rattle.pf_conf_laws.specs.Types.{Found, Gathered, Mention, Waiting}
-use Rattle.pf_load.specs.{Naming.{with_path, table_paths}, Laws.{is_table_at, AreOnce}}
+use Rattle.pf_conf_laws.specs.Types.{Found, Mention, Waiting}
+use Rattle.pf_commit.specs.Naming.{with_path, table_paths}
+use Rattle.pf_load.specs.Laws.{is_table_at, AreOnce}
 use Rattle.pf_conf_laws.specs.Commits.{HasRoom}
 
 -- ---- names and paths

@@ -8,7 +8,8 @@ use Rattle.pf_parse.specs.declared.{tree.Product.Product, tree.Tree.Tree}
 use Rattle.pf_parse.specs.declared.fault.Mistake.TheVariants as mistakes
 use Rattle.pf_parse.specs.Stops.{fault_at}
 use Rattle.pf_conf.specs.declared.found.TheConstants.{RULE_LIMIT}
-use Rattle.pf_conf.specs.{Steps.each, Rulesets.{PlacedRule, rule_at, rules_at, with_more, with_product, written_in, skips_in, rules_in}}
+use Rattle.pf_sources.specs.Steps.{each}
+use Rattle.pf_conf.specs.Rulesets.{PlacedRule, rule_at, rules_at, with_more, with_product, written_in, skips_in, rules_in}
 use Rattle.pf_conf.proofs.Kept.{both, if_so}
 use Rattle.pf_conf_laws.specs.Rulesets.{AreRulesOf}
 

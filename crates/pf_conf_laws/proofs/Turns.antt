@@ -6,6 +6,7 @@ use Rattle.pf_tokens.specs.declared.{place.Place.Place, token.Token.Token, token
 use Rattle.pf_tokens.specs.declared.token.Kind.TheVariants as kinds
 use Rattle.pf_tokens.specs.{Words.{same_kind, is_word, is_symbol, is_newline, is_number, is_string}, Places.text_of}
 use Rattle.pf_tokens.proofs.MacroFree.{or-false_left}
+use Rattle.pf_lists.specs.declared.hosts.Host.{Host}
 use Rattle.pf_parse.specs.declared.{fault.LeftOut.LeftOut, fault.Mistake.Mistake, fault.Stop.Stop, parser.Mode.Mode, parser.Mode.TheVariants.{Strict, Lenient}, tree.Entries.Entries, tree.Entries.TheVariants.{Listed, File}, tree.Product.Product}
 use Rattle.pf_parse.specs.declared.fault.Reason.TheVariants.{InterfaceAddress}
 use Rattle.pf_parse.specs.declared.fault.LeftOut.TheVariants as left_out
@@ -17,7 +18,7 @@ use Rattle.pf_parse.specs.Options.{is_anchor, state, label, flags, queue, tag, p
 use Rattle.pf_parse.specs.Openings.{block_policy}
 use Rattle.pf_parse.specs.Anchors.{enter, shallow, own_name, keep_rule, named_anchor, anchor, close_braces}
 use Rattle.pf_parse.specs.Lines.{is_left_out_of_table, is_rule, rule_of, keep_table, keep_load, keep_skip, skip_one, skip_each, skip, order_matters, rule, listed, table_part, parts_more, table, load, set_line, is_left_out_line, left_out_line, no_line, rule_or_anchor, filtering, line, line_in_braces, any_line, lines_more}
-use Rattle.pf_conf_laws.specs.{Types.{Start, Tests, Options, Rank, Operator, Host}, Turns.TurnsSuffice}
+use Rattle.pf_conf_laws.specs.{Types.{Start, Tests, Options, Rank, Operator}, Turns.TurnsSuffice}
 use Rattle.pf_conf_laws.proofs.Walks.{Walk, Walks, After, Basics, Rules, either_walks, steps, walks_address, walks_begin_list, walks_between, walks_block_policy, walks_braces_or_line, walks_direction, walks_end_line, walks_expect_symbol, walks_expect_word, walks_from, walks_giving, walks_if, walks_in_main, walks_interfaces, walks_keep_load, walks_keep_table, walks_kept, walks_label_of, walks_leave_braces, walks_leave_out, walks_left_out_line, walks_list_goes_on, walks_loaded_file, walks_loaded_path, walks_log_and_quick, walks_look, walks_name_in_angles, walks_named_priority, walks_newlines, walks_no_list, walks_no_range, walks_not_any, walks_not_negated, walks_noted_group, walks_once, walks_operator, walks_own_name, walks_priority_value, walks_queue_name, walks_refusing, walks_repeating, walks_set_option, walks_setting, walks_shallow, walks_skip_string, walks_string, walks_table_parts, walks_takes_symbol, walks_takes_word, walks_tests_and_options, walks_then, walks_token, walks_unexpected, walks_written_flags}
 
 -- ---- no token is given back

@@ -3,6 +3,7 @@ use Rattle.std.proofs.Common.{ℕ, zero, suc, ◌+◌, ◌||◌, cond, Bool, tru
 use Rattle.pf_form.specs.Form.Forms.{◌>>=◌}
 use Rattle.pf_tokens.specs.declared.{place.Place.Place, token.Token.Token}
 use Rattle.pf_tokens.specs.Words.{is_word, is_symbol, is_newline, is_number, is_string}
+use Rattle.pf_lists.specs.declared.hosts.Host.{Host}
 use Rattle.pf_parse.specs.declared.{fault.LeftOut.LeftOut, fault.Mistake.Mistake, fault.Remark.Remark, fault.Stop.Stop, parser.Mode.Mode, parser.Mode.TheVariants.{Strict, Lenient}, tree.Entries.Entries, tree.Load.Load, tree.Table.Table}
 use Rattle.pf_parse.specs.States.{State}
 use Rattle.pf_parse.specs.Reading.{Word, Reads, giving, ◌>=>◌, refusing, looking, next, second, behind, is_at_end, token, takes_word, takes_symbol, unexpected, expect, passing, expect_word, expect_symbol, string, value, end_line, is_empty_list, newlines, note, leave_out, leave_out_in, leave_out_next, behind_line, skip_line, to_parenthesis, end_parentheses, skip_parentheses, in_order, repeating, repeated}
@@ -12,7 +13,7 @@ use Rattle.pf_parse.specs.Options.{once, state_options, kept, state, label_of, l
 use Rattle.pf_parse.specs.Openings.{skip_drop, block_policy, direction, log, log_and_quick}
 use Rattle.pf_parse.specs.Anchors.{quoted_path, anchor_name, own_name, name_alone, newline_behind_brace, next_number, enter, open_braces, braces_or_line, shallow, anchor, leave_braces, close_braces}
 use Rattle.pf_parse.specs.Lines.{is_rule, rule, listed, table_part, parts_more, table_parts, keep_table, name_in_angles, table, keep_load, loaded_path, loaded_file, load, in_main, skip, order_matters, set_order, require_order, set_option, is_setting, setting, set_line, left_out_line, no_line, rule_or_anchor, filtering, line, line_in_braces, any_line, all_closed, line_more, lines_more, lines}
-use Rattle.pf_conf_laws.specs.Types.{Start, Tests, Options, Rank, Operator, Named, Host}
+use Rattle.pf_conf_laws.specs.Types.{Start, Tests, Options, Rank, Operator, Named}
 
 -- what may lie between two states
 pub record Walk : Type 1 where

@@ -1,5 +1,5 @@
 -- What readers give: items whose words pf_rule reads.
-use Rattle.std.proofs.Common.{◌≡◌, ℕ, zero, suc, ◌+◌, ◌<◌, ◌≤◌, ◌==◌, ◌&&◌, ◌||◌, not, cond, Bool, true, false, List, [], ◌∷◌, ◌++◌, take, drop, length, nat_le, nat_lt, codes, decimal, Option, Some, None, Result, Ok, Err, refl, sym, ap, subst, arith}
+use Rattle.std.proofs.Common.{◌≡◌, ℕ, zero, suc, ◌+◌, ◌<◌, ◌≤◌, ◌==◌, ◌&&◌, ◌||◌, not, cond, Bool, true, false, List, [], ◌∷◌, ◌++◌, map, take, drop, length, nat_le, nat_lt, codes, decimal, Option, Some, None, Result, Ok, Err, refl, sym, ap, subst, arith}
 use Rattle.std.specs.{Prelude.{if◌then◌else◌, IfSome}, List.{All, list_all, list_any}, Str.bytes_eq, Option.ok_or}
 use Rattle.std.proofs.lemmas.{Bool.{and_parts, leb-true}, List.Elements.{All-nil, All-append, All-map, All-push}}
 use Rattle.pf_form.specs.Form.Forms.{◌>>=◌}
@@ -16,6 +16,7 @@ use Rattle.pf_values.specs.declared.numbers.Mistake.TheVariants.{PortNumber, Por
 use Rattle.pf_values.specs.{Numbers.{is_digits, has_zeros, kept_between, number_between}, Named.{Row, number_in}, Ports.{port_of, range, colon_in, single_port_by, single_port_of, ports_by, ports_of}, Addresses.{without_zeros, net_of}}
 use Rattle.pf_tokens.specs.declared.{place.Place.Place, token.Token.Token}
 use Rattle.pf_tokens.specs.{Places.text_of, Words.{is_word, is_symbol, is_number, is_string}}
+use Rattle.pf_lists.specs.{declared.hosts.Host.Host, Hosts.host_words}
 use Rattle.pf_parse.specs.declared.{fault.Mistake.Mistake, fault.Stop.Stop}
 use Rattle.pf_parse.specs.declared.fault.Mistake.TheVariants as mistakes
 use Rattle.pf_parse.specs.declared.fault.LeftOut.TheVariants as left_out
@@ -24,11 +25,11 @@ use Rattle.pf_parse.specs.States.{State}
 use Rattle.pf_parse.specs.Values.{value_at, protocol_by, protocol_of, protocol_words, operand, words_of_ports, port_words, net_at_place}
 use Rattle.pf_parse.specs.Reading.{Word, Reads, giving, ◌>=>◌, refusing, next, token, takes_word, takes_symbol, unexpected, leave_out, refused_at, expect_word, expect_symbol, string, value, repeating, repeated}
 use Rattle.pf_parse.specs.Lists.{looking_at, from, begin_list, list_goes_on, item_more, list, one, no_list, listed_item, one_or_items, one_or_list, name_checked, table_checked, table_name, not_negated, interface_checked, interface, interfaces, protocol, text_of_operator, one_port, two_ports, or_same, operator, compared, between, ranged, port_by, port, tested, all_tested, table_host, named_host, address, no_range, host_of_net, net_host, other_host, host, not_any, listed_hosts, hosts_in, host_list, hosts}
-use Rattle.pf_parse.specs.Criteria.{nothing, any_host, any_side, interface_word, interface_words, behind_word, tested_interfaces, family, protocols, words_of_hosts, side_hosts, side, sides, tests}
+use Rattle.pf_parse.specs.Criteria.{nothing, any_host, any_side, interface_word, interface_words, behind_word, tested_interfaces, family, protocols, side_hosts, side, sides, tests}
 use Rattle.pf_parse.specs.Options.{is_anchor, is_ok_name, label_of, label, state, flags, left_out_option, option, is_state, ends_options, options_more, nothing_said, said, state_words, label_words, closing, tests_and_options, once, kept, written_flags}
 use Rattle.pf_parse.specs.Anchors.{in_quotes, no_fault, name_fault, fault_checked, path_checked, is_reserved, quoted_path, anchor_name, own_name}
 use Rattle.pf_conf.proofs.Kept.{both, if_not}
-use Rattle.pf_conf_laws.specs.Types.{type_of, Start, Tests, Options, Operator, Named, Host}
+use Rattle.pf_conf_laws.specs.Types.{type_of, Start, Tests, Options, Operator, Named}
 use Rattle.pf_conf_laws.proofs.Spelled.{Spelled, interface_spelled, no_interface_spelled, v4_spelled, v6_spelled, no_family_spelled, protocol_spelled, no_protocol_spelled, port_spelled, no_port_spelled, any_spelled, table_spelled, net_spelled, negated_net_spelled}
 
 -- what is read is so
@@ -328,7 +329,7 @@ yields_port = yields_then MayBeOperator (Spelled a_port) operator _ yields_opera
 -- ---- hosts
 
 abbrev IsHostOf : Host → Type 0
-IsHostOf h = Spelled a_host h.words
+IsHostOf h = Spelled a_host (host_words h)
 
 table_words : (t : Token) (b : Bool) → IsNamedTable t → IsHostOf (table_host t b)
 table_words t true is = table_spelled (text_of t.text) true is
@@ -424,9 +425,9 @@ all_any = all_one (Spelled a_host) (codes "any" ∷ []) any_spelled
 yields_side_hosts : Yields AllHosts side_hosts
 unfolding side_hosts
 yields_side_hosts =
-    yields_look AllHosts _ (λ t. yields_if AllHosts (is_word (codes "port") t) (giving any_host) (takes_word (codes "any") >=> λ is. if is then giving any_host else (hosts >=> λ hs. giving (words_of_hosts hs))) (λ _. yields_giving AllHosts any_host all_any)
+    yields_look AllHosts _ (λ t. yields_if AllHosts (is_word (codes "port") t) (giving any_host) (takes_word (codes "any") >=> λ is. if is then giving any_host else (hosts >=> λ hs. giving (map host_words hs))) (λ _. yields_giving AllHosts any_host all_any)
     (λ _. yields_behind AllHosts (takes_word (codes "any")) _ (λ is. yields_if AllHosts is _ _ (λ _. yields_giving AllHosts any_host all_any)
-    (λ _. yields_then (All IsHostOf) AllHosts hosts _ yields_hosts (λ hs all. yields_giving AllHosts (words_of_hosts hs) (All-map (Spelled a_host) (λ (h : Host). h.words) hs all))))))
+    (λ _. yields_then (All IsHostOf) AllHosts hosts _ yields_hosts (λ hs all. yields_giving AllHosts (map host_words hs) (All-map (Spelled a_host) host_words hs all))))))
 
 abbrev Side : Type 0
 Side = type_of any_side

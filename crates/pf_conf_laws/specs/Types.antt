@@ -1,7 +1,7 @@
 -- Types of values that pf_parse and pf_conf keep to themselves, by the definitions that speak of them.
 use Rattle.std.specs.Prelude.{List}
-use Rattle.pf_conf.specs.{Filling.before_sources, Found.nothing_found, Resolving.main_file}
-use Rattle.pf_parse.specs.{Anchors.name_fault, Criteria.no_tests, Lists.{text_of_operator, table_host}, Options.{is_anchor, nothing_said}, Reading.rank_number}
+use Rattle.pf_conf.specs.{Found.nothing_found, Resolving.main_file}
+use Rattle.pf_parse.specs.{Anchors.name_fault, Criteria.no_tests, Lists.text_of_operator, Options.{is_anchor, nothing_said}, Reading.rank_number}
 
 abbrev pub type_of : {A : Type 0} → A → Type 0
 type_of {A} x = A
@@ -12,13 +12,10 @@ first_of {A} {B} f = A
 abbrev pub second_of : {A B : Type 0} → (A → B) → Type 0
 second_of {A} {B} f = B
 
-abbrev pub third_of : {A B C : Type 0} → (A → B → C) → Type 0
-third_of {A} {B} {C} f = C
-
 abbrev pub item_of : {A : Type 0} → List A → Type 0
 item_of {A} xs = A
 
--- ---- pf_parse's: how a rule begins, what it tests, what its options say, ranks of lines, operators, what is named, hosts
+-- ---- pf_parse's: how a rule begins, what it tests, what its options say, ranks of lines, operators, what is named
 
 abbrev pub Start : Type 0
 Start = first_of is_anchor
@@ -38,16 +35,10 @@ Operator = first_of text_of_operator
 abbrev pub Named : Type 0
 Named = first_of name_fault
 
-abbrev pub Host : Type 0
-Host = third_of table_host
-
--- ---- pf_conf's: what was found so far, what was gathered of a table, files that are named, loads that wait
+-- ---- pf_conf's: what was found so far, files that are named, loads that wait
 
 abbrev pub Found : Type 0
 Found = type_of nothing_found
-
-abbrev pub Gathered : Type 0
-Gathered = second_of before_sources
 
 abbrev pub Mention : Type 0
 Mention = second_of main_file

@@ -1,12 +1,13 @@
 -- The turns of the loops over lists and over ways.
-use Rattle.std.proofs.Common.{◌≡◌, ℕ, suc, ◌+◌, ◌-◌, ◌*◌, ◌/◌, ◌%◌, ◌^◌, ◌<◌, ◌≤◌, min, leb, Bool, true, false, cond, List, [], ◌∷◌, ◌++◌, length, get_or, take, drop, Option, Result, Ok, Err, sym, ap, ◌∙◌, arith, append_assoc, add-one}
+use Rattle.std.proofs.Common.{◌≡◌, ℕ, suc, map, ◌+◌, ◌-◌, ◌*◌, ◌/◌, ◌%◌, ◌^◌, ◌<◌, ◌≤◌, min, leb, Bool, true, false, cond, List, [], ◌∷◌, ◌++◌, length, get_or, take, drop, Option, Result, Ok, Err, sym, ap, ◌∙◌, arith, append_assoc, add-one}
 use Rattle.std.proofs.{Math.Seq.drop-cons, lemmas.Bool.Decides.nat_tests, lemmas.List.{append-nil, take_more, map-append, drop_all, at_drop_all, get_or_read}}
 use Rattle.std.specs.Option.{option_to_list}
 use denote.Ref.{Bor}
 use Rattle.pf_form.specs.{Form.Forms.◌>>=◌, Form.Words.texts}
 use Rattle.pf_rule.specs.Rules.{PlainRule}
 use Rattle.pf_lists.specs.declared.{rules.Mistake.Mistake, rules.Mistake.TheVariants.{ManyCombinations, NoCombination}, rules.Stop.Stop, rules.Stop.TheVariants.{Faulty, Memory}, rules.TheConstants.COMBINATION_LIMIT}
-use Rattle.pf_lists.specs.{Product.{Word, spelled, count, numbered}, Multiplied.{Gives, rule_of, rules_of, at_least_one, multiplied}}
+use Rattle.pf_lists.specs.declared.hosts.Host.{Host}
+use Rattle.pf_lists.specs.{Hosts.host_words, Product.{Word, spelled, count, numbered}, Multiplied.{Gives, rule_of, rules_of, at_least_one, multiplied}}
 use Rattle.pf_lists.proofs.Ways.{spelled_count, spelled_digits, Digit, digit, capped_product, one_way, no_way}
 
 drop_item : {X : Type 0} → (xs : List X) (i : ℕ) (x : X) → i < length xs → x ≡ get_or xs i x → drop i xs ≡ x ∷ drop (i + 1) xs
@@ -15,6 +16,12 @@ drop_item {X} xs i x in_list here =
 
 take_item : {X : Type 0} → (xs : List X) (i : ℕ) (x : X) → i < length xs → x ≡ get_or xs i x → take (i + 1) xs ≡ take i xs ++ x ∷ []
 take_item {X} xs i x in_list here = take_more xs i x in_list ∙ ap (λ (y : X). take i xs ++ y ∷ []) (sym here)
+
+-- ---- the words of hosts
+
+pub host_turn : (hosts : List Host) (i : ℕ) (h : Host) → i < length hosts → h ≡ get_or hosts i h → map host_words (take (i + 1) hosts) ≡ map host_words (take i hosts) ++ host_words h ∷ []
+host_turn hosts i h in_hosts here =
+    ap (map host_words) (take_item hosts i h in_hosts here) ∙ map-append host_words (take i hosts) (h ∷ [])
 
 -- ---- counting
 

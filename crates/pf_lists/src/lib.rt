@@ -4,18 +4,21 @@
 //! product of its lists: each way of taking one item of each list, the last list turning fastest. The words of each are read by pf_rule, so
 //! that nothing of a rule is defined twice.
 //!
-//! The modules, each of which uses only those before it: `product` (the ways, by their numbers), `rules` (what each way's words are read
-//! as), and `laws`.
+//! The modules, each of which uses only those before it: `product` (the ways, by their numbers), `hosts` (the words of hosts), `rules`
+//! (what each way's words are read as), and `laws`.
 //!
-//! Read `specs/Product.antt` first, then `specs/Multiplied.antt`. Proved: [`multiply`] gives what the definition says. Laws: lists of so many
-//! items have the product of their numbers of ways, and the digits of a way's number in mixed radix say which items it takes
-//! (`ways_have_numbers`); the rules are those of the ways in their order, less those that are left out (`rules_are_counted`).
+//! Read `specs/Product.antt` first, then `specs/Multiplied.antt`. Proved: [`multiply`] gives what the definition says, and
+//! [`words_of_hosts`] each host's words, with its own `!`. Laws: lists of so many items have the product of their numbers of ways, and the
+//! digits of a way's number in mixed radix say which items it takes (`ways_have_numbers`); the rules are those of the ways in their order,
+//! less those that are left out (`rules_are_counted`).
 #![tactic(auto)]
 
+mod hosts;
 mod laws;
 mod product;
 mod rules;
 
+pub use hosts::{Host, words_of_hosts};
 pub use laws::{rules_are_counted, ways_have_numbers};
 pub use product::{Lists, Words};
 pub use rules::{COMBINATION_LIMIT, Mistake, Stop, multiply};

@@ -1,6 +1,3 @@
-pub mod Steps
-pub mod Texts
 pub mod Asked
 pub mod Differing
-pub mod Attempts
 pub mod Loaded

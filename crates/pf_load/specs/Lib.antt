@@ -1,6 +1,3 @@
-pub mod Naming
-pub mod Lines
-pub mod Loading
 pub mod Changes
 pub mod Served
 pub mod Laws

@@ -4,16 +4,15 @@ ghost use Rattle.pf_addr.specs.Writing.{Continues, Writes};
 ghost use Rattle.pf_rule.specs.RuleText.{rule_text};
 ghost use Rattle.pf_table.specs.Edits.{deletions};
 ghost use Rattle.pf_conf.specs.Tables.{entry_text};
-ghost use Rattle.pf_load.specs.Lines.{newline};
+ghost use Rattle.pf_commit.specs.Lines.{newline};
 ghost use Rattle.pf_load.specs.Changes.{rules_heading, table_heading, marked, changes_text, WritesDifference, absent_in, if_absent, question, rules_question, tables_question, questions};
-ghost use Rattle.pf_load.specs.Naming.{table_paths};
+ghost use Rattle.pf_commit.specs.Naming.{table_paths};
 
-use crate::fault::Fault;
-use crate::lines::{entries_of, path_text, write_entry};
-use crate::naming::table_paths;
-use crate::replies::{first_line, read_reply, send};
 use pf_addr::path::Path;
 use pf_addr::{write_more, write_more_number};
+use pf_commit::{
+    Fault, entries_of, first_line, path_text, read_reply, send, table_paths, write_entry,
+};
 use pf_conf::{At, Conf, FilledTable, Ruleset};
 use pf_parse::{Stop, read_entries};
 use pf_rule::Rule;
@@ -114,7 +113,7 @@ fn rule_text(alloc: Global, rule: &Rule) -> Result<Bytes, AllocError>
 }
 
 /// The rules of a file, as they are shown.
-#[tactic(auto, using(crate::proofs::Steps::map_item))]
+#[tactic(auto, using(pf_commit::proofs::Steps::map_item))]
 fn rule_texts(alloc: Global, rules: &[At<Rule>]) -> Result<Vec<Bytes>, AllocError>
     ensures { IfOk result (λ v. v.items ≡ map (λ r. rule_text r.is) rules.now) }
 {

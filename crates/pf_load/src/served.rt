@@ -2,13 +2,29 @@
 ghost use Rattle.pf_load.specs.Served.{AsksOnly};
 
 use crate::changes::{ask_list, behind_number, entry_in, table_with};
-use crate::fault::Fault;
 use pf_addr::path::Path;
+use pf_commit::Fault;
 use pf_conf::{At, Conf, FilledTable, Ruleset};
 use pf_rule::{Effect, Reference, Rule, TextFault};
 use pf_tokens::{Bytes, Items, Place};
 use std::alloc::{AllocError, Global};
 use std::io::{BufRead, Write};
+
+/// The fault of a reference to all rulesets within this path.
+fn wild(alloc: Global, path: &[u8]) -> Fault {
+    match Items::copied(alloc, path) {
+        Ok(path) => Fault::Wild(path),
+        Err(_) => Fault::Memory,
+    }
+}
+
+/// Whether the server has no line that begins with the first word alone.
+fn is_of_unknown_line(fault: &Fault) -> bool {
+    match fault {
+        Fault::Refused { reply, .. } => reply.as_slice() == b"err word 1".as_slice(),
+        _ => false,
+    }
+}
 
 /// The rule of a line that shows one. It stands in no file.
 fn rule_in(alloc: Global, line: &[u8]) -> Result<At<Rule>, Fault> {
@@ -189,7 +205,7 @@ impl Known {
     {
         match ask_list(alloc, server, replies, b"show anchors ", path) {
             Ok(anchors) => self.add_anchors(path, &anchors),
-            Err(fault) if fault.is_of_unknown_line() => Err(Fault::wild(alloc, path.as_bytes())),
+            Err(fault) if is_of_unknown_line(&fault) => Err(wild(alloc, path.as_bytes())),
             Err(fault) => Err(fault),
         }
     }

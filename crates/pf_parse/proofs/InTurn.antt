@@ -3,7 +3,8 @@ use Rattle.std.proofs.Common.{◌≡◌, ℕ, ◌+◌, ◌-◌, ◌<◌, ◌≤�
 use Rattle.std.proofs.lemmas.List.{drop_all}
 use Rattle.pf_form.specs.Form.Forms.{◌>>=◌}
 use Rattle.pf_tokens.specs.declared.token.Token.{Token}
-use Rattle.pf_parse.specs.declared.{fault.Stop.Stop, tree.Entry.Entry, tree.Host.Host}
+use Rattle.pf_lists.specs.declared.hosts.Host.{Host}
+use Rattle.pf_parse.specs.declared.{fault.Stop.Stop, tree.Entry.Entry}
 use Rattle.pf_parse.specs.States.{State}
 use Rattle.pf_parse.specs.Reading.{next, unexpected_at, repeating}
 use Rattle.pf_parse.specs.Lines.{line_more, lines_more, all_closed, lines, skip_one, skip_each, entry_of, entries_of}

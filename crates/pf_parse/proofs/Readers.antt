@@ -3,7 +3,8 @@ use Rattle.std.proofs.Common.{◌≡◌, ℕ, zero, suc, ◌+◌, ◌==◌, cond
 use Rattle.pf_form.specs.Form.Forms.{◌>>=◌}
 use Rattle.pf_tokens.specs.declared.{place.Place.Place, token.Token.Token}
 use Rattle.pf_tokens.specs.Words.{is_word, is_symbol, is_newline, is_number, is_string}
-use Rattle.pf_parse.specs.declared.{anchors.Named.Named, fault.LeftOut.LeftOut, fault.Mistake.Mistake, fault.Remark.Remark, fault.Stop.Stop, parser.Rank.Rank, lists.Operator.Operator, lists.TheConstants.LIST_LIMIT, lists.Tested.{Tested}, lists.Tested.TheVariants.{Protocol, Port}, tree.Entries.Entries, tree.Host.Host, tree.Load.Load, tree.Product.Product, tree.Start.Start, tree.Start.TheVariants.{Pass, Block}, tree.Table.Table, tree.Tests.Tests, options.Options.Options}
+use Rattle.pf_lists.specs.declared.hosts.Host.{Host}
+use Rattle.pf_parse.specs.declared.{anchors.Named.Named, fault.LeftOut.LeftOut, fault.Mistake.Mistake, fault.Remark.Remark, fault.Stop.Stop, parser.Rank.Rank, lists.Operator.Operator, lists.TheConstants.LIST_LIMIT, lists.Tested.{Tested}, lists.Tested.TheVariants.{Protocol, Port}, tree.Entries.Entries, tree.Load.Load, tree.Product.Product, tree.Start.Start, tree.Start.TheVariants.{Pass, Block}, tree.Table.Table, tree.Tests.Tests, options.Options.Options}
 use Rattle.pf_parse.specs.States.{State}
 use Rattle.pf_parse.specs.Reading.{Word, Reads, giving, ◌>=>◌, refusing, looking, next, second, behind, is_at_end, token, takes_word, takes_symbol, unexpected, expect, passing, expect_word, expect_symbol, string, value, end_line, is_empty_list, newlines, note, leave_out, leave_out_next, skip_line, end_parentheses, skip_parentheses, in_order, repeating, repeated}
 use Rattle.pf_parse.specs.Lists.{looking_at, from, begin_list, behind_comma, behind_item, list_goes_on, item_more, list, one, no_list, listed_item, one_or_items, one_or_list, table_name, noted_group, not_negated, interface, interfaces, protocol, or_same, operator, compared, between, ranged, port_by, port, tested, all_tested, named_host, with_length, address, no_range, net_host, other_host, host, not_any, listed_hosts, hosts_in, hosts}

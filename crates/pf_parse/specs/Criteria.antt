@@ -2,7 +2,8 @@
 use Rattle.std.specs.Prelude.{List, [], ◌∷◌, map, codes, if◌then◌else◌}
 use Rattle.pf_tokens.specs.declared.token.Token.{Token}
 use Rattle.pf_tokens.specs.{Places.text_of, Words.is_word}
-use Rattle.pf_parse.specs.declared.{tree.Tests.Tests, tree.Side.Side, tree.Host.Host, lists.Tested.TheVariants.{Protocol, Port}}
+use Rattle.pf_lists.specs.Hosts.{host_words}
+use Rattle.pf_parse.specs.declared.{tree.Tests.Tests, tree.Side.Side, lists.Tested.TheVariants.{Protocol, Port}}
 use Rattle.pf_parse.specs.Reading.{Word, Reads, giving, ◌>=>◌, takes_word}
 use Rattle.pf_parse.specs.Lists.{looking_at, interfaces, all_tested, hosts}
 
@@ -40,13 +41,10 @@ family =
 unfoldable pub protocols : Reads (List (List Word))
 protocols = behind_word (codes "proto") (all_tested Protocol) nothing
 
-abbrev pub words_of_hosts : List Host → List (List Word)
-words_of_hosts hs = map (λ (h : Host). h.words) hs
-
 unfoldable pub side_hosts : Reads (List (List Word))
 side_hosts =
     looking_at >=> λ t. if is_word (codes "port") t then giving any_host
-    else (takes_word (codes "any") >=> λ is. if is then giving any_host else (hosts >=> λ hs. giving (words_of_hosts hs)))
+    else (takes_word (codes "any") >=> λ is. if is then giving any_host else (hosts >=> λ hs. giving (map host_words hs)))
 
 unfoldable pub side : Reads Side
 side = side_hosts >=> λ hs. behind_word (codes "port") (all_tested Port) nothing >=> λ ps. giving (record { hosts = hs; ports = ps })

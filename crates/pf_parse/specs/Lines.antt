@@ -5,7 +5,8 @@ use Rattle.pf_form.specs.Form.Forms.{◌>>=◌}
 use Rattle.pf_addr.specs.Address.{PlainNet}
 use Rattle.pf_tokens.specs.declared.{place.Place.Place, token.Token.Token}
 use Rattle.pf_tokens.specs.{Places.text_of, Words.{has_text, is_word, is_symbol, is_newline}}
-use Rattle.pf_parse.specs.declared.{anchors.Named.TheVariants.Path, openings.Direction.Direction, fault.Stop.Stop, parser.Mode.Mode, statements.Parsed.Parsed, statements.TheConstants.{SETTINGS, HOLDS}, tree.Entries.Entries, tree.Entries.TheVariants.{Listed, File}, tree.Entry.Entry, tree.Host.Host, tree.Load.Load, tree.Product.Product, tree.Start.Start, tree.Start.TheVariants.{Pass, Block}, tree.Table.Table, tree.Tree.Tree}
+use Rattle.pf_lists.specs.declared.hosts.Host.{Host}
+use Rattle.pf_parse.specs.declared.{anchors.Named.TheVariants.Path, openings.Direction.Direction, fault.Stop.Stop, parser.Mode.Mode, statements.Parsed.Parsed, statements.TheConstants.{SETTINGS, HOLDS}, tree.Entries.Entries, tree.Entries.TheVariants.{Listed, File}, tree.Entry.Entry, tree.Load.Load, tree.Product.Product, tree.Start.Start, tree.Start.TheVariants.{Pass, Block}, tree.Table.Table, tree.Tree.Tree}
 use Rattle.pf_parse.specs.declared.fault.LeftOut.TheVariants as left_out
 use Rattle.pf_parse.specs.declared.fault.Mistake.TheVariants as mistakes
 use Rattle.pf_parse.specs.declared.fault.Reason.TheVariants as reasons

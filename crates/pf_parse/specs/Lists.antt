@@ -5,9 +5,10 @@ use Rattle.pf_form.specs.{Form.Forms.{◌>>=◌}}
 use Rattle.pf_form.specs.declared.form.fault.Kind.{Kind}
 use Rattle.pf_form.specs.declared.form.fault.Kind.TheVariants.{BadWord, NameTooLong, BadProto}
 use Rattle.pf_addr.specs.{Address.PlainNet, Path.Names.{name_of, table_name_of}}
+use Rattle.pf_lists.specs.declared.hosts.Host.{Host}
 use Rattle.pf_tokens.specs.declared.{place.Place.Place, token.Token.Token}
 use Rattle.pf_tokens.specs.{Places.text_of, Words.{is_word, is_symbol, is_newline, is_number}}
-use Rattle.pf_parse.specs.declared.{fault.Mistake.Mistake, fault.Stop.Stop, tree.Host.Host, lists.Operator.Operator, lists.Tested.{Tested}, lists.Tested.TheVariants.{Protocol, Port}, lists.TheConstants.{LIST_LIMIT, INTERFACE_BYTES}}
+use Rattle.pf_parse.specs.declared.{fault.Mistake.Mistake, fault.Stop.Stop, lists.Operator.Operator, lists.Tested.{Tested}, lists.Tested.TheVariants.{Protocol, Port}, lists.TheConstants.{LIST_LIMIT, INTERFACE_BYTES}}
 use Rattle.pf_parse.specs.declared.lists.Operator.TheVariants as operators
 use Rattle.pf_parse.specs.declared.fault.Mistake.TheVariants as mistakes
 use Rattle.pf_parse.specs.declared.fault.Reason.TheVariants as reasons
@@ -164,15 +165,11 @@ all_tested what = one_or_list (tested what)
 
 -- ---- hosts
 
-abbrev pub host_words : Bool → Word → List Word
-host_words true w = codes "!" ∷ w ∷ []
-host_words false w = w ∷ []
-
 abbrev pub table_word : Token → Word
 table_word t = codes "<" ++ (text_of t.text ++ codes ">")
 
 abbrev pub table_host : Token → Bool → Host
-table_host t negated = record { place = t.place; words = host_words negated (table_word t); net = None; is_negated = negated }
+table_host t negated = record { place = t.place; word = table_word t; net = None; is_negated = negated }
 
 unfoldable pub named_host : Bool → Reads Host
 named_host negated = table_name >=> λ t. expect_symbol (codes ">") >=> λ _. giving (table_host t negated)
@@ -192,7 +189,7 @@ unfoldable pub no_range : Reads (Unit {0})
 no_range = looking_at >=> λ t. if is_symbol (codes "-") t then refusing t.place mistakes.AddressRange else giving tt
 
 abbrev pub host_of_net : Place → Bool → Word → PlainNet → Host
-host_of_net p negated text n = record { place = p; words = host_words negated text; net = Some n; is_negated = negated }
+host_of_net p negated text n = record { place = p; word = text; net = Some n; is_negated = negated }
 
 unfoldable pub net_host : Bool → Reads Host
 net_host negated =

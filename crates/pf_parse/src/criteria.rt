@@ -3,13 +3,13 @@ ghost use Rattle.std.specs.Prelude.{◌≡◌, ◌∷◌, [], IfOk};
 ghost use Rattle.pf_form.specs.Form.Words.{texts};
 ghost use Rattle.pf_parse.specs.Reading.{Takes};
 ghost use Rattle.pf_parse.specs.Lists.{all_tested};
-ghost use Rattle.pf_parse.specs.Criteria.{nothing, behind_word, any_side, no_tests, interface_word, interface_words, tested_interfaces, family, protocols, words_of_hosts, side_hosts, side, sides, tests};
+ghost use Rattle.pf_parse.specs.Criteria.{nothing, behind_word, any_side, no_tests, interface_word, interface_words, tested_interfaces, family, protocols, side_hosts, side, sides, tests};
 
 use crate::fault::Stop;
 use crate::lists::Tested;
 use crate::parser::{Parser, words_of};
-use crate::tree::{Host, Side, Tests};
-use pf_lists::Words;
+use crate::tree::{Side, Tests};
+use pf_lists::{Words, words_of_hosts};
 use pf_tokens::{Items, Token};
 use std::alloc::{AllocError, Global};
 
@@ -40,17 +40,6 @@ fn interface_words(alloc: Global, interfaces: &[Token]) -> Result<Items<Words>, 
         list.push(interface_word(alloc, interface)?)?;
     }
     Ok(list)
-}
-
-/// The words that each of these hosts adds to a rule.
-fn words_of_hosts(alloc: Global, hosts: Items<Host>) -> Result<Items<Words>, AllocError>
-    ensures { IfOk result (λ words. words ≡ words_of_hosts hosts) }
-{
-    let mut words = Items::new(alloc);
-    for host in hosts.into_items() {
-        words.push(host.words)?;
-    }
-    Ok(words)
 }
 
 /// The tests of a rule that tests nothing.
@@ -177,6 +166,6 @@ impl Parser<'_> {
             return Ok(only(self.alloc(), &[b"any"])?);
         }
         let hosts = self.hosts()?;
-        Ok(words_of_hosts(self.alloc(), hosts)?)
+        Ok(words_of_hosts(self.alloc(), hosts.as_slice())?)
     }
 }

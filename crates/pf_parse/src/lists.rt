@@ -1,15 +1,14 @@
 //! Lists in braces, and what stands in them.
 ghost use Rattle.std.specs.Prelude.{◌≡◌, ◌++◌, decimal, Some, IfOk, OnOk, Ok};
 ghost use Rattle.pf_parse.specs.{Stops.{Gives, Told, fault_at}, Reading.{Takes, TakesOn}, Values.{shown_as, protocol_of, protocol_words, operand, port_range, port_words, net_at_place}};
-ghost use Rattle.pf_parse.specs.Lists.{begin_list, list_goes_on, item_more, listed_item, list, no_list, table_name, ends_in_digit, noted_group, not_negated, interface_checked, table_checked, interface, interfaces, protocol, text_of_operator, one_port, two_ports, or_same, operator, compared, between, ranged, port, tested, all_tested, host_words, table_word, table_host, named_host, with_slash, address, no_range, net_host, other_host, host, not_any, listed_hosts, hosts_in, host_list, hosts};
+ghost use Rattle.pf_parse.specs.Lists.{begin_list, list_goes_on, item_more, listed_item, list, no_list, table_name, ends_in_digit, noted_group, not_negated, interface_checked, table_checked, interface, interfaces, protocol, text_of_operator, one_port, two_ports, or_same, operator, compared, between, ranged, port, tested, all_tested, table_word, table_host, named_host, with_slash, address, no_range, net_host, other_host, host, not_any, listed_hosts, hosts_in, host_list, hosts};
 
 use crate::fault::{Mistake, Reason, Remark, Stop, refusal};
 use crate::parser::{Parser, words_of};
-use crate::tree::Host;
 use pf_addr::Net;
 use pf_addr::path::{Name, TableName};
 use pf_form::form::Kind as NameFault;
-use pf_lists::Words;
+use pf_lists::{Host, Words};
 use pf_tokens::{Bytes, Items, Place, Token};
 use pf_values::{
     Mistake as NoValue, PortNumbers, net, port_or_range, protocol_named, protocol_numbered,
@@ -212,36 +211,24 @@ fn with_slash(alloc: Global, address: &Token, length: &Token) -> Result<Bytes, A
     Ok(Items::of(text))
 }
 
-/// The words that a host adds to a rule.
-fn host_words(alloc: Global, is_negated: bool, word: &[u8]) -> Result<Words, AllocError>
-    ensures { IfOk result (λ ws. ws ≡ host_words is_negated word.now) }
-{
-    if is_negated {
-        words_of(alloc, &[b"!", word])
-    } else {
-        words_of(alloc, &[word])
-    }
-}
-
 /// A table's name in angles.
-fn table_word(alloc: Global, name: &Token) -> Result<Vec<u8>, AllocError>
-    ensures { IfOk result (λ word. word.items ≡ table_word name.now) }
+fn table_word(alloc: Global, name: &Token) -> Result<Bytes, AllocError>
+    ensures { IfOk result (λ word. word ≡ table_word name.now) }
 {
     let bytes = name.bytes(alloc)?;
     let mut word = Vec::from_slice(alloc, b"<")?;
     word.extend_from_slice(bytes.as_slice())?;
     word.push(b'>')?;
-    Ok(word)
+    Ok(Items::of(word))
 }
 
 /// The host that a table of this name is.
 fn table_host(alloc: Global, name: &Token, is_negated: bool) -> Result<Host, AllocError>
     ensures { IfOk result (λ h. h ≡ table_host name.now is_negated) }
 {
-    let word = table_word(alloc, name)?;
     Ok(Host {
         place: name.place,
-        words: host_words(alloc, is_negated, &word)?,
+        word: table_word(alloc, name)?,
         net: None,
         is_negated,
     })
@@ -567,7 +554,7 @@ impl Parser<'_> {
         let net = net_of(self.alloc(), token.place, text.as_slice(), text.as_slice())?;
         Ok(Host {
             place: token.place,
-            words: host_words(self.alloc(), is_negated, text.as_slice())?,
+            word: text,
             net: Some(net),
             is_negated,
         })

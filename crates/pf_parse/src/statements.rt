@@ -9,8 +9,8 @@ use crate::criteria::{interface_word, no_tests};
 use crate::fault::{At, LeftOut, Mistake, Reason, Remark, Stop, refusal};
 use crate::openings::{Direction, opening};
 use crate::parser::{Mode, Parser, Rank, words_of};
-use crate::tree::{Entries, Entry, Host, Load, Product, Start, Table, Tree};
-use pf_lists::Words;
+use crate::tree::{Entries, Entry, Load, Product, Start, Table, Tree};
+use pf_lists::{Host, Words};
 use pf_tokens::{Bytes, Items, Place, Token};
 use std::alloc::{AllocError, Global};
 

@@ -58,15 +58,6 @@ pub(crate) struct Side {
     pub(crate) ports: Items<Words>,
 }
 
-/// A host of a list: the words that it adds to a rule, and its network if it isn't a table.
-#[derive(Drop)]
-pub(crate) struct Host {
-    pub(crate) place: Place,
-    pub(crate) words: Words,
-    pub(crate) net: Option<Net>,
-    pub(crate) is_negated: bool,
-}
-
 /// An entry of a table, where it stands.
 #[derive(Clone, Copy)]
 pub struct Entry {

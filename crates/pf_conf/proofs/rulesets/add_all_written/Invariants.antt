@@ -1,5 +1,6 @@
 use Rattle.std.proofs.Common.{◌≡◌, drop}
-use Rattle.pf_conf.specs.{Steps.each, Rulesets.{with_product, written_in}}
+use Rattle.pf_sources.specs.Steps.{each}
+use Rattle.pf_conf.specs.Rulesets.{with_product, written_in}
 use Rattle.pf_conf.proofs.rulesets.add_all_written.Given as goal
 
 abbrev pub invariant-loop-written : goal.invariant-loop-written

@@ -1,6 +1,6 @@
 use Rattle.std.proofs.lemmas.Result.{err_from_is_err_and}
 use Rattle.pf_conf.specs.Rulesets.{with_product}
-use Rattle.pf_conf.proofs.Steps.{each_on, each_stops, each_ends}
+use Rattle.pf_sources.proofs.Steps.{each_on, each_stops, each_ends}
 use Rattle.pf_conf.proofs.rulesets.add_products.Goals as goal
 
 pub loop-product-preserved : goal.loop-product-preserved

@@ -1,5 +1,6 @@
 use Rattle.std.proofs.Common.{◌≡◌, drop}
-use Rattle.pf_conf.specs.{Steps.each, Rulesets.with_product}
+use Rattle.pf_sources.specs.Steps.{each}
+use Rattle.pf_conf.specs.Rulesets.{with_product}
 use Rattle.pf_conf.proofs.rulesets.add_products.Given as goal
 
 abbrev pub invariant-loop-product : goal.invariant-loop-product

@@ -1,5 +1,5 @@
 use Rattle.std.proofs.Common.{Ok}
-use Rattle.pf_load.specs.declared.fault.Fault.{Fault}
+use Rattle.pf_commit.specs.declared.fault.Fault.{Fault}
 use Rattle.pf_load.specs.Served.{AsksOnly}
 use Rattle.pf_load.proofs.served.served_conf.Given as goal
 

@@ -1,5 +1,6 @@
 use Rattle.std.proofs.Common.{◌≡◌, drop}
-use Rattle.pf_conf.specs.{Steps.each, Rulesets.with_braces}
+use Rattle.pf_sources.specs.Steps.{each}
+use Rattle.pf_conf.specs.Rulesets.{with_braces}
 use Rattle.pf_conf.proofs.found.Found.add_all_braces.Given as goal
 
 abbrev pub invariant-loop-braces : goal.invariant-loop-braces

@@ -1,6 +1,6 @@
 use Rattle.std.proofs.lemmas.Result.{err_from_is_err_and}
 use Rattle.pf_conf.specs.Filling.{with_sources}
-use Rattle.pf_conf.proofs.Steps.{each_on, each_stops, each_ends}
+use Rattle.pf_sources.proofs.Steps.{each_on, each_stops, each_ends}
 use Rattle.pf_conf.proofs.found.Found.add_each_table.Goals as goal
 
 pub loop-line-preserved : goal.loop-line-preserved

@@ -1,5 +1,6 @@
 use Rattle.std.proofs.Common.{◌≡◌, drop}
-use Rattle.pf_conf.specs.{Steps.each, Filling.with_sources}
+use Rattle.pf_sources.specs.Steps.{each}
+use Rattle.pf_conf.specs.Filling.{with_sources}
 use Rattle.pf_conf.proofs.found.Found.add_each_table.Given as goal
 
 abbrev pub invariant-loop-line : goal.invariant-loop-line

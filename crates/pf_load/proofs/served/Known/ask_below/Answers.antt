@@ -1,6 +1,7 @@
 use Rattle.std.proofs.Common.{Err}
 use Rattle.pf_load.specs.Served.{Asked, Anchors, asked_text}
-use Rattle.pf_load.proofs.{Texts.sent_whole, Asked.asks_one}
+use Rattle.pf_commit.proofs.Texts.{sent_whole}
+use Rattle.pf_load.proofs.Asked.{asks_one}
 use Rattle.pf_load.proofs.served.Known.ask_below.Goals as goal
 
 pub returns-in-Ok : goal.returns-in-Ok

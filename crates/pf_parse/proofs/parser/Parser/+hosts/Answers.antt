@@ -1,5 +1,5 @@
 use Rattle.std.proofs.{Common.{◌≡◌, ℕ, ◌<◌, ◌+◌, ◌-◌, [], List, length, sym, ap, ◌∙◌, arith}, lemmas.Result.err_from_is_err_and}
-use Rattle.pf_parse.specs.declared.tree.Host.{Host}
+use Rattle.pf_lists.specs.declared.hosts.Host.{Host}
 use Rattle.pf_parse.specs.Reading.{repeating}
 use Rattle.pf_parse.specs.Lists.{item_more, listed_hosts, hosts_in}
 use Rattle.pf_parse.proofs.Turns.{too_deep, hosts_stop, hosts_begun, turn_stops, stops_on, stops_at}

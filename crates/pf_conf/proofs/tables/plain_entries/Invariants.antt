@@ -1,6 +1,0 @@
-use Rattle.std.proofs.Common.{◌≡◌, map, take}
-use Rattle.pf_conf.specs.Tables.{plain}
-use Rattle.pf_conf.proofs.tables.plain_entries.Given as goal
-
-abbrev pub invariant-loop-entry : goal.invariant-loop-entry
-invariant-loop-entry l = l.listed.items ≡ map plain (take l.entry-index l.entries)
