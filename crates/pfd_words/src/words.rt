@@ -191,19 +191,30 @@ fn task_of<'a>(alloc: Global, matches: &ArgMatches<'a>) -> Result<Task<'a>, Erro
         Some(("connect", found)) => Ok(Task::Connect {
             address: text_in(found, "address"),
         }),
-        Some(("check", found)) => Ok(Task::Conf(meaning_in(alloc, found)?)),
-        Some(("test", found)) => Ok(Task::Conf(outcomes_in(alloc, found)?)),
-        Some(("cover", found)) => Ok(Task::Conf(coverage_in(alloc, found)?)),
-        Some(("explain", found)) => explained_in(alloc, found),
-        Some(("load", found)) => Ok(Task::Load(load_in(alloc, found)?)),
         Some(("status", found)) => Ok(Task::Status {
             address: address_in(found, "address"),
         }),
-        Some((_, found)) => Ok(session_in(found)),
+        Some((name, found)) => conf_in(alloc, name, found),
         None => Ok(Task::Run {
             size: MEMORY_SIZE,
             history: HISTORY_LIMIT,
         }),
+    }
+}
+
+// The task of a subcommand that asks something of a pf.conf, or of another one: that is `run`.
+fn conf_in<'a>(alloc: Global, name: &str, found: &ArgMatches<'a>) -> Result<Task<'a>, Error>
+    ensures asked { IfOk result (λ task. IsAsked (Some (name.now, rows_of (found_of found.now))) task) }
+    ensures history { IfOk result HasHistory }
+    ensures refused { IfErr result (λ e. IsRefused (Some (name.now, rows_of (found_of found.now))) (kind_of e)) }
+{
+    match name {
+        "check" => Ok(Task::Conf(meaning_in(alloc, found)?)),
+        "test" => Ok(Task::Conf(outcomes_in(alloc, found)?)),
+        "cover" => Ok(Task::Conf(coverage_in(alloc, found)?)),
+        "explain" => explained_in(alloc, found),
+        "load" => Ok(Task::Load(load_in(alloc, found)?)),
+        _ => Ok(session_in(found)),
     }
 }
 
