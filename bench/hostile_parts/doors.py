@@ -190,8 +190,8 @@ def socket_files(options, folder):
                 result.compare(f"another user with {words}", said if mode == 0o666 else REFUSED, came)
             result.compare("a session", said, told(path, b"log\n"))
         result.check("a killed server's file stays", stat.S_ISSOCK(os.stat(path).st_mode))
-    # the file that is left there is no hindrance
-    with Doors(options.program, file, "--listen", path, "--sessions", 2) as server:
+    # the file that is left there is no hindrance; the second server's look at who answers there is a connection, too
+    with Doors(options.program, file, "--listen", path, "--sessions", 3) as server:
         other = formatted(options.program, os.path.join(folder, "other"), SIZE)
         again = ran(options.program, "serve", "--disk", other, "--size", SIZE, "--listen", path)
         result.compare("a second server at the same path", (1, b"", b"pfd: input\n"), again)
