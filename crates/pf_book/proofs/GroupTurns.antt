@@ -33,10 +33,8 @@ module _ (h : CurrentOpening) (none : h.pending ≡ []) (log : List PlainChange)
   front-next changes c r slip one = one.front ∙ ap (λ (l : List PlainChange). l ++ changes_of (step_in (amid h changes) c)) (log-so-far h changes none)
 
   some-wanted : (s : Result Step Refusal) (e : PlainChange) → slice_get (changes_of s) 0 ≡ Some e → 0 < length (changes_of s)
-  some-wanted (Ok (Done a)) e is = absurd (cc (is))
   some-wanted (Ok (Wants d o)) e is = omega arith
-  some-wanted (Ok (OfHistory x)) e is = absurd (cc (is))
-  some-wanted (Err x) e is = absurd (cc (is))
+  some-wanted s e is = absurd (cc (is))
 
   -- the next receipt comes after each that is so by then
   next-after : (changes : List PlainChange) (c : Command) (r : Reply) (slip last : PlainReceipt) → IsAnsweredAmid (amid h changes) c log r slip → slip.shown ≡ many → IsSoFar changes last → ComesAfter last slip
@@ -83,14 +81,10 @@ module _ (h : CurrentOpening) (none : h.pending ≡ []) (log : List PlainChange)
   -- ---- numbers
 
   number-of : (a : CurrentOpening) (s : Result Step Refusal) (stored : Bool) (slip : PlainReceipt) → slip.front ≡ log_of a ++ changes_of s → slip.acked ≡ length slip.front → IsNumberOf (told_as stored (reply_to a s)) slip
-  number-of a (Ok (Done x)) true slip front acked = tt
-  number-of a (Ok (Done x)) false slip front acked = tt
   number-of a (Ok (Wants e o)) true slip front acked = let long = ap length front ∙ length-append (log_of a) (e ∷ []) in (sym long, sym long ∙ sym acked)
   number-of a (Ok (Wants e o)) false slip front acked = let long = ap length front ∙ length-append (log_of a) (e ∷ []) in (sym long, sym long ∙ sym acked)
-  number-of a (Ok (OfHistory x)) true slip front acked = tt
-  number-of a (Ok (OfHistory x)) false slip front acked = tt
-  number-of a (Err e) true slip front acked = tt
-  number-of a (Err e) false slip front acked = tt
+  number-of a s true slip front acked = tt
+  number-of a s false slip front acked = tt
 
   all-numbered : (changes : List PlainChange) (commands : List Command) (answers : List Answered) (stored : Bool) → AreAnswered h log changes commands answers → map (λ (a : Answered). a.0) answers ≡ map (told_as stored) (replies_due h changes commands)
       → All (λ (a : Answered). IsNumberOf a.0 a.1) answers

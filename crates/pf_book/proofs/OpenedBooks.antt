@@ -33,10 +33,6 @@ module _ {D : Type 0} {seen : D → List ℕ} {unsynced : D → ℕ → Bool} {p
   pub core-of : (whole : PlainCore) → whole ≡ p.whole → book_of (record p { whole = whole }) ≡ now
   core-of whole same = ap (λ (w : PlainCore). book_of (record p { whole = w })) same ∙ is
 
-  -- which is of the same opening
-  pub opening-of : (whole : PlainCore) → KeepsOpening now (book_of (record p { whole = whole }))
-  opening-of whole = record { base = ap (λ (b : PlainBook D). b.base) is; setting = ap (λ (b : PlainBook D). (world_book b).setting) is }
-
   -- it begins with a front of its tip, of which no more is acknowledged
   pub begins-of : (past : PlainFront) → Begins past (front_of p.tip) → IsPrefix past.front (log_in (world_book now))
   begins-of past begins = subst (λ (l : List PlainChange). IsPrefix past.front l) (i.log_is ∙ sym log-of) begins.0
