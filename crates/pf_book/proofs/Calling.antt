@@ -1,5 +1,5 @@
 -- One call of a Book, for each way that it can end.
-use Rattle.std.proofs.{Common.{◌≡◌, ◌⊎◌, inl, inr, ℕ, ◌+◌, ◌<◌, ◌≤◌, min, Bool, true, false, cond, List, [], ◌∷◌, ◌++◌, length, take, Option, None, Result, Ok, Err, refl, sym, ap, ◌∙◌, subst, append-nil, arith}, Math.Bool.and-false, lemmas.Bool.Decides.nat_tests, lemmas.List.{take_all, take_min, take-append-le}}
+use Rattle.std.proofs.{Common.{◌≡◌, inl, inr, ℕ, ◌+◌, ◌≤◌, min, Bool, true, false, cond, List, [], ◌∷◌, ◌++◌, length, take, None, Result, Ok, Err, refl, sym, ap, ◌∙◌, subst, append-nil, arith}, Math.Bool.and-false, lemmas.Bool.Decides.nat_tests, lemmas.List.{take_all, take_min, take-append-le}}
 use Rattle.std.specs.Prelude.{nat_lt, ◌&&◌}
 use Rattle.pf_rule.specs.Packets.{PlainPacket}
 use Rattle.pf_ticket.specs.{Tickets.PlainTickets, Mentions.after as moved_by}

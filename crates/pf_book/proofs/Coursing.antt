@@ -3,7 +3,7 @@ use Rattle.std.proofs.{Common.{◌≡◌, ◌≢◌, cond, ℕ, ◌+◌, ◌<◌
 use Rattle.std.specs.{Prelude.{flat_map, not, position, ◌↔◌, ⊤, IsTrue}, List.{AllByRecursion, list_all, position_from}}
 use Rattle.pf_core.specs.Refusing.{unless, refused_at, AreBothPassed, both_passed, not_refused}
 use Rattle.pf_ticket.specs.{Laws.Tickets.IsWithin as AreTicketsWithin, Mentions.{after as moved_by, switches}, Tickets.PlainTickets}
-use Rattle.pf_core.specs.declared.{command.Command.Command, reply.Refusal.Refusal, reply.Refusal.TheVariants.{BadCount, NotGrouped, Memory}, group.TheConstants.GROUP_LIMIT, reply.Reply.Reply, step.ReadyStep.ReadyStep, step.Step.Step, step.Step.TheVariants.{Done, Wants, OfHistory}}
+use Rattle.pf_core.specs.declared.{command.Command.Command, reply.Refusal.Refusal, reply.Refusal.TheVariants.{BadCount, NotGrouped, Memory}, group.TheConstants.GROUP_LIMIT, reply.Reply.Reply, step.ReadyStep.ReadyStep, step.Step.Step, step.Step.TheVariants.{Wants}}
 use Rattle.pf_core.specs.declared.step.ReadyStep.TheVariants as made
 use Rattle.pf_core.specs.{Commands.{step_by, may_be_grouped, bad_number, group_words}, Durable.Changes.{PlainDurable, PlainChange, after, applied, voided_by, fits}, Laws.Wanted.wants_what_fits, Nexts.PlainNext, Cores.{PlainCore, left_behind, plain, IsMadeFrom}, Worlds.{CurrentOpening, log_of, durable_of, step_in, reply_to, changes_of, amid, changes_due, replies_due}}
 use Rattle.pf_core.proofs.Courses.{step-there, left-there, log-amid}

@@ -1,7 +1,7 @@
 -- The receipts of a group's replies.
 use Rattle.std.proofs.{Common.{◌≡◌, inl, inr, min, Option, ℕ, zero, suc, drop, ◌+◌, ◌≤◌, Bool, true, false, List, [], ◌∷◌, ◌++◌, length, take, Some, Result, Ok, Err, refl, sym, ap, ◌∙◌, subst, arith, append_assoc, append-nil, length-append}, lemmas.List.{map-id, take_all, take-append-le, Elements.{All-nil, All-cons}}}
 use Rattle.std.specs.{Prelude.{fold, map, slice_get, All}, List.AllByRecursion}
-use Rattle.pf_core.specs.declared.{command.Command.Command, reply.Refusal.Refusal, reply.Outcome.Outcome, reply.Reply.Reply, reply.Reply.TheVariants.{Answer, Applied, Stored, Refused}, step.Step.Step, step.Step.TheVariants.{Done, Wants, OfHistory}}
+use Rattle.pf_core.specs.declared.{command.Command.Command, reply.Refusal.Refusal, reply.Outcome.Outcome, reply.Reply.Reply, reply.Reply.TheVariants.{Answer, Applied, Stored, Refused}, step.Step.Step, step.Step.TheVariants.{Done, Wants}}
 use Rattle.pf_core.specs.{Durable.Changes.PlainChange, WorldBooks.{WorldBook, LeadsGroup}, Worlds.{Upshot, shown_by, CurrentOpening, flat, log_of, grouped, step_in, reply_to, changes_of, amid, changes_with, changes_due, replies_due}}
 use Rattle.pf_core.proofs.{Courses.{flat-with, IsOfGroup, told, wanted, refused, step-amid, MayBeGrouped, told_as, IsAccepted, accepted}, GroupLeads.{IsShownSo, shown-due}}
 use Rattle.pf_book.specs.{Groups.{Answered, AreAnswered}, Pairs.{behind, left_behind, kept_count, given_to, slip_at, paired}, Books.log_in, Receipts.{PlainReceipt, EndsIn, ShownFits, receipt_of, token_of}}

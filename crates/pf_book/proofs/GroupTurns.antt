@@ -1,8 +1,8 @@
 -- The receipts of a group, one after the other.
-use Rattle.std.proofs.{Common.{◌≡◌, ◌⊎◌, ◌∙◌, inl, inr, ℕ, ◌+◌, ◌<◌, ◌≤◌, Bool, true, false, List, [], ◌∷◌, ◌++◌, length, Option, Some, Result, Ok, Err, refl, sym, ap, subst, arith, append_assoc, append-nil, length-append}, lemmas.{List.map-id, List.Elements.{All-nil, All-cons, All-head, All-tail, All-weaker}, List.Kept.AllPairs-cons}}
+use Rattle.std.proofs.{Common.{◌≡◌, ◌⊎◌, ◌∙◌, inl, inr, ℕ, ◌+◌, ◌<◌, ◌≤◌, Bool, true, false, List, [], ◌∷◌, ◌++◌, length, Option, Some, Result, Ok, refl, sym, ap, subst, arith, append_assoc, append-nil, length-append}, lemmas.{List.map-id, List.Elements.{All-nil, All-cons, All-head, All-tail, All-weaker}, List.Kept.AllPairs-cons}}
 use Rattle.std.specs.{Prelude.{fold, map, slice_get, All}, List.AllPairs}
 use mathlib.Core.List.{IsPrefix}
-use Rattle.pf_core.specs.declared.{command.Command.Command, reply.Refusal.Refusal, reply.Reply.Reply, step.Step.Step, step.Step.TheVariants.{Done, Wants, OfHistory}}
+use Rattle.pf_core.specs.declared.{command.Command.Command, reply.Refusal.Refusal, reply.Reply.Reply, step.Step.Step, step.Step.TheVariants.{Wants}}
 use Rattle.pf_core.specs.{Durable.Changes.{PlainDurable, PlainChange}, Worlds.{Setting, CurrentOpening, Event, State, called_group, down, flat, log_of, step_in, reply_to, changes_of, amid, changes_with, changes_due, replies_due, as_stored, shown_by, LegalGroup, IsLegal}}
 use Rattle.pf_core.proofs.{Courses.{told_as, IsAccepted, accepted}, GroupLeads.{IsShownSo, shown-due, shown-stored}, LongerWorlds.in-two}
 use Rattle.pf_view.proofs.Prefixes.{prefix_length, prefix_self, prefix_trans}

@@ -1,9 +1,9 @@
 -- A group of commands of a Book, for each way that it can end.
-use Rattle.std.proofs.{Common.{◌≡◌, ◌≢◌, ◌⊎◌, inl, inr, Option, None, Some, ℕ, ◌+◌, ◌<◌, ◌≤◌, Bool, true, false, cond, List, [], ◌∷◌, ◌++◌, length, take, Result, Ok, Err, refl, sym, ap, ◌∙◌, subst, append-nil, le_refl, arith}, lemmas.{Bool.Decides.nat_tests, List.{length-append, map-id}}}
+use Rattle.std.proofs.{Common.{◌≡◌, ◌≢◌, inl, inr, Option, None, Some, ℕ, ◌+◌, ◌<◌, ◌≤◌, Bool, true, false, cond, List, [], ◌∷◌, ◌++◌, length, take, Result, Ok, Err, refl, sym, ap, ◌∙◌, subst, append-nil, le_refl, arith}, lemmas.{Bool.Decides.nat_tests, List.{length-append, map-id}}}
 use Rattle.std.specs.Prelude.{IfOk, ◌&&◌, ◌==◌, flat_map, fold, map, nat_le, nat_lt, not, position}
 use Rattle.pf_core.specs.Refusing.{and_then, unless, refused_at, AreBothPassed, both_passed, not_refused}
 use Rattle.pf_ticket.specs.{Tickets.PlainTickets, Mentions.{after as moved_by, switches}}
-use Rattle.pf_core.specs.declared.{command.Command.Command, group.TheConstants.GROUP_LIMIT, reply.Refusal.Refusal, reply.Refusal.TheVariants.{Halted, BadCount, NotGrouped, HistoryFull, Full, Fault, Memory}, reply.Reply.Reply, step.Step.Step, step.Step.TheVariants.{Done, Wants, OfHistory}}
+use Rattle.pf_core.specs.declared.{command.Command.Command, group.TheConstants.GROUP_LIMIT, reply.Refusal.Refusal, reply.Refusal.TheVariants.{Halted, BadCount, NotGrouped, HistoryFull, Full, Fault, Memory}, reply.Reply.Reply, step.Step.Step, step.Step.TheVariants.{Wants}}
 use Rattle.pf_core.specs.{Commands.{bad_number, group_words, may_be_grouped}, Durable.Changes.{PlainDurable, PlainChange, after, voided_by}, WorldBooks.{WorldBook, IsFolded, IsAt, LeadsGroup}, Nexts.PlainNext, Cores.PlainCore, Worlds.{Setting, CurrentOpening, down, grouping, Upshot, upshot, flat, log_of, is_halted, is_fault, step_in, reply_to, changes_of, room_for, grouped, amid, changes_with, changes_due, replies_due, group_start, group_check, replies_unless, due_group, group_all, kept_groups, shown_by, as_stored, GroupStandsIn, LegalReplies}}
 use Rattle.pf_core.proofs.{Courses.{not-halted, durable-amid, length-with, log-amid, IsOfGroup, told, wanted, refused, step-amid, MayBeGrouped, IsTaken, taken-group, told_as, IsAccepted, accepted}, GroupLeads.{IsShownSo, shown-due, shown-stored, refused-group-leads, fault-group-leads, kept-group-leads}, Groups.rooms-found}
 use Rattle.pf_store.specs.Stores.{Holds, HoldsEither}

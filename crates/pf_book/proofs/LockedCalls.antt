@@ -1,9 +1,9 @@
 -- What a call comes to under the lock.
-use Rattle.std.proofs.{Common.{◌≡◌, ◌⊎◌, inl, inr, ℕ, ◌+◌, ◌<◌, ◌≤◌, Bool, true, false, cond, List, [], ◌∷◌, ◌++◌, length, take, Option, None, Some, Result, Ok, Err, refl, sym, ap, ◌∙◌, subst, arith, append_assoc, append-nil, length-append}, lemmas.List.take_all}
+use Rattle.std.proofs.{Common.{◌≡◌, ◌⊎◌, inl, inr, ℕ, ◌+◌, ◌<◌, ◌≤◌, Bool, List, [], ◌∷◌, ◌++◌, length, take, Option, Some, Result, Ok, refl, sym, ap, ◌∙◌, subst, arith, append_assoc, append-nil, length-append}, lemmas.List.take_all}
 use Rattle.std.specs.{Prelude.◌&&◌, Option.ForSome}
 use mathlib.Core.List.{IsPrefix}
-use Rattle.pf_core.specs.declared.{command.Command.Command, command.HistoryCommand.HistoryCommand, command.HistoryCommand.TheVariants.{Log, Publish}, reply.Outcome.Outcome, reply.Refusal.Refusal, reply.Refusal.TheVariants.Halted, reply.Reply.Reply, reply.Reply.TheVariants.{Answer, Applied, Stored, Refused}, step.Step.Step, step.Step.TheVariants.{Done, Wants, OfHistory}}
-use Rattle.pf_core.specs.{Calls.call, Commands.{step_by, may_change}, Durable.Changes.{PlainDurable, PlainChange}, WorldBooks.{WorldBook, IsAt, IsFolded, Leads, LeadsGroup, StandsFor}, Worlds.{Setting, CurrentOpening, down, up, Upshot, Event, called, called_group, heard_group, flat, log_of, durable_of, is_halted, acked_by, step_in, or_refused, due_at, due, group_in, heard, room_for, shown_by, shown_by_answer, told_of_history, State, state_after, StandsIn, LegalReply, LegalCall, IsLegal, IsWorld}}
+use Rattle.pf_core.specs.declared.{command.Command.Command, command.HistoryCommand.HistoryCommand, command.HistoryCommand.TheVariants.{Log, Publish}, reply.Outcome.Outcome, reply.Refusal.Refusal, reply.Reply.Reply, reply.Reply.TheVariants.{Answer, Applied, Stored, Refused}, step.Step.Step, step.Step.TheVariants.{Done}}
+use Rattle.pf_core.specs.{Calls.call, Commands.{step_by, may_change}, Durable.Changes.{PlainDurable, PlainChange}, WorldBooks.{WorldBook, IsAt, IsFolded, Leads, LeadsGroup, StandsFor}, Worlds.{Setting, CurrentOpening, down, up, Upshot, Event, called, called_group, heard_group, flat, log_of, durable_of, is_halted, acked_by, step_in, group_in, heard, shown_by, shown_by_answer, told_of_history, State, state_after, LegalReply, LegalCall, IsLegal, IsWorld}}
 use Rattle.pf_core.specs.declared.reply.Answer.{Answer as ToldOf}
 use Rattle.pf_core.proofs.{Prefixes.flat-append, Groups.either, Limits.{IsOfHistory, answered-step, applied-step, stored-step}, Showing.{shows-nothing, shows_all}, Stepping.unhalted, LongerWorlds.{flat-push, stands-on, stands-on-group, in-two}}
 use Rattle.pf_view.proofs.Prefixes.{prefix_whole}

@@ -1,5 +1,5 @@
 -- A call that wants a change is a group of one.
-use Rattle.std.proofs.Common.{◌≡◌, ◌⊎◌, inl, inr, ℕ, ◌+◌, ◌≤◌, Bool, true, false, List, [], ◌∷◌, ◌++◌, length, take, Option, None, Some, Result, Ok, Err, refl, sym, ap, ◌∙◌, subst, append-nil, arith}
+use Rattle.std.proofs.Common.{◌≡◌, ◌⊎◌, inl, inr, ℕ, ◌+◌, Bool, true, false, List, [], ◌∷◌, ◌++◌, length, take, Option, None, Some, Result, Ok, Err, refl, sym, ap, ◌∙◌, subst, append-nil, arith}
 use Rattle.std.specs.Prelude.{fold}
 use Rattle.pf_core.specs.Refusing.{and_then}
 use Rattle.pf_ticket.specs.{Laws.Tickets.IsWithin as AreTicketsWithin, Mentions.after as moved_by, Names.{filter_at, table_ruleset_at}, Replies.{begin_reply, add_reply, define_reply, extend_reply, list_check}, Tickets.PlainTickets}
@@ -7,11 +7,11 @@ use Rattle.pf_rule.specs.Packets.{PlainPacket}
 use Rattle.pf_core.specs.declared.{command.Command.Command, command.Command.TheVariants.{Transact, Edit, States as OfStates, Ask, History}, command.Question.TheVariants.Judge, command.Transaction.TheVariants.{Begin, Add, Define, Extend, Commit, Rollback}, reply.Outcome.Outcome, reply.Refusal.Refusal, reply.Refusal.TheVariants.{Fault, Memory}, reply.Reply.Reply, reply.Reply.TheVariants.{Applied, Refused}, step.Step.Step, step.Step.TheVariants.Wants}
 use Rattle.pf_core.specs.declared.reply.Answer.TheVariants as answer
 use Rattle.pf_core.specs.declared.step.ReadyStep.TheVariants as made
-use Rattle.pf_core.specs.{Calls.{call, mentions_of, replies_in}, Commands.{group_words, may_be_grouped, step_by, takes_memory}, Durable.Changes.{PlainDurable, PlainChange, after}, Laws.Wanted.{none-wanted, wants_memory}, Nexts.PlainNext, Cores.{IsMade}, WorldBooks.{WorldBook, IsAt, IsFolded, Leads, LeadsGroup}, Worlds.{CurrentOpening, Upshot, calling, grouping, flat, log_of, durable_of, step_in, reply_to, changes_of, room_for, or_refused, if_ok, due_at, due, grouped, group_at, group_in, amid, changes_due, replies_due, group_start, group_check, replies_unless, due_group, group_all, acked_by_group, pending_by_group, shown_by, heard, heard_group, down, kept_groups, as_stored, GroupStandsIn, LegalReplies, LegalReply, StandsIn}}
+use Rattle.pf_core.specs.{Calls.{call, mentions_of, replies_in}, Commands.{group_words, may_be_grouped, step_by, takes_memory}, Durable.Changes.{PlainDurable, PlainChange, after}, Laws.Wanted.{none-wanted, wants_memory}, Nexts.PlainNext, Cores.{IsMade}, WorldBooks.{WorldBook, IsAt, IsFolded, Leads, LeadsGroup}, Worlds.{CurrentOpening, Upshot, calling, grouping, flat, log_of, durable_of, step_in, reply_to, changes_of, room_for, or_refused, if_ok, due_at, due, grouped, group_at, group_in, amid, changes_due, replies_due, group_start, group_check, replies_unless, due_group, group_all, pending_by_group, shown_by, heard, heard_group, down, as_stored, GroupStandsIn, LegalReplies, LegalReply, StandsIn}}
 use Rattle.pf_core.proofs.Courses.{length-with, unhalted-in}
 use Rattle.pf_disk.specs.declared.disk.Disk.{Ghosts}
-use Rattle.pf_book.specs.{Books.{PlainBook, world_book, HoldsLeft, IsLeft, IsMore, IsNumbered, AreKept, StaysUnlessAnyKept, StaysUnlessKept, is_fault_reply, is_fault_result, told_after}, Courses.{IsCalm, IsPlanned, KeepsTogether}, Groups.IsGroupCall, Receipts.{IsCall, IsGiven}}
-use Rattle.pf_book.proofs.{Calling.{durable-is, judged-by, log-acked}, Coursing.{fit-on, left-on, number-amidst, step-amidst, wanted-on}, Grouping.{calm, changes-are, due-is, start-is}, LockedCalls.added-by, Openable.{uses-as, uses-told}}
+use Rattle.pf_book.specs.{Books.{PlainBook, world_book, HoldsLeft, IsLeft, IsMore, IsNumbered, AreKept, StaysUnlessAnyKept, StaysUnlessKept, is_fault_reply, is_fault_result, told_after}, Courses.{IsPlanned}, Groups.IsGroupCall, Receipts.{IsCall, IsGiven}}
+use Rattle.pf_book.proofs.{Calling.{durable-is, judged-by, log-acked}, Coursing.{fit-on, left-on, number-amidst, step-amidst, wanted-on}, Grouping.{changes-are, due-is, start-is}, LockedCalls.added-by, Openable.{uses-as, uses-told}}
 
 -- ---- what a group may have
 

@@ -1,4 +1,4 @@
-use Rattle.std.proofs.Common.{◌≡◌, ◌≤◌, ◌∙◌, ℕ, Option, length, take, sym, ap, subst, arith}
+use Rattle.std.proofs.Common.{◌≤◌, ◌∙◌, ℕ, Option, length, take, sym, ap, subst, arith}
 use Rattle.std.specs.{Arc.arc_value, Option.{ForSome, option_map}}
 use Rattle.pf_core.specs.{Durable.Changes.PlainChange, Worlds.flat}
 use Rattle.pf_book.specs.{Books.{PlainBook, log_in, world_book}, Receipts.{EndsIn, IsCall, PlainReceipt, receipt_of}}

@@ -1,13 +1,13 @@
 use Rattle.std.proofs.{Common.{◌≡◌, ◌+◌, ℕ, Bool, [], ◌∷◌, length, map, None, Some, Result, Ok, Err, refl, sym, ap, ◌∙◌, subst, true, false, arith}, lemmas.Grind.common_steps}
 use Rattle.std.specs.{Arc.arc_value, Prelude.nat_lt}
 use Rattle.pf_core.specs.declared.reply.{Outcome.Outcome, Reply.Reply, Reply.TheVariants.{Answer, Applied, Stored, Refused}, Refusal.Refusal, Refusal.TheVariants.Halted}
-use Rattle.pf_core.specs.declared.{command.Command.{Command, TheVariants.History}, reply.Answer.TheVariants.Judged, step.Step.TheVariants.{Wants, OfHistory}}
+use Rattle.pf_core.specs.declared.{command.Command.{Command, TheVariants.History}, reply.Answer.TheVariants.Judged, step.Step.TheVariants.{Wants}}
 use Rattle.pf_core.specs.{Calls.call, Commands.{may_change, step_by, takes_memory}, Durable.Changes.{PlainChange, verdict}, Laws.Wanted.left_is, WorldBooks.WorldBook, Cores.{IsMade, PlainCore, plain}, Worlds.{calling, flat, grouping}}
 use Rattle.pf_core.specs.declared.step.ReadyStep.TheVariants as made
 use Rattle.pf_book.specs.{Books.{PlainBook, book_of, world_book, world_book_of, IsBook, IsTold}, Courses.{IsPlanned, KeepsTogether}, Receipts.IsCall}
 use Rattle.pf_book.proofs.Calling.{with_core, IsFree, Steps, unchanging, none-behind, no-fault, not-more, answer-leads, halted-leads, refusal-leads, judged-by, refused-call, told-call, err-not-fault, wants-free}
 use Rattle.pf_book.proofs.BookInvariant.{stepped-book}
-use Rattle.pf_book.proofs.{Grouping.{made-call, ready}, OpenedBooks.{parts, acked-of, disk-of, folded-of, core-of, left-in, quiet-of, rests-of, all-of}, Single.{change_after, one-call, planned-one, reply_after}}
+use Rattle.pf_book.proofs.{Grouping.{made-call, ready}, OpenedBooks.{parts, acked-of, disk-of, core-of, left-in, quiet-of, rests-of, all-of}, Single.{change_after, one-call, planned-one, reply_after}}
 use Rattle.pf_book.proofs.book.Book.call.Given.{Over}
 use Rattle.pf_book.proofs.book.Book.call.Goals.{else-self-len-via-then-self-len+else-may_change, else-self-len-via-else-self-len, After-step_ready, After-make, In-Ok-Wants}
 use Rattle.pf_book.proofs.book.Book.call.Goals as goal

@@ -1,4 +1,4 @@
-use Rattle.std.proofs.Common.{◌≡◌, ◌∙◌, Bool, true, false, Result, List, Ok, Err, [], length, map, take, drop, None, Some, ℕ, ◌++◌, sym, ap, subst, append-nil, arith}
+use Rattle.std.proofs.Common.{◌≡◌, ◌∙◌, Bool, true, false, Result, List, Ok, Err, length, map, take, drop, Some, ℕ, ◌++◌, sym, ap, subst, append-nil, arith}
 use Rattle.std.proofs.lemmas.List.{length-map, drop_all, take_all}
 use Rattle.std.specs.{Arc.arc_value}
 use Rattle.pf_core.specs.{declared.reply.{Refusal.Refusal, Reply.Reply}, Worlds.{as_stored, grouping}}

@@ -1,7 +1,6 @@
-use Rattle.std.proofs.{Common.{◌≡◌, List, Err, map, refl, sym, ap, ◌∙◌, subst, true, false}, lemmas.Result.err_from_is_err_and}
+use Rattle.std.proofs.{Common.{◌≡◌, List, map, refl, sym, ap, ◌∙◌, subst, true, false}, lemmas.Result.err_from_is_err_and}
 use Rattle.std.specs.{Arc.arc_value, List.list_all}
 use Rattle.pf_core.specs.{Durable.Changes.{PlainChange, after}, Nexts.PlainNext, Worlds.is_fault}
-use Rattle.pf_core.specs.declared.reply.Refusal.{TheVariants.Memory}
 use Rattle.pf_store.specs.{Groups.{can_be_wanted, is_group, made_all}, Stores.{FindsRoom, FollowInTurn, HoldsEither}}
 use Rattle.pf_book.specs.Books.{HasRoom, HasNoRoom, IsMore, IsUnkept, UsesDevice, left_together, world_book}
 use Rattle.pf_book.proofs.{Finding.{kept-then, unroomed}, Openable.uses-then}

@@ -1,4 +1,4 @@
-use Rattle.std.proofs.Common.{◌≡◌, ◌≤◌, List, length, map, take, min, sym, ap, ◌∙◌, subst, arith}
+use Rattle.std.proofs.Common.{◌≡◌, List, length, take, min, sym, ap, ◌∙◌, subst, arith}
 use Rattle.std.specs.{Arc.arc_value, Option.option_map}
 use Rattle.pf_core.specs.{Durable.Changes.PlainChange, Worlds.flat}
 use Rattle.pf_view.specs.Past.Pasts.{PlainFront}
