@@ -3,7 +3,7 @@ use Rattle.std.proofs.{Common.{◌≡◌, ◌≢◌, cond, ℕ, ◌+◌, ◌<◌
 use Rattle.std.specs.{Prelude.{flat_map, not, position, ◌↔◌, ⊤, IsTrue}, List.{AllByRecursion, list_all, position_from}}
 use Rattle.pf_core.specs.Refusing.{unless, refused_at, AreBothPassed, both_passed, not_refused}
 use Rattle.pf_ticket.specs.{Laws.Tickets.IsWithin as AreTicketsWithin, Mentions.{after as moved_by, switches}, Tickets.PlainTickets}
-use Rattle.pf_core.specs.declared.{command.Command.Command, reply.Refusal.Refusal, reply.Refusal.TheVariants.{BadCount, NotGrouped, Memory}, group.TheConstants.GROUP_LIMIT, reply.Reply.Reply, step.ReadyStep.ReadyStep, step.Step.Step, step.Step.TheVariants.{Done, Wants, OfHistory}}
+use Rattle.pf_core.specs.declared.{command.Command.Command, reply.Refusal.Refusal, reply.Refusal.TheVariants.{BadCount, NotGrouped, Memory}, group.TheConstants.GROUP_LIMIT, reply.Reply.Reply, step.ReadyStep.ReadyStep, step.Step.Step, step.Step.TheVariants.{Wants}}
 use Rattle.pf_core.specs.declared.step.ReadyStep.TheVariants as made
 use Rattle.pf_core.specs.{Commands.{step_by, may_be_grouped, bad_number, group_words}, Durable.Changes.{PlainDurable, PlainChange, after, applied, voided_by, fits}, Laws.Wanted.wants_what_fits, Nexts.PlainNext, Cores.{PlainCore, left_behind, plain, IsMadeFrom}, Worlds.{CurrentOpening, log_of, durable_of, step_in, reply_to, changes_of, amid, changes_due, replies_due}}
 use Rattle.pf_core.proofs.Courses.{step-there, left-there, log-amid}
@@ -29,13 +29,11 @@ still-ready : (d : PlainDurable) (changes : List PlainChange) (before : Option P
 still-ready d changes before is = is ∙ ap (ready_of d) (sym (append-nil changes))
 
 pub left-on : (d : PlainDurable) (changes : List PlainChange) (before : Option PlainNext) (step : Result ReadyStep Refusal) → before ≡ ready_of d changes → IsMadeFrom (found_by d before) step → left_to step before ≡ ready_of d (changes ++ changes_of (plain step))
-left-on d changes before (Ok (made.Done a)) is from = still-ready d changes before is
 left-on d changes before (Ok (made.Wants e n o)) is from =
     let behind : found_by d before ≡ left_together d changes = ap (found_by d) is ∙ so-far d changes in
     let left : n ≡ left_together d (changes ++ e ∷ []) = from ∙ ap (λ (r : PlainNext). left_behind r e) behind ∙ left-there d changes e in
     ap Some left ∙ sym (some-ready d changes e)
-left-on d changes before (Ok (made.OfHistory c)) is from = still-ready d changes before is
-left-on d changes before (Err e) is from = still-ready d changes before is
+left-on d changes before step is from = still-ready d changes before is
 
 -- if nothing is left there are no changes
 pub none-ready : (d : PlainDurable) (changes : List PlainChange) → None ≡ ready_of d changes → changes ≡ []
@@ -92,9 +90,7 @@ fit-on d t changes changes' c (Ok (Wants e o)) is wants so =
     subst (λ (es : List PlainChange). FollowInTurn d (made_all es)) (sym wants)
     (subst (FollowInTurn d) (sym (map-append recorded.Made changes (e ∷ [])))
     (follow_push d (made_all changes) (recorded.Made e) so (subst (λ (k : PlainDurable). fits k e ≡ Ok tt) (sym (left_by_made d changes)) fit)))
-fit-on d t changes changes' c (Ok (Done a)) is wants so = subst (λ (es : List PlainChange). FollowInTurn d (made_all es)) (sym (wants ∙ append-nil changes)) so
-fit-on d t changes changes' c (Ok (OfHistory x)) is wants so = subst (λ (es : List PlainChange). FollowInTurn d (made_all es)) (sym (wants ∙ append-nil changes)) so
-fit-on d t changes changes' c (Err e) is wants so = subst (λ (es : List PlainChange). FollowInTurn d (made_all es)) (sym (wants ∙ append-nil changes)) so
+fit-on d t changes changes' c s is wants so = subst (λ (es : List PlainChange). FollowInTurn d (made_all es)) (sym (wants ∙ append-nil changes)) so
 
 all-push : (es : List PlainChange) (e : PlainChange) → list_all can_be_wanted es ≡ true → can_be_wanted e ≡ true → list_all can_be_wanted (es ++ e ∷ []) ≡ true
 all-push [] e all here = ap (λ (b : Bool). b && true) here
@@ -106,18 +102,14 @@ all-push (x ∷ es) e all here = by (can_be_wanted x) all (all-push es e) where
 -- and it can be wanted
 pub wanted-on : (t : PlainTickets) (d : PlainDurable) (changes changes' : List PlainChange) (c : Command) (s : Result Step Refusal) → AreTicketsWithin t → s ≡ step_by t d c → changes' ≡ changes ++ changes_of s → list_all can_be_wanted changes ≡ true → list_all can_be_wanted changes' ≡ true
 wanted-on t d changes changes' c (Ok (Wants e o)) within is wants so = ap (list_all can_be_wanted) wants ∙ all-push changes e so (wanted-can t d c e o within (sym is))
-wanted-on t d changes changes' c (Ok (Done a)) within is wants so = ap (list_all can_be_wanted) (wants ∙ append-nil changes) ∙ so
-wanted-on t d changes changes' c (Ok (OfHistory x)) within is wants so = ap (list_all can_be_wanted) (wants ∙ append-nil changes) ∙ so
-wanted-on t d changes changes' c (Err e) within is wants so = ap (list_all can_be_wanted) (wants ∙ append-nil changes) ∙ so
+wanted-on t d changes changes' c s within is wants so = ap (list_all can_be_wanted) (wants ∙ append-nil changes) ∙ so
 
 -- there is at most one
 pub few-on : (changes changes' : List PlainChange) (s : Result Step Refusal) → changes' ≡ changes ++ changes_of s → length changes' ≤ length changes + 1
 few-on changes changes' s wants = omega (arith, ap length wants, length-append changes (changes_of s), one s) where
   one : (s : Result Step Refusal) → length (changes_of s) ≤ 1
   one (Ok (Wants e o)) = omega arith
-  one (Ok (Done a)) = omega arith
-  one (Ok (OfHistory x)) = omega arith
-  one (Err e) = omega arith
+  one s = omega arith
 
 -- ---- its room
 
@@ -139,9 +131,6 @@ each-still size d changes changes' was has both same is each here =
 
 pub each-on : (size : ℕ) (d : PlainDurable) (changes changes' : List PlainChange) (before : Option PlainNext) (step : Result ReadyStep Refusal) (was has both : Bool) → before ≡ ready_of d changes → IsMadeFrom (found_by d before) step
     → changes' ≡ changes ++ changes_of (plain step) → both ≡ (was && has) → IsTrue was ↔ FindRoomEach size d changes → IsTrue has ↔ StepFindsRoom size (found_by d before).durable step → IsTrue both ↔ FindRoomEach size d changes'
-each-on size d changes changes' before (Ok (made.Done a)) was has both ready from same is each here = each-still size d changes changes' was has both same is each here
-each-on size d changes changes' before (Ok (made.OfHistory c)) was has both ready from same is each here = each-still size d changes changes' was has both same is each here
-each-on size d changes changes' before (Err e) was has both ready from same is each here = each-still size d changes changes' was has both same is each here
 each-on size d changes changes' before (Ok (made.Wants e n o)) was has both ready from same is each here =
     let and : IsTrue both ↔ (IsTrue was × IsTrue has) = both-true was has both is in
     let push = each-push size d changes e in
@@ -154,6 +143,7 @@ each-on size d changes changes' before (Ok (made.Wants e n o)) was has both read
       λ p. subst (FindRoomEach size d) (sym same) (push.1 (each.0 (and.0 p).0, there (here.0 (and.0 p).1))),
       λ p. let q = push.0 (subst (FindRoomEach size d) same p) in and.1 (each.1 q.0, here.1 (back q.1)),
     )
+each-on size d changes changes' before step was has both ready from same is each here = each-still size d changes changes' was has both same is each here
 
 -- ---- a group's own words
 

@@ -1,11 +1,13 @@
 -- When changes find room on the device together.
-use Rattle.std.proofs.{Common.{◌≡◌, ◌<◌, ◌≤◌, ℕ, Bool, true, false, List, [], ◌∷◌, ◌++◌, length, refl, ap, sym, ◌∙◌, subst, arith}, lemmas.{Bool.Decides.nat_tests, List.length-map, List.Sums.fold-append}}
-use Rattle.std.specs.{Prelude.{not, nat_le, ◌==◌}, List.list_all}
+use Rattle.std.proofs.{Common.{◌≡◌, ◌<◌, ◌≤◌, ℕ, Bool, true, false, List, [], ◌∷◌, ◌++◌, Ok, Err, length, refl, ap, sym, ◌∙◌, subst, arith}, lemmas.{Bool.Decides.nat_tests, List.length-map, List.Sums.fold-append}}
+use Rattle.std.specs.{Prelude.{MatchBool, not, nat_le, ◌==◌}, List.list_all}
 use Rattle.pf_core.specs.{Durable.Changes.{PlainDurable, PlainChange, applied, after}, WorldBooks.WorldBook, Worlds.{flat, is_fault}, declared.{group.TheConstants.GROUP_LIMIT, reply.Refusal.Refusal, reply.Refusal.TheVariants.{HistoryFull, Full}}}
-use Rattle.pf_store.specs.{Groups.{have_form, has_form, is_group, made_all}, Lengths.payload_length, Rooms.group_fits, Stores.{FindsRoom, HasRoom}}
+use Rattle.pf_store.specs.{Groups.{have_form, has_form, is_group, made_all}, Lengths.payload_length, Rooms.group_fits, Stores.{FindsRoom, HasRoom, HoldsEither}}
 use Rattle.pf_store.specs.declared.groups.recorded.Recorded.TheVariants as recorded
 use Rattle.pf_store.proofs.RoomForGroups.{group-fits}
-use Rattle.pf_book.specs.Books.{HasNoRoom, IsUnkept}
+use Rattle.pf_disk.specs.declared.disk.Disk.{Ghosts}
+use Rattle.pf_book.specs.{Books.{AreKept, HasNoRoom, IsMore, IsUnkept, PlainBook, UsesDevice, shows_all, world_book}, Courses.KeepsTogether}
+use Rattle.pf_book.proofs.Openable.{uses-told}
 use Rattle.std.proofs.lemmas.Bool.{and_parts}
 
 left-is : (base d next : PlainDurable) (groups : List (List PlainChange)) (es : List PlainChange) → d ≡ after base (flat groups) → next ≡ after d es → next ≡ after base (flat groups ++ es)
@@ -56,16 +58,19 @@ few-formed es formed =
     let same : length (made_all es) ≡ length es = length-map es recorded.Made in
     grind (arith, nat_tests, few, same)
 
--- ---- no room
+-- ---- what comes of it
+
+calm : (e : Refusal) (b : WorldBook) (es : List PlainChange) → HasNoRoom e b es → IsUnkept e b b es × (is_fault e ≡ false)
+calm HistoryFull b es none = ((refl, none), refl)
+calm Full b es none = ((refl, none), refl)
+calm e b es none = absurd none
 
 -- changes that find no room leave all as it is
-pub unroomed : (e : Refusal) (b : WorldBook) (es : List PlainChange) → HasNoRoom e b es → IsUnkept e b b es
-unroomed HistoryFull b es none = (refl, none)
-unroomed Full b es none = (refl, none)
-unroomed e b es none = absurd none
+pub unroomed : {D : Type 0} {device : Ghosts D} (b : PlainBook D) (e : Refusal) (es : List PlainChange) → HasNoRoom e (world_book b) es → UsesDevice device false b b (HoldsEither b.whole.durable (after b.whole.durable es))
+    → KeepsTogether device b b es (Err e)
+unroomed b e es none quiet = let both = calm e (world_book b) es none in record { kept = both.0; uses = uses-told both.1 quiet; still = λ why is quiet. refl }
 
--- and that is no fault
-pub unroomed-calm : (e : Refusal) (b : WorldBook) (es : List PlainChange) → HasNoRoom e b es → is_fault e ≡ false
-unroomed-calm HistoryFull b es none = refl
-unroomed-calm Full b es none = refl
-unroomed-calm e b es none = absurd none
+-- those that were kept are shown or not
+pub kept-then : (shown : Bool) (old kept new : WorldBook) (es : List PlainChange) → IsMore old kept es → MatchBool shown (new ≡ shows_all kept) (new ≡ kept) → AreKept (Ok shown) es old new
+kept-then true old kept new es more is = (kept, more, is)
+kept-then false old kept new es more is = subst (λ (p : WorldBook). IsMore old p es) (sym is) more

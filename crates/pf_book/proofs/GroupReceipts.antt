@@ -1,10 +1,10 @@
 -- The receipts of a group's replies.
-use Rattle.std.proofs.{Common.{◌≡◌, inl, inr, ℕ, zero, suc, drop, ◌+◌, ◌≤◌, Bool, true, false, List, [], ◌∷◌, ◌++◌, length, take, Some, Result, Ok, Err, refl, sym, ap, ◌∙◌, subst, arith, append_assoc, append-nil, length-append}, lemmas.List.{map-id, take_all, take-append-le, Elements.{All-nil, All-cons}}}
+use Rattle.std.proofs.{Common.{◌≡◌, inl, inr, min, Option, ℕ, zero, suc, drop, ◌+◌, ◌≤◌, Bool, true, false, List, [], ◌∷◌, ◌++◌, length, take, Some, Result, Ok, Err, refl, sym, ap, ◌∙◌, subst, arith, append_assoc, append-nil, length-append}, lemmas.List.{map-id, take_all, take-append-le, Elements.{All-nil, All-cons}}}
 use Rattle.std.specs.{Prelude.{fold, map, slice_get, All}, List.AllByRecursion}
-use Rattle.pf_core.specs.declared.{command.Command.Command, reply.Refusal.Refusal, reply.Outcome.Outcome, reply.Reply.Reply, reply.Reply.TheVariants.{Answer, Applied, Stored, Refused}, step.Step.Step, step.Step.TheVariants.{Done, Wants, OfHistory}}
+use Rattle.pf_core.specs.declared.{command.Command.Command, reply.Refusal.Refusal, reply.Outcome.Outcome, reply.Reply.Reply, reply.Reply.TheVariants.{Answer, Applied, Stored, Refused}, step.Step.Step, step.Step.TheVariants.{Done, Wants}}
 use Rattle.pf_core.specs.{Durable.Changes.PlainChange, WorldBooks.{WorldBook, LeadsGroup}, Worlds.{Upshot, shown_by, CurrentOpening, flat, log_of, grouped, step_in, reply_to, changes_of, amid, changes_with, changes_due, replies_due}}
 use Rattle.pf_core.proofs.{Courses.{flat-with, IsOfGroup, told, wanted, refused, step-amid, MayBeGrouped, told_as, IsAccepted, accepted}, GroupLeads.{IsShownSo, shown-due}}
-use Rattle.pf_book.specs.{Groups.{Answered, AreAnswered}, Pairs.{behind, left_behind, kept_count, given_to, slip_at, paired}, Books.log_in, Receipts.{PlainReceipt, EndsIn, ShownFits, token_of}}
+use Rattle.pf_book.specs.{Groups.{Answered, AreAnswered}, Pairs.{behind, left_behind, kept_count, given_to, slip_at, paired}, Books.log_in, Receipts.{PlainReceipt, EndsIn, ShownFits, receipt_of, token_of}}
 
 same-end : (xs ys zs : List PlainChange) → xs ++ ys ≡ xs ++ zs → ys ≡ zs
 same-end [] ys zs is = is
@@ -118,14 +118,10 @@ module _ (many : ℕ) where
   paired-shown log n (r ∷ replies) given = All-cons (λ (a : Answered). a.1.shown ≡ many) _ _ refl (paired-shown log (behind r n) replies (left_behind r given))
 
 kept-step : (stored : Bool) (a : CurrentOpening) (s : Result Step Refusal) (rest : List Reply) → kept_count (told_as stored (reply_to a s) ∷ rest) ≡ length (changes_of s) + kept_count rest
-kept-step true a (Ok (Done x)) rest = refl
-kept-step false a (Ok (Done x)) rest = refl
 kept-step true a (Ok (Wants e o)) rest = refl
 kept-step false a (Ok (Wants e o)) rest = refl
-kept-step true a (Ok (OfHistory x)) rest = refl
-kept-step false a (Ok (OfHistory x)) rest = refl
-kept-step true a (Err e) rest = refl
-kept-step false a (Err e) rest = refl
+kept-step true a s rest = refl
+kept-step false a s rest = refl
 
 -- as many replies keep a change as there are changes
 pub kept-due : (h : CurrentOpening) (changes : List PlainChange) (commands : List Command) (stored : Bool) → length changes + kept_count (map (told_as stored) (replies_due h changes commands)) ≡ length (changes_due h changes commands)
@@ -144,6 +140,15 @@ one-each h changes [] = refl
 one-each h changes (c ∷ cs) = ap (λ (n : ℕ). suc n) (one-each h (changes_with h changes c) cs)
 
 -- ---- one reply after the other
+
+-- where nothing is pending, all is acknowledged that a receipt has
+pub calm-log : (b : WorldBook) → b.pending ≡ [] → log_in b ≡ flat b.acked
+calm-log b calm = ap (λ (gs : List (List PlainChange)). flat (b.acked ++ gs)) calm ∙ ap flat (append-nil b.acked)
+
+pub calm-receipt : (b : WorldBook) (n : ℕ) (change : Option PlainChange) (r : Reply) → b.pending ≡ [] → n ≤ length (log_in b) → receipt_of b n change r ≡ slip_at b.shown (log_in b) n change r
+calm-receipt b n change r calm within =
+    let all : min n (length (flat b.acked)) ≡ n = omega (arith, within, ap length (calm-log b calm)) in
+    ap (λ (m : ℕ). record (slip_at b.shown (log_in b) n change r) { acked = m }) all
 
 drop-next : (log : List PlainChange) (n : ℕ) (e : PlainChange) (left : List PlainChange) → drop n log ≡ e ∷ left → (drop (suc n) log ≡ left) × ((suc n ≤ length log) × (take (suc n) log ≡ take n log ++ e ∷ []))
 drop-next [] zero e left is = absurd (cc (is))
@@ -183,14 +188,10 @@ no-items (x ∷ xs) is = absurd (omega (arith, is))
 -- ---- the result of a group
 
 fits-step : (stored : Bool) (a : CurrentOpening) (s : Result Step Refusal) (shown n : ℕ) → (stored ≡ false → shown ≡ n) → ShownFits (told_as stored (reply_to a s)) shown n
-fits-step true a (Ok (Done x)) shown n all = tt
-fits-step false a (Ok (Done x)) shown n all = tt
 fits-step true a (Ok (Wants e o)) shown n all = tt
 fits-step false a (Ok (Wants e o)) shown n all = all refl
-fits-step true a (Ok (OfHistory x)) shown n all = tt
-fits-step false a (Ok (OfHistory x)) shown n all = tt
-fits-step true a (Err e) shown n all = tt
-fits-step false a (Err e) shown n all = tt
+fits-step true a s shown n all = tt
+fits-step false a s shown n all = tt
 
 -- the replies fit what is shown, if all is shown or the changes are stored
 fits-due : (h : CurrentOpening) (changes : List PlainChange) (commands : List Command) (stored : Bool) (shown n : ℕ) → (stored ≡ false → shown ≡ n) → AllByRecursion (λ r. ShownFits r shown n) (map (told_as stored) (replies_due h changes commands))
@@ -198,14 +199,10 @@ fits-due h changes [] stored shown n all = tt
 fits-due h changes (c ∷ cs) stored shown n all = (fits-step stored (amid h changes) (step_in (amid h changes) c) shown n all, fits-due h (changes_with h changes c) cs stored shown n all)
 
 silent-fits : (stored : Bool) (a : CurrentOpening) (s : Result Step Refusal) (shown n : ℕ) → length (changes_of s) ≡ 0 → ShownFits (told_as stored (reply_to a s)) shown n
-silent-fits true a (Ok (Done x)) shown n nothing = tt
-silent-fits false a (Ok (Done x)) shown n nothing = tt
 silent-fits true a (Ok (Wants e o)) shown n nothing = absurd (omega (arith, nothing))
 silent-fits false a (Ok (Wants e o)) shown n nothing = absurd (omega (arith, nothing))
-silent-fits true a (Ok (OfHistory x)) shown n nothing = tt
-silent-fits false a (Ok (OfHistory x)) shown n nothing = tt
-silent-fits true a (Err e) shown n nothing = tt
-silent-fits false a (Err e) shown n nothing = tt
+silent-fits true a s shown n nothing = tt
+silent-fits false a s shown n nothing = tt
 
 -- or if there are no changes
 fits-none : (h : CurrentOpening) (changes : List PlainChange) (commands : List Command) (stored : Bool) (shown n : ℕ) → length (changes_due h changes commands) ≡ length changes → AllByRecursion (λ r. ShownFits r shown n) (map (told_as stored) (replies_due h changes commands))

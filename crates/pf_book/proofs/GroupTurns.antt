@@ -1,8 +1,8 @@
 -- The receipts of a group, one after the other.
-use Rattle.std.proofs.{Common.{◌≡◌, ◌⊎◌, ◌∙◌, inl, inr, ℕ, ◌+◌, ◌<◌, ◌≤◌, Bool, true, false, List, [], ◌∷◌, ◌++◌, length, Option, Some, Result, Ok, Err, refl, sym, ap, subst, arith, append_assoc, append-nil, length-append}, lemmas.{List.map-id, List.Elements.{All-nil, All-cons, All-head, All-tail, All-weaker}, List.Kept.AllPairs-cons}}
+use Rattle.std.proofs.{Common.{◌≡◌, ◌⊎◌, ◌∙◌, inl, inr, ℕ, ◌+◌, ◌<◌, ◌≤◌, Bool, true, false, List, [], ◌∷◌, ◌++◌, length, Option, Some, Result, Ok, refl, sym, ap, subst, arith, append_assoc, append-nil, length-append}, lemmas.{List.map-id, List.Elements.{All-nil, All-cons, All-head, All-tail, All-weaker}, List.Kept.AllPairs-cons}}
 use Rattle.std.specs.{Prelude.{fold, map, slice_get, All}, List.AllPairs}
 use mathlib.Core.List.{IsPrefix}
-use Rattle.pf_core.specs.declared.{command.Command.Command, reply.Refusal.Refusal, reply.Reply.Reply, step.Step.Step, step.Step.TheVariants.{Done, Wants, OfHistory}}
+use Rattle.pf_core.specs.declared.{command.Command.Command, reply.Refusal.Refusal, reply.Reply.Reply, step.Step.Step, step.Step.TheVariants.{Wants}}
 use Rattle.pf_core.specs.{Durable.Changes.{PlainDurable, PlainChange}, Worlds.{Setting, CurrentOpening, Event, State, called_group, down, flat, log_of, step_in, reply_to, changes_of, amid, changes_with, changes_due, replies_due, as_stored, shown_by, LegalGroup, IsLegal}}
 use Rattle.pf_core.proofs.{Courses.{told_as, IsAccepted, accepted}, GroupLeads.{IsShownSo, shown-due, shown-stored}, LongerWorlds.in-two}
 use Rattle.pf_view.proofs.Prefixes.{prefix_length, prefix_self, prefix_trans}
@@ -33,10 +33,8 @@ module _ (h : CurrentOpening) (none : h.pending ≡ []) (log : List PlainChange)
   front-next changes c r slip one = one.front ∙ ap (λ (l : List PlainChange). l ++ changes_of (step_in (amid h changes) c)) (log-so-far h changes none)
 
   some-wanted : (s : Result Step Refusal) (e : PlainChange) → slice_get (changes_of s) 0 ≡ Some e → 0 < length (changes_of s)
-  some-wanted (Ok (Done a)) e is = absurd (cc (is))
   some-wanted (Ok (Wants d o)) e is = omega arith
-  some-wanted (Ok (OfHistory x)) e is = absurd (cc (is))
-  some-wanted (Err x) e is = absurd (cc (is))
+  some-wanted s e is = absurd (cc (is))
 
   -- the next receipt comes after each that is so by then
   next-after : (changes : List PlainChange) (c : Command) (r : Reply) (slip last : PlainReceipt) → IsAnsweredAmid (amid h changes) c log r slip → slip.shown ≡ many → IsSoFar changes last → ComesAfter last slip
@@ -83,14 +81,10 @@ module _ (h : CurrentOpening) (none : h.pending ≡ []) (log : List PlainChange)
   -- ---- numbers
 
   number-of : (a : CurrentOpening) (s : Result Step Refusal) (stored : Bool) (slip : PlainReceipt) → slip.front ≡ log_of a ++ changes_of s → slip.acked ≡ length slip.front → IsNumberOf (told_as stored (reply_to a s)) slip
-  number-of a (Ok (Done x)) true slip front acked = tt
-  number-of a (Ok (Done x)) false slip front acked = tt
   number-of a (Ok (Wants e o)) true slip front acked = let long = ap length front ∙ length-append (log_of a) (e ∷ []) in (sym long, sym long ∙ sym acked)
   number-of a (Ok (Wants e o)) false slip front acked = let long = ap length front ∙ length-append (log_of a) (e ∷ []) in (sym long, sym long ∙ sym acked)
-  number-of a (Ok (OfHistory x)) true slip front acked = tt
-  number-of a (Ok (OfHistory x)) false slip front acked = tt
-  number-of a (Err e) true slip front acked = tt
-  number-of a (Err e) false slip front acked = tt
+  number-of a s true slip front acked = tt
+  number-of a s false slip front acked = tt
 
   all-numbered : (changes : List PlainChange) (commands : List Command) (answers : List Answered) (stored : Bool) → AreAnswered h log changes commands answers → map (λ (a : Answered). a.0) answers ≡ map (told_as stored) (replies_due h changes commands)
       → All (λ (a : Answered). IsNumberOf a.0 a.1) answers

@@ -24,27 +24,12 @@ ok-not : (s : Step) → NoFault (Ok s)
 ok-not s e is = absurd (cc (is))
 
 ticket-not : (x : TicketRefusal) → is_fault (refusal_of x) ≡ false
-ticket-not ticket.BadCount = refl
-ticket-not (ticket.Twice i) = refl
-ticket-not (ticket.Busy i) = refl
-ticket-not ticket.Absent = refl
-ticket-not (ticket.Conflict i) = refl
-ticket-not ticket.RulesetFull = refl
-ticket-not ticket.TooManyRulesets = refl
-ticket-not ticket.TableFull = refl
-ticket-not ticket.TooManyTables = refl
-ticket-not ticket.TicketsExhausted = refl
 ticket-not ticket.Memory = refl
+ticket-not x = refl
 
 change-not : (x : ChangeRefusal) → is_fault (change_refusal_of x) ≡ false
-change-not (by_change.Twice i) = refl
-change-not (by_change.Conflict i) = refl
-change-not by_change.TableFull = refl
-change-not by_change.TooManyRulesets = refl
-change-not by_change.TooManyTables = refl
-change-not by_change.StatesFull = refl
-change-not by_change.BadTick = refl
 change-not by_change.Memory = refl
+change-not x = refl
 
 unless-not : {A : Type 0} (r : Result A TicketRefusal) (f : A → Result Step Refusal) → ((a : A) → NoFault (f a)) → NoFault (unless_refused r f)
 unless-not (Ok a) f not = not a

@@ -6,7 +6,7 @@ use Rattle.logbook.specs.Pages.{Book}
 use Rattle.pf_disk.specs.{Disk.IsImage, Runs.MayWrite, declared.disk.Disk.Ghosts}
 use Rattle.pf_rule.specs.Packets.{PlainPacket}
 use Rattle.pf_ticket.specs.{Laws.Tickets.IsWithin as AreTicketsWithin, Mentions.{after as moved_by, switches}}
-use Rattle.pf_core.specs.declared.{command.Command.Command, command.Command.TheVariants.{Ask}, command.HistoryCommand.HistoryCommand, command.HistoryCommand.TheVariants.{Log, Publish}, command.Question.TheVariants.Judge, durable.verdict.Verdict.Verdict, reply.Outcome.Outcome, reply.Refusal.Refusal, group.TheConstants.GROUP_LIMIT, reply.Refusal.TheVariants.{HistoryFull, Full, Fault, Memory}, reply.Reply.Reply, reply.Reply.TheVariants.{Answer, Applied, Stored, Refused}}
+use Rattle.pf_core.specs.declared.{command.Command.Command, command.Command.TheVariants.{Ask}, command.HistoryCommand.HistoryCommand, command.HistoryCommand.TheVariants.{Log, Publish}, command.Question.TheVariants.Judge, durable.verdict.Verdict.Verdict, reply.Refusal.Refusal, group.TheConstants.GROUP_LIMIT, reply.Refusal.TheVariants.{HistoryFull, Full, Fault, Memory}, reply.Reply.Reply, reply.Reply.TheVariants.{Answer, Applied, Stored, Refused}}
 use Rattle.pf_core.specs.declared.reply.Answer.TheVariants as answer
 use Rattle.pf_core.specs.{Calls.{Call, call}, Durable.Changes.{PlainDurable, PlainChange, after, voided_by, verdict}, Laws.{Durable.IsWithin, Openings.Leaves}, Nexts.{PlainNext, next_with}, WorldBooks.{WorldBook, IsAt, IsFolded}, Cores.PlainCore, Worlds.{Setting, CurrentOpening, Doing, flat, grouped, as_stored, is_fault, last_epoch, raised}}
 use Rattle.pf_store.specs.declared.{store.fault.OpenFault.OpenFault, store.fault.OpenFault.TheVariants.Memory as OutOfMemory, store.fault.OpenFault.TheVariants.Places as Places}
@@ -338,25 +338,24 @@ abbrev pub StaysUnlessAnyKept : {D : Type 0} → Result (List Reply) Refusal →
 StaysUnlessAnyKept (Ok replies) old new = new.acked ≡ old.acked → (world_book new ≡ world_book old) × (new.disk ≡ old.disk)
 StaysUnlessAnyKept (Err e) old new = Stays e old new
 
--- ---- what a change comes to, and what is asked of the history
+-- ---- what changes come to, and what is asked of the history
 
--- the change was kept by itself, with this number
-pub record IsKept (old new : WorldBook) (e : PlainChange) (n : ℕ) : Type 0 where
-  pub more : IsMore old new (e ∷ [])
-  pub number : n ≡ length (flat new.acked)
+-- Changes were kept as one group, and are shown with all before them or not; or why they weren't kept.
+abbrev pub AreKept : Result Bool Refusal → List PlainChange → WorldBook → WorldBook → Type 0
+AreKept (Ok true) es old new = (kept : WorldBook) × IsMore old kept es × (new ≡ shows_all kept)
+AreKept (Ok false) es old new = IsMore old new es
+AreKept (Err why) es old new = IsUnkept why old new es
 
--- the reply to a change that is wanted, with this outcome
-abbrev pub IsMade : Reply → Outcome → PlainChange → WorldBook → WorldBook → Type 0
-IsMade (Answer a) o e old new = ⊥
-IsMade (Applied n p) o e old new = (p ≡ o) × (kept : WorldBook) × IsKept old kept e n × (new ≡ shows_all kept)
-IsMade (Stored n p) o e old new = (p ≡ o) × IsKept old new e n
-IsMade (Refused why) o e old new = IsUnkept why old new (e ∷ [])
+-- the same where the changes come with it
+abbrev pub shown_with : {X : Type 0} → Result (X × Bool) Refusal → Result Bool Refusal
+shown_with (Ok r) = Ok r.1
+shown_with (Err e) = Err e
 
--- The changes of a group to which these replies are due: they were kept, and are shown or not; or why they weren't kept.
-abbrev pub AreMade : Result (List Reply) Refusal → List Reply → List PlainChange → WorldBook → WorldBook → Type 0
-AreMade (Ok replies) due es old new = (kept : WorldBook) × IsMore old kept es
-    × (((replies ≡ due) × (new ≡ shows_all kept)) ⊎ ((replies ≡ map as_stored due) × (new ≡ kept)))
-AreMade (Err why) due es old new = IsUnkept why old new es
+-- what is told of changes to which these replies are due
+abbrev pub told_after : Result Bool Refusal → List Reply → Result (List Reply) Refusal
+told_after (Ok true) due = Ok due
+told_after (Ok false) due = Ok (map as_stored due)
+told_after (Err e) due = Err e
 
 -- `log`: how many changes there are, were acknowledged and are shown. `publish`: all that was acknowledged is shown, unless out of memory.
 abbrev pub IsTold : HistoryCommand → Reply → WorldBook → WorldBook → Type 0

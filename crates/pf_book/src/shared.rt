@@ -1,8 +1,8 @@
 //! A Book that threads share.
-ghost use Rattle.std.specs.{Option.option_copied, Prelude.{◌≡◌, ℕ, IfSome, List, None, Option, nat_lt}};
+ghost use Rattle.std.specs.{Option.option_copied, Prelude.{◌≡◌, ℕ, IfSome, List, None, Option}};
 ghost use Rattle.pf_disk.specs.Disk.{IsImage};
-ghost use Rattle.pf_core.specs.{Calls.call, WorldBooks.{IsAt, Leads}, Worlds.{CurrentOpening, idle, calling, upshot}};
-ghost use Rattle.pf_book.specs.{Anchors.{SaysAnchors, listed_in}, Books.{HoldsLeft, IsLeft, IsOpenable, StaysUnlessKept, UsesDevice, is_fault_reply, world_book}, Groups.{IsAnsweredAsAlone, IsGroupAnswered, IsGroupAsAlone, IsGroupOf, told}, Receipts.{IsReached, IsAnswered, TakesUp, PlainReceipt}, Statuses.SaysStatus, Together.IsAnsweredTogether};
+ghost use Rattle.pf_core.specs.{WorldBooks.IsAt, Worlds.{CurrentOpening, idle}};
+ghost use Rattle.pf_book.specs.{Anchors.{SaysAnchors, listed_in}, Books.{HoldsLeft, IsOpenable, world_book}, Groups.{IsAnsweredAsAlone, IsGroupAnswered, IsGroupAsAlone, IsGroupOf, told}, Receipts.{IsCall, IsReached, IsAnswered, TakesUp, PlainReceipt}, Statuses.SaysStatus, Together.IsAnsweredTogether};
 
 mod together;
 
@@ -41,10 +41,7 @@ impl<D: Disk + Drop, J: Chapter, S: Publisher<J> + Drop> Locked<D, J, S> {
     // One call. At each moment of it an image of the device holds what some crash within it leaves of the opening.
     fn run(&mut self, command: &Command, last: Option<&Receipt<J>>) -> (Reply, Receipt<J>)
         ensures answered { IsAnswered J.base J.setting command.now result.0 result.1 (option_copied last.entry) }
-        ensures leads { (h : CurrentOpening) → IsAt h (world_book self.old) → Leads h (world_book self.new) (call command.now result.0)
-            (upshot self.new.shown (nat_lt (D.fault_count self.old.disk) (D.fault_count self.new.disk))) }
-        ensures device { UsesDevice D.Disk (is_fault_reply result.0) self.old self.new (IsLeft (world_book self.old) (calling command.now)) }
-        ensures stays { StaysUnlessKept result.0 self.old self.new }
+        ensures call { IsCall D.Disk self.old self.new command.now result.0 result.1.change }
     {
         let answer = self.book.answer(command, last);
         self.book.between_calls();

@@ -1,10 +1,10 @@
 use Rattle.std.proofs.{Common.{◌≡◌, ◌+◌, ◌++◌, List, [], All, length, map, drop, Ok, refl, sym, ap, ◌∙◌, subst, append-nil, length-append, arith}, lemmas.{Grind.common_steps, List.length-map, Result.err_from_is_err_and}}
 use Rattle.std.specs.{Arc.arc_value, Prelude.nat_lt}
 use Rattle.pf_core.specs.declared.reply.{Refusal.TheVariants.Memory, Reply.Reply}
-use Rattle.pf_core.specs.{Durable.Changes.PlainChange, WorldBooks.{WorldBook, IsAt, LeadsGroup}, Worlds.{CurrentOpening, Upshot, flat, grouping, upshot, changes_due, replies_due}}
+use Rattle.pf_core.specs.{Durable.Changes.PlainChange, WorldBooks.{WorldBook, IsAt}, Worlds.{CurrentOpening, Upshot, flat, grouping, upshot, changes_due, replies_due}}
 use Rattle.pf_core.proofs.Courses.{told_as}
-use Rattle.pf_book.specs.{Books.{world_book, log_in, StaysUnlessAnyKept}, Groups.{Answered, AreAnswered}, Pairs.{kept_count, paired}}
-use Rattle.pf_book.proofs.{Calling.{own, own-at}, Grouping.{memory-refuses, refused-whole}, OpenedBooks.{left-in, log-of, rests-of}, HistoryGroups.left-group, GroupReceipts.{IsTold, told-by, slips, paired-replies, paired-shown, kept-due, one-each}}
+use Rattle.pf_book.specs.{Books.{world_book, log_in}, Groups.{Answered, AreAnswered, IsGroupCall}, Pairs.{kept_count, paired}}
+use Rattle.pf_book.proofs.{Calling.{own, own-at}, Grouping.{memory-refuses, refused-of, refused-whole}, OpenedBooks.{left-in, log-of, rests-of}, HistoryGroups.left-group, GroupReceipts.{IsTold, told-by, slips, paired-replies, paired-shown, kept-due, one-each}}
 use Rattle.pf_book.proofs.book.Book.answer_course.Given.{Over}
 use Rattle.pf_book.proofs.book.Book.answer_course.Goals.{In-Ok, After-pair}
 use Rattle.pf_book.proofs.book.Book.answer_course.Goals as goal
@@ -21,7 +21,7 @@ module _ (g : Over) (c : In-Ok g) where
   came = upshot new.shown (nat_lt (g.D.Disk.fault_count c.args.self.now.disk) (g.D.Disk.fault_count c.finish.new.self.disk))
 
   told : (h : CurrentOpening) → IsAt h old → IsTold h new c.args.commands.now c.in-Ok.replies.items
-  told h at = told-by h new c.args.commands.now c.in-Ok.replies.items came (c.in-Ok.ensures.leads h at)
+  told h at = told-by h new c.args.commands.now c.in-Ok.replies.items came (c.in-Ok.ensures.call.leads h at)
 
   own-told : IsTold (own old) new c.args.commands.now c.in-Ok.replies.items
   own-told = told (own old) (own-at old)
@@ -86,8 +86,7 @@ returns-in-Ok g c =
     let log : List PlainChange = log_in (world_book book) in
     let commands = c.args.commands.now in
     record {
-      leads = λ h at. subst (λ (rs : List Reply). LeadsGroup h (world_book book) commands (Ok rs) (came g here)) (same g there) (c.in-Ok.ensures.leads h at);
-      uses = c.in-Ok.ensures.device;
+      call = subst (λ (rs : List Reply). IsGroupCall g.D.Disk c.args.self.now book commands (Ok rs)) (same g there) c.in-Ok.ensures.call;
       receipts = λ h at.
           let t = told g here h at in
           let pairs : c.pair.result.items ≡ paired shown log c.len-before.result (map (told_as t.stored) (replies_due h [] commands)) (changes_due h [] commands) =
@@ -96,17 +95,15 @@ returns-in-Ok g c =
           let first : c.len-before.result ≡ length (flat h.acked) + 0 = omega (arith, number g here, ap (λ (gs : List (List PlainChange)). length (flat gs)) at.acked) in
           subst (λ (answers : List Answered). AreAnswered h log [] commands answers) (sym pairs) (slips shown h log [] (changes_due h [] commands) commands t.stored t.none t.may refl t.log c.len-before.result first);
       shown = subst (All (λ (a : Answered). a.1.shown ≡ shown)) (sym c.pair.ensures) (paired-shown shown log c.len-before.result c.in-Ok.replies.items (map arc_value c.in-Ok.given.items));
-      stays = subst (λ (rs : List Reply). StaysUnlessAnyKept (Ok rs) c.args.self.now book) (same g there) c.in-Ok.ensures.stays;
-      opening = c.finish.ensures.opening;
     }
 
 pub returns-in-Err : goal.returns-in-Err
-returns-in-Err g c = record { leads = c.in-Err.ensures.leads; uses = c.in-Err.ensures.device; receipts = λ h at. tt; shown = tt; stays = c.in-Err.ensures.stays; opening = c.finish.ensures.opening }
+returns-in-Err g c = refused-of c.in-Err.ensures.call
 
 pub returns-in_err-answers : goal.returns-in_err-answers
 returns-in_err-answers g c =
     let now = c.args.self.now in
     let commands = c.args.commands.now in
     let p = err_from_is_err_and c.from_residual.result c.from_residual.ensures.1 in
-    rw (p.1, p.2) (refused-whole g.D.Disk now now commands Memory refl refl (λ h at. memory-refuses h (world_book now) commands at c.requires.none c.requires.words)
-    (rests-of g.D.Disk c.self.invariant c.self.view_is (g.met.D.Disk.only_now c.self.inside.store.disk) (left-in c.self.invariant c.self.view_is (grouping commands))))
+    rw (p.1, p.2) (refused-of (refused-whole g.D.Disk now now commands Memory refl refl (λ h at. memory-refuses h (world_book now) commands at c.requires.none c.requires.words)
+    (rests-of g.D.Disk c.self.invariant c.self.view_is (g.met.D.Disk.only_now c.self.inside.store.disk) (left-in c.self.invariant c.self.view_is (grouping commands)))))

@@ -1,8 +1,8 @@
 use Rattle.std.proofs.{Common.{◌≡◌, ◌≤◌, ◌++◌, ℕ, List, [], ◌∷◌, Option, Some, length, map, drop, take, refl, sym, ap, ◌∙◌, subst, append_assoc, append-nil, arith}, lemmas.Grind.common_steps}
 use Rattle.std.specs.{Arc.arc_value, List.AllByRecursion, Option.option_map, Vec.Iter.{into_iter_items}}
-use Rattle.pf_core.specs.{declared.reply.Reply.Reply, Durable.Changes.PlainChange}
+use Rattle.pf_core.specs.{declared.reply.Reply.Reply, Durable.Changes.PlainChange, Worlds.flat}
 use Rattle.pf_book.specs.{Books.{world_book, log_in}, Groups.Answered, Pairs.{behind, given_to, left_behind, kept_count, paired, slip_at}, Receipts.{PlainReceipt, EndsIn, ShownFits}}
-use Rattle.pf_book.proofs.{OpenedBooks.log-of, GroupReceipts.{IsPaired, no-items, pair-on}}
+use Rattle.pf_book.proofs.{OpenedBooks.log-of, GroupReceipts.{IsPaired, calm-log, calm-receipt, no-items, pair-on}}
 use Rattle.pf_book.proofs.book.Book.pair.Given.{Over}
 use Rattle.pf_book.proofs.book.Book.pair.Goals.{After-behind-seq}
 use Rattle.pf_book.proofs.book.Book.pair.Goals as goal
@@ -28,12 +28,12 @@ loop-reply-preserved g c =
     let here = one g (goal.at.loop-reply-preserved g c).After-behind-seq in
     let rest : List Answered = paired c.args.self.now.shown log c.behind-seq.result others left in
     let old : List Answered = at.answers.items in
-    let slip : c.receipt_at-receipt.result ≡ slip_at c.args.self.now.shown log (behind r at.seq) (given_to r given) r =
-    c.receipt_at-receipt.ensures ∙ ap (λ (m : ℕ). slip_at c.args.self.now.shown log m (option_map arc_value c.give-change.result) r) number ∙ ap (λ (o : Option PlainChange). slip_at c.args.self.now.shown log (behind r at.seq) o r) c.give-change.ensures.given in
+    let slip : c.receipt-receipt.result ≡ slip_at c.args.self.now.shown log (behind r at.seq) (given_to r given) r =
+    c.receipt-receipt.ensures ∙ calm-receipt (world_book c.args.self.now) c.behind-seq.result (option_map arc_value c.give-change.result) r c.requires.calm (subst (λ (m : ℕ). m ≤ length log) (sym number) here.0.within) ∙ ap (λ (m : ℕ). slip_at c.args.self.now.shown log m (option_map arc_value c.give-change.result) r) number ∙ ap (λ (o : Option PlainChange). slip_at c.args.self.now.shown log (behind r at.seq) o r) c.give-change.ensures.given in
     record {
       all = append_assoc at.yielded (r ∷ []) _ ∙ rw (← steps) at.invariant.all;
       len = let was = at.invariant.len in let gone = c.in-Some.ensures.steps.1 in let short = ap length steps in omega arith;
-      told = ap (λ (xs : List Answered). xs ++ rest) c.push_reserved.ensures.items ∙ append_assoc old ((r, c.receipt_at-receipt.result) ∷ []) rest
+      told = ap (λ (xs : List Answered). xs ++ rest) c.push_reserved.ensures.items ∙ append_assoc old ((r, c.receipt-receipt.result) ∷ []) rest
           ∙ ap (λ (x : PlainReceipt). old ++ ((r, x) ∷ rest)) slip
           ∙ ap (λ (m : ℕ). old ++ ((r, slip_at c.args.self.now.shown log (behind r at.seq) (given_to r given) r) ∷ paired c.args.self.now.shown log m others left)) number
           ∙ ap (λ (l : List PlainChange). old ++ ((r, slip_at c.args.self.now.shown log (behind r at.seq) (given_to r given) r) ∷ paired c.args.self.now.shown log (behind r at.seq) others l)) c.give-change.ensures.left
@@ -45,16 +45,18 @@ loop-reply-preserved g c =
       room = omega (arith, at.invariant.room, c.push_reserved.ensures.len, c.push_reserved.ensures.capacity, ap length steps);
     }
 
-pub receipt_at-receipt-requires-clause-last : goal.receipt_at-receipt-requires-clause-last
-receipt_at-receipt-requires-clause-last g c e some =
-    subst (λ (m : ℕ). EndsIn (take m (log_in (world_book c.args.self.now))) e) (sym c.behind-seq.ensures) ((one g (goal.at.receipt_at-receipt-requires-clause-last g c).After-behind-seq).1 e (sym c.give-change.ensures.given ∙ some))
+pub receipt-receipt-requires-clause-last : goal.receipt-receipt-requires-clause-last
+receipt-receipt-requires-clause-last g c e some =
+    let b = world_book c.args.self.now in
+    let here = one g (goal.at.receipt-receipt-requires-clause-last g c).After-behind-seq in
+    subst (λ (m : ℕ). EndsIn (take m (log_in b)) e × (m ≤ length (flat b.acked))) (sym c.behind-seq.ensures) (here.1 e (sym c.give-change.ensures.given ∙ some), omega (arith, here.0.within, ap length (calm-log b c.requires.calm)))
 
-pub receipt_at-receipt-requires-clause-within : goal.receipt_at-receipt-requires-clause-within
-receipt_at-receipt-requires-clause-within g c =
-    subst (λ (m : ℕ). m ≤ length (log_in (world_book c.args.self.now))) (sym c.behind-seq.ensures) (one g (goal.at.receipt_at-receipt-requires-clause-within g c).After-behind-seq).0.within
+pub receipt-receipt-requires-clause-within : goal.receipt-receipt-requires-clause-within
+receipt-receipt-requires-clause-within g c =
+    subst (λ (m : ℕ). m ≤ length (log_in (world_book c.args.self.now))) (sym c.behind-seq.ensures) (one g (goal.at.receipt-receipt-requires-clause-within g c).After-behind-seq).0.within
 
-pub receipt_at-receipt-requires-clause-shown : goal.receipt_at-receipt-requires-clause-shown
-receipt_at-receipt-requires-clause-shown g c =
+pub receipt-receipt-requires-clause-shown : goal.receipt-receipt-requires-clause-shown
+receipt-receipt-requires-clause-shown g c =
     let at = c.loop-reply in
     let log : List PlainChange = log_in (world_book c.args.self.now) in
     let steps : into_iter_items at.reply-iterator ≡ c.in-Some.reply ∷ into_iter_items c.next.new.self = c.in-Some.ensures.steps.0 in
