@@ -3,7 +3,7 @@ ghost use Rattle.std.specs.Prelude.{◌≡◌, ◌↔◌, ◌+◌, ◌^◌, ◌<
 ghost use Rattle.std.specs.Prelude.{MatchResult, if◌then◌else◌};
 ghost use Rattle.pf_disk.specs.{Disk.IsSynced, Runs.{MayWrite, WritesNothing}};
 ghost use Rattle.pf_journal.specs.{Faults.is_append_fault, Journal.IsOf, Records.counted, declared.journal.TheConstants.CLOSED_GATE};
-ghost use Rattle.pf_snap.specs.Banks.{bank_size, behind_gate, Content, with_payload, switched, Holds, HoldsAt};
+ghost use Rattle.pf_snap.specs.Banks.{bank_size, behind_gate, Content, with_payload, switched, Holds};
 ghost use Rattle.pf_snap.specs.{Ready.{IsReady, IsNext, IsOfAppend, IsOfSwitch, IsSameBank, IsTurned, Keeps}, Looked.{IsFound, content_of}};
 ghost use Rattle.pf_snap.specs.Faults.{IsRefused, is_fault, is_switch_fault};
 ghost use Rattle.pf_snap.specs.declared.fault.LookFault.TheVariants as looking;
@@ -198,10 +198,8 @@ impl<D: Disk> Banks<D> {
     // The banks that a look found on this device. They are usable only if it holds something.
     fn found_on(disk: D, looked: &Looked) -> Banks<D>
         requires found { IsFound (D.seen disk) looked.now }
-        ensures keeps { HoldsAt looked.now.at looked.now.other (D.seen disk) (content_of looked.now)
-            → Keeps D.seen result (content_of looked.now) }
-        ensures ready { IsSynced (D.unsynced disk) → HoldsAt looked.now.at looked.now.other (D.seen disk) (content_of looked.now)
-            → IsReady D.seen D.unsynced result }
+        ensures keeps { looked.now.broken ≡ false → Keeps D.seen result (content_of looked.now) }
+        ensures ready { IsSynced (D.unsynced disk) → looked.now.broken ≡ false → IsReady D.seen D.unsynced result }
         ensures disk { result.journal.disk ≡ disk }
     {
         let size = disk.size() / 2;

@@ -44,11 +44,8 @@ good_or_bad bytes (g ∷ gs) (h ∷ hs) f p q =
 -- its length is in its front, whatever follows
 length_in : (front behind : List ℕ) → IsWhole front → number_at 2 2 (front ++ behind) ≡ length front
 unfolding number_at
-length_in [] behind is = absurd (omega (arith, is.enough))
-length_in (v ∷ []) behind is = absurd (omega (arith, is.enough))
-length_in (v ∷ z ∷ []) behind is = absurd (omega (arith, is.enough))
-length_in (v ∷ z ∷ a ∷ []) behind is = absurd (omega (arith, is.enough))
 length_in (v ∷ z ∷ a ∷ b ∷ front) behind is = is.measured
+length_in front behind is = absurd (omega (arith, is.enough))
 
 -- two whole messages at the front of a stream are the same
 front_one : (a x b y : List ℕ) → a ++ x ≡ b ++ y → IsWhole a → IsWhole b → (a ≡ b) × (x ≡ y)
@@ -62,22 +59,16 @@ message_one bytes m n p q = rw (p.checksum, q.checksum, groups_one _ _ _ p.group
 -- a whole message isn't unfinished
 not_unfinished : (front behind : List ℕ) → IsWhole front → IsUnfinished (front ++ behind) → ⊥
 unfolding number_at
-not_unfinished [] behind is un = absurd (omega (arith, is.enough))
-not_unfinished (v ∷ []) behind is un = absurd (omega (arith, is.enough))
-not_unfinished (v ∷ z ∷ []) behind is un = absurd (omega (arith, is.enough))
-not_unfinished (v ∷ z ∷ a ∷ []) behind is un = absurd (omega (arith, is.enough))
 not_unfinished (v ∷ z ∷ a ∷ b ∷ front) behind is un = omega (arith, un.3, is.measured, length-append front behind)
+not_unfinished front behind is un = absurd (omega (arith, is.enough))
 
 -- nor is its header bad
 not_bad_header : (front behind : List ℕ) (f : PeerFault) → IsWhole front → IsBadHeader (front ++ behind) f → ⊥
 unfolding number_at
-not_bad_header [] behind f is bad = absurd (omega (arith, is.enough))
-not_bad_header (v ∷ []) behind f is bad = absurd (omega (arith, is.enough))
-not_bad_header (v ∷ z ∷ []) behind f is bad = absurd (omega (arith, is.enough))
-not_bad_header (v ∷ z ∷ a ∷ []) behind f is bad = absurd (omega (arith, is.enough))
 not_bad_header (v ∷ z ∷ a ∷ b ∷ front) behind f is (inl (same, inl differs)) = differs is.version
 not_bad_header (v ∷ z ∷ a ∷ b ∷ front) behind f is (inl (same, inr differs)) = differs.1 is.zero
 not_bad_header (v ∷ z ∷ a ∷ b ∷ front) behind f is (inr short) = omega (arith, short.1.2, is.measured, is.enough)
+not_bad_header front behind f is bad = absurd (omega (arith, is.enough))
 
 -- a header isn't both bad and unfinished
 header_apart : (bytes : List ℕ) (f : PeerFault) → IsUnfinished bytes → IsBadHeader bytes f → ⊥
@@ -97,12 +88,9 @@ header_apart (v ∷ z ∷ a ∷ b ∷ bytes) f un (inr h) = omega (arith, h.1.2,
 
 -- a bad version and a short length exclude each other
 version_or_length : (bytes : List ℕ) → HasBadVersion bytes → HasShortLength bytes → ⊥
-version_or_length [] p q = elim q [ ]
-version_or_length (v ∷ []) p q = elim q [ ]
-version_or_length (v ∷ z ∷ []) p q = elim q [ ]
-version_or_length (v ∷ z ∷ a ∷ []) p q = elim q [ ]
 version_or_length (v ∷ z ∷ a ∷ b ∷ bytes) (inl differs) q = differs q.0
 version_or_length (v ∷ z ∷ a ∷ b ∷ bytes) (inr differs) q = differs.1 q.1
+version_or_length bytes p q = elim q [ ]
 
 header_one : (bytes : List ℕ) (e f : PeerFault) → IsBadHeader bytes e → IsBadHeader bytes f → e ≡ f
 header_one bytes e f (inl p) (inl q) = p.0 ∙ sym q.0

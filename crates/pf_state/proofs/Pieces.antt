@@ -10,11 +10,8 @@ version_stays (v ∷ []) (m ∷ more) h = inl h
 version_stays (v ∷ z ∷ bytes) more h = h
 
 length_stays : (bytes more : List ℕ) → HasShortLength bytes → HasShortLength (bytes ++ more)
-length_stays [] more h = elim h [ ]
-length_stays (v ∷ []) more h = elim h [ ]
-length_stays (v ∷ z ∷ []) more h = elim h [ ]
-length_stays (v ∷ z ∷ a ∷ []) more h = elim h [ ]
 length_stays (v ∷ z ∷ a ∷ b ∷ bytes) more h = h
+length_stays bytes more h = elim h [ ]
 
 header_stays : (bytes more : List ℕ) (f : PeerFault) → IsBadHeader bytes f → IsBadHeader (bytes ++ more) f
 header_stays bytes more f (inl h) = inl (h.0, version_stays bytes more h.1)
