@@ -1,5 +1,5 @@
-use Rattle.pf_commit.specs.Naming.{filter_of}
 use Rattle.std.proofs.Common.{[]}
+use Rattle.pf_commit.specs.Naming.{filter_of}
 use Rattle.pf_commit.proofs.Steps.{mapped_more}
 use Rattle.pf_commit.proofs.naming.filters.Goals as goal
 
