@@ -33,6 +33,13 @@ grown r done old new text written is =
 pub made : (r : Result (Unit {0}) Error) (done : Unit {0}) (old new text : List ℕ) → old ≡ [] → Continues {A = Unit {0}} (Ok tt) (Some old) r (Some new) text → r ≡ Ok done → new ≡ text
 made r done old new text none written is = grown r done old new text written is ∙ ap (λ (l : List ℕ). l ++ text) none
 
+-- one more text, behind what was there
+pub one_more_behind : {X : Type 0} (text : X → List ℕ) (before old new : List ℕ) (xs : List X) (i : ℕ) (x : X) → i < length xs → x ≡ get_or xs i x → old ≡ before ++ flat_map text (take i xs) → new ≡ old ++ text x → new ≡ before ++ flat_map text (take (i + 1) xs)
+one_more_behind {X} text before old new xs i x within here so_far next =
+    let more : flat_map text (take (i + 1) xs) ≡ flat_map text (take i xs) ++ text x =
+    ap (flat_map text) (take_item xs i x within here) ∙ flat_map-append text (take i xs) (x ∷ []) ∙ ap (λ (l : List ℕ). flat_map text (take i xs) ++ l) (append-nil (text x)) in
+    next ∙ ap (λ (l : List ℕ). l ++ text x) so_far ∙ append_assoc before (flat_map text (take i xs)) (text x) ∙ ap (λ (l : List ℕ). before ++ l) (sym more)
+
 -- ---- parts
 
 -- so many parts are enough
