@@ -14,6 +14,7 @@ use pf_session::{
 };
 use std::alloc::{AllocError, Global};
 use std::io::{self, ErrorKind, Read, Write};
+use std::marker::Model;
 use std::mem;
 use std::net::Shutdown;
 
@@ -38,7 +39,8 @@ pub(crate) enum Stage {
     Over,
 }
 
-/// A connection that is served, without what belongs to an opening: it goes from one opening to the next as it is.
+/// A connection that is served, without what belongs to an opening: it goes from one opening to the next as it is. Contracts see it as its
+/// number.
 #[derive(Drop)]
 pub(crate) struct Connection {
     arrival: Arrival,
@@ -46,6 +48,14 @@ pub(crate) struct Connection {
     stage: Stage,
     received: Received,
     unsent: Unsent,
+}
+
+impl Model for Connection {
+    ghost use Rattle.std.specs.Prelude.{ℕ};
+
+    ghost Value = { ℕ };
+
+    ghost view = { λ c. c.number };
 }
 
 impl Connection {
@@ -64,7 +74,9 @@ impl Connection {
     }
 
     /// The number of its session.
-    pub(crate) fn number(&self) -> u32 {
+    pub(crate) fn number(&self) -> u32
+        ensures { result ≡ self.now }
+    {
         self.number
     }
 

@@ -140,7 +140,7 @@ trait JudgeConnection<J: Chapter> {
 }
 
 /// What judges behind a gate, and notes faults.
-#[derive(Clone, Copy)]
+#[derive(Drop)]
 struct Judge<'a, G: Gate, L: KeepLog> {
     gate: &'a G,
     log: &'a L,
@@ -163,7 +163,7 @@ impl<J: Chapter, G: Gate, L: KeepLog> JudgeConnection<J> for Judge<'_, G, L> {
 }
 
 /// What serves connections by one Book. Workers needn't name a device, nor what waits.
-#[derive(Clone, Copy)]
+#[derive(Drop)]
 struct Server<
     'a,
     W: Wait,
