@@ -9,8 +9,8 @@ use Rattle.pf_core.specs.{Calls.{Call, call, mentions_of}, Commands.{step_by, ma
 use Rattle.pf_core.proofs.{LongerWorlds.{nothing-leads, refused-leads}, Showing.shows-nothing}
 use Rattle.pf_store.specs.Stores.{Holds}
 use Rattle.pf_disk.specs.declared.disk.Disk.{Ghosts}
-use Rattle.pf_book.proofs.{HistoryGroups.halted-is, Openable.uses-told, Steps.never-fault}
-use Rattle.pf_book.specs.{Books.{BookParts, PlainBook, IsJudged, KeepsOpening, world_book, world_book_of, judging, log_in, HoldsFront, HoldsLeft, IsLeft, IsTold, shows_all, UsesDevice}, Receipts.IsCall}
+use Rattle.pf_book.proofs.{HistoryGroups.halted-is, Openable.uses-reported, Steps.never-fault}
+use Rattle.pf_book.specs.{Books.{BookParts, PlainBook, IsJudged, KeepsOpening, world_book, world_book_of, judging, log_in, HoldsFront, HoldsLeft, IsLeft, AnswersHistory, shows_all, UsesDevice}, Receipts.IsCall}
 
 -- a world book with another core
 abbrev pub with_core : WorldBook → PlainCore → WorldBook
@@ -29,8 +29,8 @@ pub unchanging : (b : WorldBook) (c : Command) → may_change c ≡ false → Is
 unchanging b c is = ap (λ (m : Bool). m && is_halted b.pending) is
 
 -- it is free too if no change comes after those that were acknowledged
-pub none-behind : {D : Type 0} (p : BookParts D) (c : Command) → p.acked ≤ length p.log → length p.log ≤ p.acked → IsFree (world_book_of p) c
-none-behind p c low high =
+pub none-pending : {D : Type 0} (p : BookParts D) (c : Command) → p.acked ≤ length p.log → length p.log ≤ p.acked → IsFree (world_book_of p) c
+none-pending p c low high =
     let all : nat_lt p.acked (length p.log) ≡ false = grind (arith, nat_tests, high) in
     ap (λ (x : Bool). may_change c && x) (halted-is p.log p.acked low ∙ all) ∙ and-false (may_change c)
 
@@ -122,8 +122,8 @@ log-is h b at = ap (λ (l : List (List PlainChange)). flat (l ++ h.pending)) (sy
 acked-is : (h : CurrentOpening) (b : WorldBook) → IsAt h b → length (flat h.acked) ≡ length (flat b.acked)
 acked-is h b at = ap (λ (l : List (List PlainChange)). length (flat l)) (sym at.acked)
 
-told-leads : (h : CurrentOpening) (b new : WorldBook) (x : HistoryCommand) (r : Reply) → IsAt h b → IsTold x r b new → Leads h new (call (History x) r) (upshot new.shown false)
-told-leads h b new Log r at (same, is) =
+reported-leads : (h : CurrentOpening) (b new : WorldBook) (x : HistoryCommand) (r : Reply) → IsAt h b → AnswersHistory x r b new → Leads h new (call (History x) r) (upshot new.shown false)
+reported-leads h b new Log r at (same, is) =
     let a : Answer = answer.Logged (length (log_in b)) (length (flat b.acked)) b.shown in
     let due-is : Answered a ≡ due h (History Log) =
     ap (λ (n : ℕ). Answered (answer.Logged n (length (flat b.acked)) b.shown)) (ap length (sym (log-is h b at)))
@@ -131,7 +131,7 @@ told-leads h b new Log r at (same, is) =
     ∙ ap (λ (n : ℕ). Answered (answer.Logged (length (log_of h)) (length (flat h.acked)) n)) at.shown in
     subst (λ (p : WorldBook). Leads h p (call (History Log) r) (upshot p.shown false)) (sym same)
     (subst (λ (y : Reply). Leads h b (call (History Log) y) (upshot b.shown false)) (sym is) (nothing-leads h b b.whole (History Log) (Answered a) (inl due-is) refl refl refl refl at))
-told-leads h b new Publish r at (inl (is, all)) =
+reported-leads h b new Publish r at (inl (is, all)) =
     let n : ℕ = length (flat b.acked) in
     let a : Answer = answer.Shown n in
     let due-is : Answered a ≡ due h (History Publish) = ap (λ (m : ℕ). Answered (answer.Shown m)) (sym (acked-is h b at)) in
@@ -148,7 +148,7 @@ told-leads h b new Publish r at (inl (is, all)) =
         setting = at.setting;
       };
     }))
-told-leads h b new Publish r at (inr (is, same)) =
+reported-leads h b new Publish r at (inr (is, same)) =
     subst (λ (y : Reply). Leads h new (call (History Publish) y) (upshot new.shown false)) (sym is) (refused-leads h b new (History Publish) Memory (inr refl) same at)
 
 -- the log is what was acknowledged, if nothing is pending
@@ -219,7 +219,7 @@ module _ {D : Type 0} {device : Ghosts D} where
       let f : ℕ = device.fault_count now.disk in
       subst (λ (l : PlainBook D). IsCall device now l c (Refused e) None) (sym same) (record {
         leads = λ h at. no-fault h (world_book now) (call c (Refused e)) now.shown (nat_lt f f) (not-more f f (omega arith)) (leads h at);
-        uses = uses-told calm quiet;
+        uses = uses-reported calm quiet;
         given = refl;
         numbered = tt;
         judged = judged;
@@ -228,17 +228,17 @@ module _ {D : Type 0} {device : Ghosts D} where
       })
 
   -- the history is asked
-  pub told-call : (now new : PlainBook D) (x : HistoryCommand) (r : Reply) → IsTold x r (world_book now) (world_book new) → new.disk ≡ now.disk → UsesDevice device false now new (IsLeft (world_book now) (calling (History x)))
+  pub reported-call : (now new : PlainBook D) (x : HistoryCommand) (r : Reply) → AnswersHistory x r (world_book now) (world_book new) → new.disk ≡ now.disk → UsesDevice device false now new (IsLeft (world_book now) (calling (History x)))
       → IsCall device now new (History x) r None
-  told-call now new x r told disk quiet = by x r told quiet where
-    leads : (x : HistoryCommand) (r : Reply) → IsTold x r (world_book now) (world_book new) → (h : CurrentOpening) → IsAt h (world_book now)
+  reported-call now new x r reported disk quiet = by x r reported quiet where
+    leads : (x : HistoryCommand) (r : Reply) → AnswersHistory x r (world_book now) (world_book new) → (h : CurrentOpening) → IsAt h (world_book now)
         → Leads h (world_book new) (call (History x) r) (upshot new.shown (nat_lt (device.fault_count now.disk) (device.fault_count new.disk)))
-    leads x r told h at =
+    leads x r reported h at =
         let n : ℕ = device.fault_count now.disk in
         let m : ℕ = device.fault_count new.disk in
-        no-fault h (world_book new) (call (History x) r) new.shown (nat_lt n m) (not-more n m (omega (arith, ap device.fault_count disk))) (told-leads h (world_book now) (world_book new) x r at told)
+        no-fault h (world_book new) (call (History x) r) new.shown (nat_lt n m) (not-more n m (omega (arith, ap device.fault_count disk))) (reported-leads h (world_book now) (world_book new) x r at reported)
 
-    by : (x : HistoryCommand) (r : Reply) → IsTold x r (world_book now) (world_book new) → UsesDevice device false now new (IsLeft (world_book now) (calling (History x))) → IsCall device now new (History x) r None
+    by : (x : HistoryCommand) (r : Reply) → AnswersHistory x r (world_book now) (world_book new) → UsesDevice device false now new (IsLeft (world_book now) (calling (History x))) → IsCall device now new (History x) r None
     by Log r (same, is) quiet = subst (λ (y : Reply). IsCall device now new (History Log) y None) (sym is)
         (record { leads = leads Log _ (same, refl); uses = quiet; given = refl; numbered = tt; judged = tt; stays = disk; opening = by-world now new (world_book now) same refl refl })
     by Publish r (inl (is, all)) quiet = subst (λ (y : Reply). IsCall device now new (History Publish) y None) (sym is)

@@ -5,10 +5,10 @@ use Rattle.pf_core.specs.Refusing.{unless, refused_at, AreBothPassed, both_passe
 use Rattle.pf_ticket.specs.{Laws.Tickets.IsWithin as AreTicketsWithin, Mentions.{after as moved_by, switches}, Tickets.PlainTickets}
 use Rattle.pf_core.specs.declared.{command.Command.Command, reply.Refusal.Refusal, reply.Refusal.TheVariants.{BadCount, NotGrouped, Memory}, group.TheConstants.GROUP_LIMIT, reply.Reply.Reply, step.ReadyStep.ReadyStep, step.Step.Step, step.Step.TheVariants.{Wants}}
 use Rattle.pf_core.specs.declared.step.ReadyStep.TheVariants as made
-use Rattle.pf_core.specs.{Commands.{step_by, may_be_grouped, bad_number, group_words}, Durable.Changes.{PlainDurable, PlainChange, after, applied, voided_by, fits}, Laws.Wanted.wants_what_fits, Nexts.PlainNext, Cores.{PlainCore, left_behind, plain, IsMadeFrom}, Worlds.{CurrentOpening, log_of, durable_of, step_in, reply_to, changes_of, amid, changes_due, replies_due}}
+use Rattle.pf_core.specs.{Commands.{step_by, may_be_grouped, bad_number, group_words}, Durable.Changes.{PlainDurable, PlainChange, after, applied, voided_by, fits}, Laws.Wanted.wants_what_fits, Nexts.PlainNext, Cores.{PlainCore, left_from, plain, IsMadeFrom}, Worlds.{CurrentOpening, log_of, durable_of, step_in, reply_to, changes_of, amid, changes_due, replies_due}}
 use Rattle.pf_core.proofs.Courses.{step-there, left-there, log-amid}
 use Rattle.pf_store.specs.{Groups.{can_be_wanted, made_all}, Stores.{FindsRoom, FollowInTurn}}
-use Rattle.pf_store.specs.declared.groups.recorded.Recorded.TheVariants as recorded
+use Rattle.pf_store.specs.declared.encoding.recorded.Recorded.TheVariants as recorded
 use Rattle.pf_store.proofs.Leading.{follow_push, left_by_made}
 use Rattle.pf_book.specs.{Books.left_together, Courses.{IsCalm, ready_of, found_by, left_to, StepFindsRoom, FindRoomEach}}
 use Rattle.pf_book.proofs.Wanting.{wanted-can}
@@ -30,8 +30,8 @@ still-ready d changes before is = is ∙ ap (ready_of d) (sym (append-nil change
 
 pub left-on : (d : PlainDurable) (changes : List PlainChange) (before : Option PlainNext) (step : Result ReadyStep Refusal) → before ≡ ready_of d changes → IsMadeFrom (found_by d before) step → left_to step before ≡ ready_of d (changes ++ changes_of (plain step))
 left-on d changes before (Ok (made.Wants e n o)) is from =
-    let behind : found_by d before ≡ left_together d changes = ap (found_by d) is ∙ so-far d changes in
-    let left : n ≡ left_together d (changes ++ e ∷ []) = from ∙ ap (λ (r : PlainNext). left_behind r e) behind ∙ left-there d changes e in
+    let following : found_by d before ≡ left_together d changes = ap (found_by d) is ∙ so-far d changes in
+    let left : n ≡ left_together d (changes ++ e ∷ []) = from ∙ ap (λ (r : PlainNext). left_from r e) following ∙ left-there d changes e in
     ap Some left ∙ sym (some-ready d changes e)
 left-on d changes before step is from = still-ready d changes before is
 
@@ -53,8 +53,8 @@ Steps w before c s = s ≢ Err Memory → s ≡ step_by (moved_by w.tickets (swi
 abbrev pub tickets_there : PlainCore → List PlainChange → PlainTickets
 tickets_there w changes = moved_by w.tickets (switches (flat_map voided_by changes))
 
-pub step-behind : (w : PlainCore) (changes : List PlainChange) (c : Command) (before : Option PlainNext) (s : Result Step Refusal) → before ≡ ready_of w.durable changes → Steps w before c s → s ≢ Err Memory → s ≡ step_by (tickets_there w changes) (after w.durable changes) c
-step-behind w changes c before s is steps known =
+pub step-after : (w : PlainCore) (changes : List PlainChange) (c : Command) (before : Option PlainNext) (s : Result Step Refusal) → before ≡ ready_of w.durable changes → Steps w before c s → s ≢ Err Memory → s ≡ step_by (tickets_there w changes) (after w.durable changes) c
+step-after w changes c before s is steps known =
     steps known ∙ ap (λ (r : PlainNext). step_by (moved_by w.tickets (switches r.voided)) r.durable c) (ap (found_by w.durable) is ∙ so-far w.durable changes)
 
 -- it is the step that the group's course has there
@@ -134,12 +134,12 @@ pub each-on : (size : ℕ) (d : PlainDurable) (changes changes' : List PlainChan
 each-on size d changes changes' before (Ok (made.Wants e n o)) was has both ready from same is each here =
     let and : IsTrue both ↔ (IsTrue was × IsTrue has) = both-true was has both is in
     let push = each-push size d changes e in
-    let behind : (found_by d before).durable ≡ after d changes = ap (λ (r : PlainNext). r.durable) (ap (found_by d) ready ∙ so-far d changes) in
-    let left : n.durable ≡ applied (after d changes) e = ap (λ (r : PlainNext). r.durable) from ∙ ap (λ (k : PlainDurable). applied k e) behind in
+    let following : (found_by d before).durable ≡ after d changes = ap (λ (r : PlainNext). r.durable) (ap (found_by d) ready ∙ so-far d changes) in
+    let left : n.durable ≡ applied (after d changes) e = ap (λ (r : PlainNext). r.durable) from ∙ ap (λ (k : PlainDurable). applied k e) following in
     let there : StepFindsRoom size (found_by d before).durable (Ok (made.Wants e n o)) → FindsRoom size (after d changes) (applied (after d changes) e) (e ∷ []) =
-    λ p. subst (λ (k : PlainDurable). FindsRoom size k (applied (after d changes) e) (e ∷ [])) behind (subst (λ (k : PlainDurable). FindsRoom size (found_by d before).durable k (e ∷ [])) left p) in
+    λ p. subst (λ (k : PlainDurable). FindsRoom size k (applied (after d changes) e) (e ∷ [])) following (subst (λ (k : PlainDurable). FindsRoom size (found_by d before).durable k (e ∷ [])) left p) in
     let back : FindsRoom size (after d changes) (applied (after d changes) e) (e ∷ []) → StepFindsRoom size (found_by d before).durable (Ok (made.Wants e n o)) =
-    λ p. subst (λ (k : PlainDurable). FindsRoom size (found_by d before).durable k (e ∷ [])) (sym left) (subst (λ (k : PlainDurable). FindsRoom size k (applied (after d changes) e) (e ∷ [])) (sym behind) p) in (
+    λ p. subst (λ (k : PlainDurable). FindsRoom size (found_by d before).durable k (e ∷ [])) (sym left) (subst (λ (k : PlainDurable). FindsRoom size k (applied (after d changes) e) (e ∷ [])) (sym following) p) in (
       λ p. subst (FindRoomEach size d) (sym same) (push.1 (each.0 (and.0 p).0, there (here.0 (and.0 p).1))),
       λ p. let q = push.0 (subst (FindRoomEach size d) same p) in and.1 (each.1 q.0, here.1 (back q.1)),
     )
@@ -150,10 +150,10 @@ each-on size d changes changes' before step was has both ready from same is each
 none-unfit : (i : ℕ) (commands : List Command) → position_from (λ (c : Command). not (may_be_grouped c)) i commands ≡ None → AllByRecursion (λ c. may_be_grouped c ≡ true) commands
 none-unfit i [] is = tt
 none-unfit i (c ∷ cs) is = by (may_be_grouped c) refl is (none-unfit (i + 1) cs) where
-  behind : Option ℕ
-  behind = position_from (λ (x : Command). not (may_be_grouped x)) (i + 1) cs
+  following : Option ℕ
+  following = position_from (λ (x : Command). not (may_be_grouped x)) (i + 1) cs
 
-  by : (b : Bool) → may_be_grouped c ≡ b → cond (not b) (Some i) behind ≡ None → (behind ≡ None → AllByRecursion (λ c. may_be_grouped c ≡ true) cs) → AllByRecursion (λ c. may_be_grouped c ≡ true) (c ∷ cs)
+  by : (b : Bool) → may_be_grouped c ≡ b → cond (not b) (Some i) following ≡ None → (following ≡ None → AllByRecursion (λ c. may_be_grouped c ≡ true) cs) → AllByRecursion (λ c. may_be_grouped c ≡ true) (c ∷ cs)
   by true may rest more = (may, more rest)
   by false never rest more = absurd (cc (rest))
 

@@ -5,11 +5,11 @@ use Rattle.pf_core.specs.Refusing.{and_then, unless, refused_at, AreBothPassed, 
 use Rattle.pf_ticket.specs.{Tickets.PlainTickets, Mentions.{after as moved_by, switches}}
 use Rattle.pf_core.specs.declared.{command.Command.Command, group.TheConstants.GROUP_LIMIT, reply.Refusal.Refusal, reply.Refusal.TheVariants.{Halted, BadCount, NotGrouped, HistoryFull, Full, Fault, Memory}, reply.Reply.Reply, step.Step.Step, step.Step.TheVariants.{Wants}}
 use Rattle.pf_core.specs.{Commands.{bad_number, group_words, may_be_grouped}, Durable.Changes.{PlainDurable, PlainChange, after, voided_by}, WorldBooks.{WorldBook, IsFolded, IsAt, LeadsGroup}, Nexts.PlainNext, Cores.PlainCore, Worlds.{Setting, CurrentOpening, down, grouping, Upshot, upshot, flat, log_of, is_halted, is_fault, step_in, reply_to, changes_of, room_for, grouped, amid, changes_with, changes_due, replies_due, group_start, group_check, replies_unless, due_group, group_all, kept_groups, shown_by, as_stored, GroupStandsIn, LegalReplies}}
-use Rattle.pf_core.proofs.{Courses.{not-halted, durable-amid, length-with, log-amid, IsOfGroup, told, wanted, refused, step-amid, MayBeGrouped, IsTaken, taken-group, told_as, IsAccepted, accepted}, GroupLeads.{IsShownSo, shown-due, shown-stored, refused-group-leads, fault-group-leads, kept-group-leads}, Groups.rooms-found}
+use Rattle.pf_core.proofs.{Courses.{not-halted, durable-amid, length-with, log-amid, IsOfGroup, reported, wanted, refused, step-amid, MayBeGrouped, IsTaken, taken-group, as_due_or_stored, IsAccepted, accepted}, GroupLeads.{IsShownSo, shown-due, shown-stored, refused-group-leads, fault-group-leads, kept-group-leads}, Groups.rooms-found}
 use Rattle.pf_store.specs.Stores.{Holds, HoldsEither}
 use Rattle.pf_disk.specs.declared.disk.Disk.{Ghosts}
-use Rattle.pf_book.specs.{Books.{PlainBook, world_book, HasRoom, HoldsLeft, IsLeft, IsMore, KeepsOpening, IsPending, AreKept, AreNumbered, StaysUnlessAnyKept, UsesDevice, is_fault_result, left_together, shows_all, told_after}, Courses.{AreReady, IsCalm, IsPlanned, KeepsTogether, ready_of}, Groups.{IsGroupCall, IsGroupOf}}
-use Rattle.pf_book.proofs.{Calling.{by-world, durable-is, fault-flag, log-acked, front-left, not-more, own}, Coursing.{none-ready, ready-some, well}, HistoryGroups.{grouped-some}, Openable.{uses-as, uses-still, uses-told}}
+use Rattle.pf_book.specs.{Books.{PlainBook, world_book, BookHasRoom, HoldsLeft, IsLeft, IsMore, KeepsOpening, IsPending, AreKept, AreNumbered, StaysUnlessAnyKept, UsesDevice, is_fault_result, left_together, shows_all, reported_after}, Courses.{AreReady, IsCalm, IsPlanned, KeepsTogether, ready_of}, Groups.{IsGroupCall, IsGroupOf}}
+use Rattle.pf_book.proofs.{Calling.{by-world, durable-is, fault-flag, log-acked, front-left, not-more, own}, Coursing.{none-ready, ready-some, well}, HistoryGroups.{grouped-some}, Openable.{uses-as, uses-still, uses-reported}}
 
 -- ---- a calm opening
 
@@ -28,7 +28,7 @@ calm-group h new commands result shown failed is leads = subst (λ (x : Bool). L
 
 -- ---- numbers
 
-number-step : (stored : Bool) (a : CurrentOpening) (s : Result Step Refusal) (n m : ℕ) (rest : List Reply) → length (log_of a) ≡ n → AreNumbered rest (n + length (changes_of s)) m → AreNumbered (told_as stored (reply_to a s) ∷ rest) n m
+number-step : (stored : Bool) (a : CurrentOpening) (s : Result Step Refusal) (n m : ℕ) (rest : List Reply) → length (log_of a) ≡ n → AreNumbered rest (n + length (changes_of s)) m → AreNumbered (as_due_or_stored stored (reply_to a s) ∷ rest) n m
 number-step true a (Ok (Wants e o)) n m rest is all = (ap (λ (k : ℕ). k + 1) is, all)
 number-step false a (Ok (Wants e o)) n m rest is all = (ap (λ (k : ℕ). k + 1) is, all)
 number-step true a s n m rest is all = subst (λ (k : ℕ). AreNumbered rest k m) (omega arith) all
@@ -36,7 +36,7 @@ number-step false a s n m rest is all = subst (λ (k : ℕ). AreNumbered rest k 
 
 -- the numbers of the due replies go on from what was acknowledged
 pub numbers : (h : CurrentOpening) (changes : List PlainChange) (commands : List Command) (stored : Bool) → h.pending ≡ []
-    → AreNumbered (map (told_as stored) (replies_due h changes commands)) (length (flat h.acked) + length changes) (length (flat h.acked) + length (changes_due h changes commands))
+    → AreNumbered (map (as_due_or_stored stored) (replies_due h changes commands)) (length (flat h.acked) + length changes) (length (flat h.acked) + length (changes_due h changes commands))
 numbers h changes [] stored none = refl
 numbers h changes (c ∷ cs) stored none =
     let a : CurrentOpening = amid h changes in
@@ -44,7 +44,7 @@ numbers h changes (c ∷ cs) stored none =
     let more : List PlainChange = changes ++ changes_of s in
     let n : ℕ = length (flat h.acked) + length changes in
     let m : ℕ = length (flat h.acked) + length (changes_due h more cs) in
-    let rest : List Reply = map (told_as stored) (replies_due h more cs) in
+    let rest : List Reply = map (as_due_or_stored stored) (replies_due h more cs) in
     let on : length (flat h.acked) + length more ≡ n + length (changes_of s) = omega (arith, length-append changes (changes_of s)) in
     number-step stored a s n m rest (log-amid h changes none) (subst (λ (k : ℕ). AreNumbered rest k m) on (numbers h more cs stored none))
 
@@ -55,7 +55,7 @@ grows h changes [] = le_refl _
 grows h changes (c ∷ cs) = omega (arith, grows h (changes_with h changes c) cs, length-append changes (changes_of (step_in (amid h changes) c)))
 
 silent-step : (a : CurrentOpening) (c : Command) (s : Result Step Refusal) (n : ℕ) → IsOfGroup c s → length (changes_of s) ≡ 0 → shown_by (reply_to a s) n ≡ n
-silent-step a _ _ n (told c x unmentioned silent) nothing = silent.shown n
+silent-step a _ _ n (reported c x unmentioned silent) nothing = silent.shown n
 silent-step a _ _ n (wanted c e o mentions) nothing = absurd (omega (arith, nothing))
 silent-step a _ _ n (refused c e) nothing = refl
 
@@ -159,16 +159,16 @@ module _ (h : CurrentOpening) (b : WorldBook) (commands : List Command) (at : Is
   full-is = ap (λ (s : Setting). s.is_full h.base h.acked es) (sym at.setting) ∙ ap (λ (k : PlainDurable). b.setting.is_full k h.acked es) (sym at.base)
       ∙ ap (λ (l : List (List PlainChange)). b.setting.is_full b.base l es) (sym at.acked)
 
-  found : HasRoom b es → group_check h commands ≡ Ok tt
+  found : BookHasRoom b es → group_check h commands ≡ Ok tt
   found room = checked ∙ rooms-found h es (omega (arith, room.few, log, limit)) (full-is ∙ room.device)
 
-  taken : HasRoom b es → IsTaken h commands
+  taken : BookHasRoom b es → IsTaken h commands
   taken room = taken-group h commands (found room)
 
   due-ok : group_check h commands ≡ Ok tt → due_group h commands ≡ Ok due
   due-ok is = ap (λ (r : Result (Unit {0}) Refusal). replies_unless r due) is
 
-  legal-due : group_check h commands ≡ Ok tt → LegalReplies h commands (Ok (map (told_as false) due)) false
+  legal-due : group_check h commands ≡ Ok tt → LegalReplies h commands (Ok (map (as_due_or_stored false) due)) false
   legal-due is = inl (ap Ok (map-id due) ∙ sym (due-ok is))
 
   -- no command wants a change
@@ -177,10 +177,10 @@ module _ (h : CurrentOpening) (b : WorldBook) (commands : List Command) (at : Is
       let check : group_check h commands ≡ Ok tt = checked ∙ ap (room_for h) nothing in
       let t : IsTaken h commands = taken-group h commands check in
       let still : fold (λ (m : ℕ) (r : Reply). shown_by r m) h.shown due ≡ h.shown = silent-due h [] h.shown commands t.may (ap length nothing) in
-      let shown : b.shown ≡ fold (λ (m : ℕ) (r : Reply). shown_by r m) h.shown (map (told_as false) due) =
+      let shown : b.shown ≡ fold (λ (m : ℕ) (r : Reply). shown_by r m) h.shown (map (as_due_or_stored false) due) =
       at.shown ∙ sym still ∙ ap (fold (λ (m : ℕ) (r : Reply). shown_by r m) h.shown) (sym (map-id due)) in
       let moved : b.whole.tickets ≡ (amid h es).tickets = at.tickets ∙ ap (λ (l : List PlainChange). (amid h l).tickets) (sym nothing) in
-      let all : LeadsGroup h (record b { whole = b.whole; acked = b.acked ++ grouped es; shown = b.shown; published = b.published }) commands (Ok (map (told_as false) due)) (upshot b.shown false) =
+      let all : LeadsGroup h (record b { whole = b.whole; acked = b.acked ++ grouped es; shown = b.shown; published = b.published }) commands (Ok (map (as_due_or_stored false) due)) (upshot b.shown false) =
       kept-group-leads h b b.whole b.published b.shown false commands t (legal-due check) moved shown at in
       subst (λ (rs : List Reply). LeadsGroup h b commands (Ok rs) (upshot b.shown false)) (map-id due) (record {
         legal = all.legal;
@@ -196,11 +196,11 @@ module _ (h : CurrentOpening) (b : WorldBook) (commands : List Command) (at : Is
 
   -- the changes were kept
   kept-leads : (new kept : WorldBook) (stored : Bool) → (more : IsMore b kept es) → new.base ≡ kept.base → new.whole ≡ kept.whole → new.acked ≡ kept.acked → new.pending ≡ kept.pending → new.setting ≡ kept.setting
-      → LegalReplies h commands (Ok (map (told_as stored) due)) false → new.shown ≡ fold (λ (m : ℕ) (r : Reply). shown_by r m) h.shown (map (told_as stored) due)
-      → LeadsGroup h new commands (Ok (map (told_as stored) due)) (upshot new.shown false)
+      → LegalReplies h commands (Ok (map (as_due_or_stored stored) due)) false → new.shown ≡ fold (λ (m : ℕ) (r : Reply). shown_by r m) h.shown (map (as_due_or_stored stored) due)
+      → LeadsGroup h new commands (Ok (map (as_due_or_stored stored) due)) (upshot new.shown false)
   kept-leads new kept stored more base whole acked pending setting legal shown =
       let moved : kept.whole.tickets ≡ (amid h es).tickets = more.tickets ∙ ap (λ (o : PlainTickets). moved_by o (switches (flat_map voided_by es))) at.tickets in
-      let all : LeadsGroup h (record b { whole = kept.whole; acked = b.acked ++ grouped es; shown = new.shown; published = new.published }) commands (Ok (map (told_as stored) due)) (upshot new.shown false) =
+      let all : LeadsGroup h (record b { whole = kept.whole; acked = b.acked ++ grouped es; shown = new.shown; published = new.published }) commands (Ok (map (as_due_or_stored stored) due)) (upshot new.shown false) =
       kept-group-leads h b kept.whole new.published new.shown stored commands (taken more.room) legal moved shown at in
       record {
         legal = all.legal;
@@ -215,7 +215,7 @@ module _ (h : CurrentOpening) (b : WorldBook) (commands : List Command) (at : Is
       }
 
   -- and all of them are shown
-  all-shown : (kept : WorldBook) → 0 < length es → IsMore b kept es → length (flat kept.acked) ≡ fold (λ (m : ℕ) (r : Reply). shown_by r m) h.shown (map (told_as false) due)
+  all-shown : (kept : WorldBook) → 0 < length es → IsMore b kept es → length (flat kept.acked) ≡ fold (λ (m : ℕ) (r : Reply). shown_by r m) h.shown (map (as_due_or_stored false) due)
   all-shown kept some more =
       let total : length (flat kept.acked) ≡ length (flat h.acked) + length es =
       ap (λ (gs : List (List PlainChange)). length (flat gs)) (more.acked ∙ ap (λ (gs : List (List PlainChange)). gs ++ grouped es) at.acked) ∙ length-with h.acked es in
@@ -239,7 +239,7 @@ module _ (h : CurrentOpening) (b : WorldBook) (commands : List Command) (at : Is
   unkept : (e : Refusal) (new : WorldBook) → due_group h commands ≡ Err e → new ≡ b → LeadsGroup h new commands (Err e) (upshot new.shown false)
   unkept e new is same = refused-group-leads h b new commands e (inl (sym is)) same at
 
-  pub all-made-leads : (shown : Result Bool Refusal) (new : WorldBook) → 0 < length es → AreKept shown es b new → LeadsGroup h new commands (told_after shown due) (upshot new.shown (is_fault_result shown))
+  pub all-made-leads : (shown : Result Bool Refusal) (new : WorldBook) → 0 < length es → AreKept shown es b new → LeadsGroup h new commands (reported_after shown due) (upshot new.shown (is_fault_result shown))
   all-made-leads (Ok true) new some (kept, more, is) =
       subst (λ (p : WorldBook). LeadsGroup h p commands (Ok due) (upshot p.shown false)) (sym is)
       (subst (λ (rs : List Reply). LeadsGroup h (shows_all kept) commands (Ok rs) (upshot (length (flat kept.acked)) false)) (map-id due)
@@ -260,7 +260,7 @@ module _ (h : CurrentOpening) (b : WorldBook) (commands : List Command) (at : Is
   all-made-leads (Err why) new some made = absurd made.1
 
   -- what an image holds while the changes are being kept is what some crash leaves
-  pub all-left : IsFolded b → HasRoom b es → (image : List ℕ) → HoldsEither b.whole.durable (after b.whole.durable es) image → HoldsLeft h (grouping commands) image
+  pub all-left : IsFolded b → BookHasRoom b es → (image : List ℕ) → HoldsEither b.whole.durable (after b.whole.durable es) image → HoldsLeft h (grouping commands) image
   all-left folded room image (inl holds) =
       front-left h b (grouping commands) image at (0, subst (λ (k : PlainDurable). Holds image k) (folded.durable ∙ ap (λ (l : List (List PlainChange)). after b.base (flat l)) (sym (append-nil b.acked))) holds)
   all-left folded room image (inr holds) =
@@ -307,7 +307,7 @@ module _ {D : Type 0} (now new : PlainBook D) (commands : List Command) (due : L
   longer kept more some was = omega (arith, some, ap (λ (gs : List (List PlainChange)). length (flat gs)) more.acked, length-with now.acked es, ap (λ (gs : List (List PlainChange)). length (flat gs)) was)
 
   -- what a kept group leaves, and what a refused one leaves
-  made-stays : {device : Ghosts D} (shown : Result Bool Refusal) → 0 < length es → KeepsTogether device now new es shown → StaysUnlessAnyKept (told_after shown due) now new
+  made-stays : {device : Ghosts D} (shown : Result Bool Refusal) → 0 < length es → KeepsTogether device now new es shown → StaysUnlessAnyKept (reported_after shown due) now new
   made-stays (Ok true) some made = λ same. absurd (longer made.kept.0 made.kept.1 some (sym (ap (λ (p : WorldBook). p.acked) made.kept.2) ∙ same))
   made-stays (Ok false) some made = λ same. absurd (longer (world_book new) made.kept some same)
   made-stays (Err Fault) some made = record {
@@ -325,26 +325,26 @@ module _ {D : Type 0} (now new : PlainBook D) (commands : List Command) (due : L
 
   -- while the changes are kept or refused, each image holds what some crash leaves
   module _ {device : Ghosts D} {next : PlainNext} (plan : IsPlanned (world_book now) commands due es (Some next)) (quiet : UsesDevice device false now now (IsLeft (world_book now) (grouping commands))) where
-    kept-group : HasRoom (world_book now) es → {failed : Bool} → UsesDevice device failed now new (HoldsEither now.whole.durable (after now.whole.durable es)) → UsesDevice device failed now new (IsLeft (world_book now) (grouping commands))
+    kept-group : BookHasRoom (world_book now) es → {failed : Bool} → UsesDevice device failed now new (HoldsEither now.whole.durable (after now.whole.durable es)) → UsesDevice device failed now new (IsLeft (world_book now) (grouping commands))
     kept-group room uses = uses-as {Q = IsLeft (world_book now) (grouping commands)} uses (λ image holds. record {
-      left = λ h at. all-left h (world_book now) commands at plan.none plan.words plan.folded (subst (HasRoom (world_book now)) (changes-are plan h at) room) image
+      left = λ h at. all-left h (world_book now) commands at plan.none plan.words plan.folded (subst (BookHasRoom (world_book now)) (changes-are plan h at) room) image
           (subst (λ (xs : List PlainChange). HoldsEither now.whole.durable (after now.whole.durable xs) image) (changes-are plan h at) holds);
     })
 
-    made-uses : (shown : Result Bool Refusal) → KeepsTogether device now new es shown → UsesDevice device (is_fault_result (told_after shown due)) now new (IsLeft (world_book now) (grouping commands))
+    made-uses : (shown : Result Bool Refusal) → KeepsTogether device now new es shown → UsesDevice device (is_fault_result (reported_after shown due)) now new (IsLeft (world_book now) (grouping commands))
     made-uses (Ok true) made = kept-group made.kept.1.room made.uses
     made-uses (Ok false) made = kept-group made.kept.room made.uses
     made-uses (Err Fault) made = kept-group made.kept.room made.uses
     made-uses (Err why) made = uses-still made.uses (made.still why refl refl) quiet
 
     -- so it is a group's call
-    pub made-call : (shown : Result Bool Refusal) → KeepsTogether device now new es shown → IsGroupCall device now new commands (told_after shown due)
+    pub made-call : (shown : Result Bool Refusal) → KeepsTogether device now new es shown → IsGroupCall device now new commands (reported_after shown due)
     made-call shown made = record {
       leads = λ h at.
           let some : 0 < length (changes_due h [] commands) = subst (λ (xs : List PlainChange). 0 < length xs) (changes-are plan h at) (some-planned plan) in
           let kept : AreKept shown (changes_due h [] commands) (world_book now) (world_book new) = subst (λ (xs : List PlainChange). AreKept shown xs (world_book now) (world_book new)) (changes-are plan h at) made.kept in
-          subst (λ (x : Bool). LeadsGroup h (world_book new) commands (told_after shown due) (upshot new.shown x)) (sym (fault-flag (device.fault_count now.disk) (device.fault_count new.disk) (is_fault_result shown) made.uses.run.faults))
-          (subst (λ (rs : List Reply). LeadsGroup h (world_book new) commands (told_after shown rs) (upshot new.shown (is_fault_result shown))) (sym (due-is plan h at))
+          subst (λ (x : Bool). LeadsGroup h (world_book new) commands (reported_after shown due) (upshot new.shown x)) (sym (fault-flag (device.fault_count now.disk) (device.fault_count new.disk) (is_fault_result shown) made.uses.run.faults))
+          (subst (λ (rs : List Reply). LeadsGroup h (world_book new) commands (reported_after shown rs) (upshot new.shown (is_fault_result shown))) (sym (due-is plan h at))
           (all-made-leads h (world_book now) commands at plan.none plan.words shown (world_book new) some kept));
       uses = made-uses shown made;
       stays = made-stays shown (some-planned plan) made;
@@ -378,7 +378,7 @@ refused-whole {D} device old new commands e same calm leads quiet =
     let f : ℕ = device.fault_count old.disk in
     subst (λ (l : PlainBook D). IsGroupCall device old l commands (Err e)) (sym same) (record {
       leads = λ h at. calm-group h (world_book old) commands (Err e) old.shown (nat_lt f f) (not-more f f (omega arith)) (leads h at);
-      uses = uses-told calm quiet;
+      uses = uses-reported calm quiet;
       stays = record { same = λ is. (refl, refl); pending = λ is. absurd (cc (is, calm)) };
       opening = record { base = refl; setting = refl };
     })
@@ -399,6 +399,6 @@ numbered-by b new commands (Ok replies) t leads =
     let first : length (flat b.acked) + 0 ≡ length (flat b.acked) = omega arith in
     let last : length (flat b.acked) + length es ≡ length (flat new.acked) =
     sym (ap (λ (gs : List (List PlainChange)). length (flat gs)) (leads.at.acked ∙ ap (λ (gs : List (List PlainChange)). b.acked ++ gs) k.taken.group) ∙ length-with b.acked es) in
-    subst (λ (rs : List Reply). AreNumbered rs (length (flat b.acked)) (length (flat new.acked))) (sym k.told)
-    (subst (λ (n : ℕ). AreNumbered (map (told_as k.stored) (replies_due h [] commands)) n (length (flat new.acked))) first
-    (subst (λ (n : ℕ). AreNumbered (map (told_as k.stored) (replies_due h [] commands)) (length (flat b.acked) + 0) n) last (numbers h [] commands k.stored k.taken.none)))
+    subst (λ (rs : List Reply). AreNumbered rs (length (flat b.acked)) (length (flat new.acked))) (sym k.reported)
+    (subst (λ (n : ℕ). AreNumbered (map (as_due_or_stored k.stored) (replies_due h [] commands)) n (length (flat new.acked))) first
+    (subst (λ (n : ℕ). AreNumbered (map (as_due_or_stored k.stored) (replies_due h [] commands)) (length (flat b.acked) + 0) n) last (numbers h [] commands k.stored k.taken.none)))

@@ -3,11 +3,11 @@ use Rattle.std.proofs.{Common.{◌≡◌, ◌⊎◌, inl, inr, ℕ, ◌+◌, ◌
 use Rattle.std.specs.{Prelude.◌&&◌, Option.ForSome}
 use mathlib.Core.List.{IsPrefix}
 use Rattle.pf_core.specs.declared.{command.Command.Command, command.HistoryCommand.HistoryCommand, command.HistoryCommand.TheVariants.{Log, Publish}, reply.Outcome.Outcome, reply.Refusal.Refusal, reply.Reply.Reply, reply.Reply.TheVariants.{Answer, Applied, Stored, Refused}, step.Step.Step, step.Step.TheVariants.{Done}}
-use Rattle.pf_core.specs.{Calls.call, Commands.{step_by, may_change}, Durable.Changes.{PlainDurable, PlainChange}, WorldBooks.{WorldBook, IsAt, IsFolded, Leads, LeadsGroup, StandsFor}, Worlds.{Setting, CurrentOpening, down, up, Upshot, Event, called, called_group, heard_group, flat, log_of, durable_of, is_halted, acked_by, step_in, group_in, heard, shown_by, shown_by_answer, told_of_history, State, state_after, LegalReply, LegalCall, IsLegal, IsWorld}}
-use Rattle.pf_core.specs.declared.reply.Answer.{Answer as ToldOf}
+use Rattle.pf_core.specs.{Calls.call, Commands.{step_by, may_change}, Durable.Changes.{PlainDurable, PlainChange}, WorldBooks.{WorldBook, IsAt, IsFolded, Leads, LeadsGroup, StandsFor}, Worlds.{Setting, CurrentOpening, down, up, Upshot, Event, called, called_group, heard_group, flat, log_of, durable_of, is_halted, acked_by, step_in, group_in, heard, shown_by, shown_by_answer, history_answer, State, state_after, LegalReply, LegalCall, IsLegal, IsWorld}}
+use Rattle.pf_core.specs.declared.reply.Answer.{Answer as ReportedOf}
 use Rattle.pf_core.proofs.{Prefixes.flat-append, Groups.either, Limits.{IsOfHistory, answered-step, applied-step, stored-step}, Showing.{shows-nothing, shows_all}, Stepping.unhalted, LongerWorlds.{flat-push, stands-on, stands-on-group, in-two}}
 use Rattle.pf_view.proofs.Prefixes.{prefix_whole}
-use Rattle.pf_book.specs.Groups.{Answered as Told, AreDueAsAlone, HasReceipts, HaveShown, IsAnsweredAsAlone, IsGroupAnswered, replies_of}
+use Rattle.pf_book.specs.Groups.{Answered as Reported, AreDueAsAlone, HasReceipts, HaveShown, IsAnsweredAsAlone, IsGroupAnswered, replies_of}
 use Rattle.pf_book.specs.{Books.{log_in, IsMore, IsNumbered}, Receipts.{PlainReceipt, EndsIn, ShownFits, receipt_of, token_of, IsAdded, IsGiven, Follows, ShowsNoLess, TakesUp, IsReached, IsLast, IsChangeOf, IsAnswered}}
 
 -- ---- lists
@@ -186,9 +186,9 @@ last-number h c slip n last is = omega (arith, is, ap length last.last, length-a
 
 -- ---- what is shown
 
-told-more : (h : CurrentOpening) (x : HistoryCommand) → h.shown ≤ length (flat h.acked) → h.shown ≤ shown_by_answer (told_of_history h x) h.shown
-told-more h Log within = omega arith
-told-more h Publish within = within
+reported-more : (h : CurrentOpening) (x : HistoryCommand) → h.shown ≤ length (flat h.acked) → h.shown ≤ shown_by_answer (history_answer h x) h.shown
+reported-more h Log within = omega arith
+reported-more h Publish within = within
 
 -- no call shows less
 shows-more : (h : CurrentOpening) (c : Command) (r : Reply) (failed : Bool) → LegalReply h c r failed → h.shown ≤ length (flat h.acked) → h.shown ≤ shown_by r h.shown
@@ -198,7 +198,7 @@ shows-more h c (Answer a) failed (inl is) within = by (answered-step h (step_in 
 
   by : (step_in h c ≡ Ok (Done a)) ⊎ IsOfHistory h (step_in h c) a → h.shown ≤ shown_by_answer a h.shown
   by (inl done) = omega (arith, shows-nothing h.tickets (durable_of h) c a (unhalted (may_change c && is_halted h.pending) steps (Done a) done) h.shown)
-  by (inr k) = subst (λ (x : ToldOf). h.shown ≤ shown_by_answer x h.shown) (sym k.answer) (told-more h k.command within)
+  by (inr k) = subst (λ (x : ReportedOf). h.shown ≤ shown_by_answer x h.shown) (sym k.answer) (reported-more h k.command within)
 shows-more h c (Answer a) failed (inr none) within = absurd none
 shows-more h c (Applied n o) failed legal within = omega (arith, legal-applied h c n o failed legal, within, more-acked h.acked h.pending)
 shows-more h c (Stored n o) failed legal within = omega arith
@@ -239,14 +239,14 @@ module _ (base : PlainDurable) (setting : Setting) (c : Command) (slip : PlainRe
 
 -- ---- one group under the lock
 
-module _ (base : PlainDurable) (setting : Setting) (old new : WorldBook) (commands : List Command) (answers : Result (List Told) Refusal) (t : Upshot) (reached : IsReached base setting old)
+module _ (base : PlainDurable) (setting : Setting) (old new : WorldBook) (commands : List Command) (answers : Result (List Reported) Refusal) (t : Upshot) (reached : IsReached base setting old)
     (leads : (h : CurrentOpening) → IsAt h old → LeadsGroup h new commands (replies_of answers) t) (folded : IsFolded new) where
   stands-then : StandsFor reached.first new (reached.world ++ called_group commands (replies_of answers) t ∷ [])
   stands-then = stands-on-group reached.first old new reached.world commands (replies_of answers) t reached.stands (leads reached.stands.held reached.stands.at) folded
 
   -- what a group leads to is reached as well
-  pub reached-behind : new.base ≡ old.base → new.setting ≡ old.setting → IsReached base setting new
-  reached-behind same_base same_setting = record {
+  pub reached-too : new.base ≡ old.base → new.setting ≡ old.setting → IsReached base setting new
+  reached-too same_base same_setting = record {
     base_is = same_base ∙ reached.base_is;
     setting_is = same_setting ∙ reached.setting_is;
     first = reached.first;

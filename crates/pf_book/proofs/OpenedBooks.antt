@@ -9,7 +9,7 @@ use Rattle.pf_store.specs.{Stores.{Holds, HoldsEither}, StoreKept.PlainStore}
 use Rattle.pf_view.specs.Past.Pasts.{PlainFront, Begins, front_of}
 use Rattle.pf_view.proofs.Prefixes.{prefix_trans}
 use Rattle.pf_book.specs.Receipts.{ShownFits, token_of}
-use Rattle.pf_book.specs.Books.{BookParts, PlainBook, cut, book_of, world_book, world_book_of, HasRoom, HoldsLeft, IsBook, IsLeft, IsOfCall, UsesDevice, left_together, log_in}
+use Rattle.pf_book.specs.Books.{BookParts, PlainBook, cut, book_of, world_book, world_book_of, BookHasRoom, HoldsLeft, IsBook, IsLeft, IsOfCall, UsesDevice, left_together, log_in}
 use Rattle.pf_book.proofs.{Calling.{front-all, front-left}, LockedCalls.token-is, HistoryGroups.{acked-is, all-acked, counted-acked, goes-on, take_begins, whole-log}}
 
 -- the parts of a Book with this invariant
@@ -50,8 +50,8 @@ module _ {D : Type 0} {seen : D → List ℕ} {unsynced : D → ℕ → Bool} {p
   pub left-of : (next : PlainNext) (es : List PlainChange) → next ≡ left_together now.whole.durable es → next.durable ≡ after p.whole.durable es
   left-of next es made = ap (λ (n : PlainNext). n.durable) made ∙ ap (λ (b : PlainBook D). after b.whole.durable es) (sym is)
 
-  pub room-of : (es : List PlainChange) → HasRoom (world_book now) es → HasRoom (world_book_of p) es
-  room-of es = subst (λ (b : PlainBook D). HasRoom (world_book b) es) (sym is)
+  pub room-of : (es : List PlainChange) → BookHasRoom (world_book now) es → BookHasRoom (world_book_of p) es
+  room-of es = subst (λ (b : PlainBook D). BookHasRoom (world_book b) es) (sym is)
 
   -- all that a world sees is as before
   pub same-of : (store : PlainStore D) (log : List PlainChange) (sizes : List ℕ) → store ≡ p.store → log ≡ p.log → sizes ≡ p.sizes → world_book_of (record p { store = store; log = log; sizes = sizes }) ≡ world_book now

@@ -10,8 +10,8 @@ use Rattle.pf_core.specs.declared.step.ReadyStep.TheVariants as made
 use Rattle.pf_core.specs.{Calls.{call, mentions_of, replies_in}, Commands.{group_words, may_be_grouped, step_by, takes_memory}, Durable.Changes.{PlainDurable, PlainChange, after}, Laws.Wanted.{none-wanted, wants_memory}, Nexts.PlainNext, Cores.{IsMade}, WorldBooks.{WorldBook, IsAt, IsFolded, Leads, LeadsGroup}, Worlds.{CurrentOpening, Upshot, calling, grouping, flat, log_of, durable_of, step_in, reply_to, changes_of, room_for, or_refused, if_ok, due_at, due, grouped, group_at, group_in, amid, changes_due, replies_due, group_start, group_check, replies_unless, due_group, group_all, pending_by_group, shown_by, heard, heard_group, down, as_stored, GroupStandsIn, LegalReplies, LegalReply, StandsIn}}
 use Rattle.pf_core.proofs.Courses.{length-with, unhalted-in}
 use Rattle.pf_disk.specs.declared.disk.Disk.{Ghosts}
-use Rattle.pf_book.specs.{Books.{PlainBook, world_book, HoldsLeft, IsLeft, IsMore, IsNumbered, AreKept, StaysUnlessAnyKept, StaysUnlessKept, is_fault_reply, is_fault_result, told_after}, Courses.{IsPlanned}, Groups.IsGroupCall, Receipts.{IsCall, IsGiven}}
-use Rattle.pf_book.proofs.{Calling.{durable-is, judged-by, log-acked}, Coursing.{fit-on, left-on, number-amidst, step-amidst, wanted-on}, Grouping.{changes-are, due-is, start-is}, LockedCalls.added-by, Openable.{uses-as, uses-told}}
+use Rattle.pf_book.specs.{Books.{PlainBook, world_book, HoldsLeft, IsLeft, IsMore, IsNumbered, AreKept, StaysUnlessAnyKept, StaysUnlessKept, is_fault_reply, is_fault_result, reported_after}, Courses.{IsPlanned}, Groups.IsGroupCall, Receipts.{IsCall, IsGiven}}
+use Rattle.pf_book.proofs.{Calling.{durable-is, judged-by, log-acked}, Coursing.{fit-on, left-on, number-amidst, step-amidst, wanted-on}, Grouping.{changes-are, due-is, start-is}, LockedCalls.added-by, Openable.{uses-as, uses-reported}}
 
 -- ---- what a group may have
 
@@ -85,7 +85,7 @@ module _ (h : CurrentOpening) (c : Command) (e : PlainChange) (o : Outcome) (n :
   same-group = ap (λ (u : Result (Unit {0}) Refusal). if_ok u (grouped (changes_due h [] (c ∷ []))) []) check ∙ ap (λ (es : List PlainChange). if_ok room (grouped es) []) (sym changes) ∙ sym (ap (group_at h) step)
 
   abbrev GroupMay : Result (Unit {0}) Refusal → Bool → Result Bool Refusal → Type 0
-  GroupMay u failed shown = (told_after shown (r ∷ []) ≡ replies_unless u (r ∷ [])) ⊎ GroupStandsIn h (c ∷ []) failed (replies_unless u (r ∷ [])) (told_after shown (r ∷ []))
+  GroupMay u failed shown = (reported_after shown (r ∷ []) ≡ replies_unless u (r ∷ [])) ⊎ GroupStandsIn h (c ∷ []) failed (replies_unless u (r ∷ [])) (reported_after shown (r ∷ []))
 
   abbrev CallMay : Result (Unit {0}) Refusal → Bool → Result Bool Refusal → Type 0
   CallMay u failed shown = (reply_after shown r ≡ or_refused u r) ⊎ StandsIn h c failed (or_refused u r) (reply_after shown r)
@@ -104,22 +104,22 @@ module _ (h : CurrentOpening) (c : Command) (e : PlainChange) (o : Outcome) (n :
   may-too (Err x) failed (Err why) (inl is) = let same : why ≡ x = cc (is) in inl (ap Refused same)
   may-too (Err x) failed (Err why) (inr never) = absurd never
 
-  legal-too : (shown : Result Bool Refusal) (failed : Bool) → LegalReplies h (c ∷ []) (told_after shown (r ∷ [])) failed → LegalReply h c (reply_after shown r) failed
+  legal-too : (shown : Result Bool Refusal) (failed : Bool) → LegalReplies h (c ∷ []) (reported_after shown (r ∷ [])) failed → LegalReply h c (reply_after shown r) failed
   legal-too shown failed legal =
       subst (λ (x : Reply). (reply_after shown r ≡ x) ⊎ StandsIn h c failed x (reply_after shown r)) (sym same-due) (may-too room failed shown
-      (subst (λ (x : Result (List Reply) Refusal). (told_after shown (r ∷ []) ≡ x) ⊎ GroupStandsIn h (c ∷ []) failed x (told_after shown (r ∷ []))) group-due legal))
+      (subst (λ (x : Result (List Reply) Refusal). (reported_after shown (r ∷ []) ≡ x) ⊎ GroupStandsIn h (c ∷ []) failed x (reported_after shown (r ∷ []))) group-due legal))
 
-  at-too : (shown : Result Bool Refusal) (t : Upshot) (new : WorldBook) → IsAt (heard_group h (c ∷ []) (told_after shown (r ∷ [])) t) new → IsAt (heard h (call c (reply_after shown r)) t) new
+  at-too : (shown : Result Bool Refusal) (t : Upshot) (new : WorldBook) → IsAt (heard_group h (c ∷ []) (reported_after shown (r ∷ [])) t) new → IsAt (heard h (call c (reply_after shown r)) t) new
   at-too (Ok true) t new at = record { base = at.base; tickets = at.tickets ∙ ap (moved_by h.tickets) (append-nil (mentions_of (call c r))); acked = at.acked ∙ ap (λ (gs : List (List PlainChange)). h.acked ++ gs) same-group; pending = at.pending; shown = at.shown; setting = at.setting }
   at-too (Ok false) t new at = record { base = at.base; tickets = at.tickets ∙ ap (moved_by h.tickets) (append-nil (mentions_of (call c (as_stored r)))); acked = at.acked ∙ ap (λ (gs : List (List PlainChange)). h.acked ++ gs) same-group; pending = at.pending; shown = at.shown; setting = at.setting }
   at-too (Err why) t new at = record { base = at.base; tickets = at.tickets; acked = at.acked; pending = at.pending ∙ ap (λ (gs : List (List PlainChange)). h.pending ++ pending_by_group (Err why) gs) same-group; shown = at.shown; setting = at.setting }
 
-  shown-too : (shown : Result Bool Refusal) → fold (λ (m : ℕ) (x : Reply). shown_by x m) h.shown (replies_in (told_after shown (r ∷ []))) ≡ shown_by (reply_after shown r) h.shown
+  shown-too : (shown : Result Bool Refusal) → fold (λ (m : ℕ) (x : Reply). shown_by x m) h.shown (replies_in (reported_after shown (r ∷ []))) ≡ shown_by (reply_after shown r) h.shown
   shown-too (Ok true) = refl
   shown-too (Ok false) = refl
   shown-too (Err why) = refl
 
-  leads-too : (shown : Result Bool Refusal) (t : Upshot) (new : WorldBook) → LeadsGroup h new (c ∷ []) (told_after shown (r ∷ [])) t → Leads h new (call c (reply_after shown r)) t
+  leads-too : (shown : Result Bool Refusal) (t : Upshot) (new : WorldBook) → LeadsGroup h new (c ∷ []) (reported_after shown (r ∷ [])) t → Leads h new (call c (reply_after shown r)) t
   leads-too shown t new leads = record { legal = record { reply = legal-too shown t.failed leads.legal.reply; shown = leads.legal.shown ∙ shown-too shown }; at = at-too shown t new leads.at }
 
   left-too : (image : List ℕ) → HoldsLeft h (grouping (c ∷ [])) image → HoldsLeft h (calling c) image
@@ -162,12 +162,12 @@ module _ {D : Type 0} (now new : PlainBook D) (c : Command) (e : PlainChange) (l
   given-one (Ok false) more = added-by b (world_book new) (world_book new) e (Some e) more refl refl plan.none refl
   given-one (Err why) made = refl
 
-  stays-one : (shown : Result Bool Refusal) → StaysUnlessAnyKept (told_after shown (Applied n o ∷ [])) now new → StaysUnlessKept (reply_after shown (Applied n o)) now new
+  stays-one : (shown : Result Bool Refusal) → StaysUnlessAnyKept (reported_after shown (Applied n o ∷ [])) now new → StaysUnlessKept (reply_after shown (Applied n o)) now new
   stays-one (Ok true) stays = tt
   stays-one (Ok false) stays = tt
   stays-one (Err why) stays = stays
 
-  fault-one : (shown : Result Bool Refusal) → is_fault_reply (reply_after shown (Applied n o)) ≡ is_fault_result (told_after shown (Applied n o ∷ []))
+  fault-one : (shown : Result Bool Refusal) → is_fault_reply (reply_after shown (Applied n o)) ≡ is_fault_result (reported_after shown (Applied n o ∷ []))
   fault-one (Ok true) = refl
   fault-one (Ok false) = refl
   fault-one (Err why) = refl
@@ -175,10 +175,10 @@ module _ {D : Type 0} (now new : PlainBook D) (c : Command) (e : PlainChange) (l
   never-asked : (packet : PlainPacket) → c ≡ Ask (Judge packet) → ⊥
   never-asked packet asked = let may : may_be_grouped c ≡ true = wants-grouped now.whole.tickets now.whole.durable c e o (sym is) in let no : may_be_grouped c ≡ false = ap may_be_grouped asked in cc (may, no)
 
-  pub one-call : {device : Ghosts D} (shown : Result Bool Refusal) → AreKept shown (e ∷ []) b (world_book new) → IsGroupCall device now new (c ∷ []) (told_after shown (Applied n o ∷ [])) → IsCall device now new c (reply_after shown (Applied n o)) (change_after shown e)
+  pub one-call : {device : Ghosts D} (shown : Result Bool Refusal) → AreKept shown (e ∷ []) b (world_book new) → IsGroupCall device now new (c ∷ []) (reported_after shown (Applied n o ∷ [])) → IsCall device now new c (reply_after shown (Applied n o)) (change_after shown e)
   one-call shown kept group = record {
     leads = λ h at. leads-too h c e o n (step h at) (takes h at) (same-number h at) (start h at) (changes-are plan h at) (due-is plan h at) shown _ (world_book new) (group.leads h at);
-    uses = uses-told (fault-one shown) (uses-as {Q = IsLeft b (calling c)} group.uses (λ image it. record {
+    uses = uses-reported (fault-one shown) (uses-as {Q = IsLeft b (calling c)} group.uses (λ image it. record {
       left = λ h at. left-too h c e o n (step h at) (takes h at) (same-number h at) (start h at) (changes-are plan h at) (due-is plan h at) image (it.left h at);
     }));
     given = given-one shown kept;

@@ -219,7 +219,7 @@ listed (Err e) = Err e
 
 -- the same where more comes with the replies
 abbrev pub replied : {X : Type 0} → Result (Vec Reply Global × X) Refusal → Result (List Reply) Refusal
-replied (Ok told) = Ok told.0.items
+replied (Ok reported) = Ok reported.0.items
 replied (Err e) = Err e
 
 -- what changes, one after the other, make of what is kept, and the tickets that all of them void
@@ -227,7 +227,7 @@ abbrev pub left_together : PlainDurable → List PlainChange → PlainNext
 left_together d es = next_with (after d es) (flat_map voided_by es)
 
 -- there is room for these changes together: the history doesn't get too many, and the device isn't full
-pub record HasRoom (b : WorldBook) (es : List PlainChange) : Type 0 where
+pub record BookHasRoom (b : WorldBook) (es : List PlainChange) : Type 0 where
   pub few : length (flat b.acked) + length es ≤ b.setting.limit
   pub device : b.setting.is_full b.base b.acked es ≡ false
 
@@ -239,7 +239,7 @@ HasNoRoom why b es = ⊥
 
 -- these changes were kept as one group
 pub record IsMore (old new : WorldBook) (es : List PlainChange) : Type 0 where
-  pub room : HasRoom old es
+  pub room : BookHasRoom old es
   pub base : new.base ≡ old.base
   pub tickets : new.whole.tickets ≡ moved_by old.whole.tickets (switches (flat_map voided_by es))
   pub acked : new.acked ≡ old.acked ++ grouped es
@@ -249,12 +249,12 @@ pub record IsMore (old new : WorldBook) (es : List PlainChange) : Type 0 where
 
 -- the device failed while these changes were being kept
 pub record IsPending (old new : WorldBook) (es : List PlainChange) : Type 0 where
-  pub room : HasRoom old es
+  pub room : BookHasRoom old es
   pub same : new ≡ record old { pending = grouped es }
 
 -- why changes that fit weren't kept, and what that leaves
 abbrev pub IsUnkept : Refusal → WorldBook → WorldBook → List PlainChange → Type 0
-IsUnkept Memory old new es = (new ≡ old) × HasRoom old es
+IsUnkept Memory old new es = (new ≡ old) × BookHasRoom old es
 IsUnkept Fault old new es = IsPending old new es
 IsUnkept why old new es = (new ≡ old) × HasNoRoom why old es
 
@@ -352,13 +352,13 @@ shown_with (Ok r) = Ok r.1
 shown_with (Err e) = Err e
 
 -- what is told of changes to which these replies are due
-abbrev pub told_after : Result Bool Refusal → List Reply → Result (List Reply) Refusal
-told_after (Ok true) due = Ok due
-told_after (Ok false) due = Ok (map as_stored due)
-told_after (Err e) due = Err e
+abbrev pub reported_after : Result Bool Refusal → List Reply → Result (List Reply) Refusal
+reported_after (Ok true) due = Ok due
+reported_after (Ok false) due = Ok (map as_stored due)
+reported_after (Err e) due = Err e
 
 -- `log`: how many changes there are, were acknowledged and are shown. `publish`: all that was acknowledged is shown, unless out of memory.
-abbrev pub IsTold : HistoryCommand → Reply → WorldBook → WorldBook → Type 0
-IsTold Log r old new = (new ≡ old) × (r ≡ Answer (answer.Logged (length (log_in old)) (length (flat old.acked)) old.shown))
-IsTold Publish r old new =
+abbrev pub AnswersHistory : HistoryCommand → Reply → WorldBook → WorldBook → Type 0
+AnswersHistory Log r old new = (new ≡ old) × (r ≡ Answer (answer.Logged (length (log_in old)) (length (flat old.acked)) old.shown))
+AnswersHistory Publish r old new =
     ((r ≡ Answer (answer.Shown (length (flat old.acked)))) × (new ≡ shows_all old)) ⊎ ((r ≡ Refused Memory) × (new ≡ old))

@@ -31,8 +31,8 @@ left_to step before = before
 
 -- A step was taken after these replies and changes, of which the last left `left`: its reply was told, its change noted, and what all leave
 -- is known.
-pub record HasTaken (acked : ℕ) (step : Result ReadyStep Refusal) (told told' : List Reply) (noted noted' : List PlainChange) (left left' : Option PlainNext) : Type 0 where
-  pub replies : (h : CurrentOpening) → length (log_of h) ≡ acked + length noted → told' ≡ told ++ reply_to h (plain step) ∷ []
+pub record HasTaken (acked : ℕ) (step : Result ReadyStep Refusal) (reported reported' : List Reply) (noted noted' : List PlainChange) (left left' : Option PlainNext) : Type 0 where
+  pub replies : (h : CurrentOpening) → length (log_of h) ≡ acked + length noted → reported' ≡ reported ++ reply_to h (plain step) ∷ []
   pub changes : noted' ≡ noted ++ changes_of (plain step)
   pub next : left' ≡ left_to step left
   pub known : plain step ≢ Err Memory

@@ -42,9 +42,9 @@ HaveShown n (Ok answers) = All (λ a. a.1.shown ≡ n) answers
 HaveShown n (Err e) = ⊤
 
 -- a group's result as a list
-abbrev pub told : {X : Type 0} → Result (Vec X Global) Refusal → Result (List X) Refusal
-told (Ok answers) = Ok answers.items
-told (Err e) = Err e
+abbrev pub result_list : {X : Type 0} → Result (Vec X Global) Refusal → Result (List X) Refusal
+result_list (Ok answers) = Ok answers.items
+result_list (Err e) = Err e
 
 -- What a Book answers a group, and what that leaves of the Book and of its device.
 pub record IsGroupCall {D : Type 0} (device : Ghosts D) (old new : PlainBook D) (commands : List Command) (result : Result (List Reply) Refusal) : Type 0 where

@@ -3,13 +3,13 @@
 ghost use Rattle.std.specs.Prelude.{◌≡◌, ℕ, ◌+◌, ◌<◌, ◌≤◌, [], ◌∷◌, ◌++◌, List, All, Ok, true, false, IfOk, IfErr, IfSome, OnOk, OnErr, IsErrOf, MatchBool, MatchResult, length, map, take, slice_get, nat_lt, not, if◌then◌else◌};
 ghost use Rattle.std.specs.{Arc.arc_value, List.list_all, Option.option_map};
 ghost use Rattle.pf_disk.specs.Disk.{IsImage};
-ghost use Rattle.pf_core.specs.declared.reply.Refusal.TheVariants as told;
+ghost use Rattle.pf_core.specs.declared.reply.Refusal.TheVariants as refusals;
 ghost use Rattle.pf_core.specs.{Calls.call, Commands.may_change, Durable.Changes.{PlainDurable, applied, after, fits, verdict}, WorldBooks.{IsAt, IsFolded, StandsFor, Leads}, Cores.left_by, Worlds.{CurrentOpening, idle, calling, begun, upshot, Event, called, opened, is_fault, flat, raised, last_epoch, down, state_after, IsWorld, LegalReply, shown_by}};
 ghost use Rattle.pf_store.specs.declared.store.fault.OpenFault.TheVariants as open_fault;
 ghost use Rattle.pf_store.specs.{Groups.{can_be_wanted, is_group, made_all}, Stores.{FindsRoom, FollowInTurn, HoldsEither}};
 ghost use Rattle.pf_view.specs.Seers.{IsNewSeer, IsNewShower, JudgesBy};
 ghost use Rattle.pf_book.specs.{Courses.{AreReady, KeepsTogether}, Receipts.{IsCall, IsReached}};
-ghost use Rattle.pf_book.specs.Books.{world_book, HoldsLeft, HasRoom, HasNoRoom, left_together, IsMore, IsUnkept, IsUnshown, IsTold, Stays, IsLeft, IsOpenable, KeepsOpening, StaysUnlessKept, UsesDevice, shows_all, change_in, log_in, is_fault_reply, is_fault_result, IsNumbered, IsJudged, IsNamed, setting_of, shown_with, judging};
+ghost use Rattle.pf_book.specs.Books.{world_book, HoldsLeft, BookHasRoom, HasNoRoom, left_together, IsMore, IsUnkept, IsUnshown, AnswersHistory, Stays, IsLeft, IsOpenable, KeepsOpening, StaysUnlessKept, UsesDevice, shows_all, change_in, log_in, is_fault_reply, is_fault_result, IsNumbered, IsJudged, IsNamed, setting_of, shown_with, judging};
 
 mod closed;
 mod groups;
@@ -17,7 +17,7 @@ mod receipts;
 
 use crate::chapter::Chapter;
 use crate::opening::{NamedOpening, Opening};
-use crate::saving::{ChangeGroup, Copies, note_all, prepare, put_all};
+use crate::saving::{ChangeGroup, Copies, note_all, put_all, share_and_reserve};
 use crate::showing::{offer_rest, show_offered};
 pub use closed::Closed;
 use pf_core::{
@@ -188,12 +188,12 @@ impl<D: Disk + Drop, J: Chapter, S: Publisher<J> + Drop> Book<D, J, S> {
     }
 
     // Whether the history and the device have room for changes as one group, which leaves `next`. It makes no call of the device.
-    fn find_room(&self, changes: &[Change], next: &Next) -> Result<(), Refusal>
+    fn refuse_if_full(&self, changes: &[Change], next: &Next) -> Result<(), Refusal>
         requires left { next.now.durable ≡ after self.now.whole.durable changes.now }
         requires group { is_group changes.now ≡ true }
         requires wanted { list_all can_be_wanted changes.now ≡ true }
         requires free { self.now.pending ≡ [] }
-        ensures ok { OnOk result (HasRoom (world_book self.now) changes.now) }
+        ensures ok { OnOk result (BookHasRoom (world_book self.now) changes.now) }
         ensures found { OnOk result (FindsRoom self.now.size self.now.whole.durable next.now.durable changes.now) }
         ensures err { IfErr result (λ e. HasNoRoom e (world_book self.now) changes.now) }
         ensures device { UsesDevice D.Disk false self.now self.now
@@ -215,7 +215,7 @@ impl<D: Disk + Drop, J: Chapter, S: Publisher<J> + Drop> Book<D, J, S> {
     fn save(&mut self, changes: &[Arc<Change>], next: Next) -> Result<(), Refusal>
         requires made { next ≡ left_together self.old.whole.durable (map arc_value changes.now) }
         requires fit { FollowInTurn self.old.whole.durable (made_all (map arc_value changes.now)) }
-        requires room { HasRoom (world_book self.old) (map arc_value changes.now) }
+        requires room { BookHasRoom (world_book self.old) (map arc_value changes.now) }
         requires found { FindsRoom self.old.size self.old.whole.durable next.durable (map arc_value changes.now) }
         requires free { self.old.pending ≡ [] }
         ensures ok { OnOk result (IsMore (world_book self.old) (world_book self.new) (map arc_value changes.now)) }
@@ -228,7 +228,7 @@ impl<D: Disk + Drop, J: Chapter, S: Publisher<J> + Drop> Book<D, J, S> {
             logged,
             noted,
             after,
-        } = prepare(self.alloc, &mut self.log, &mut self.sizes, changes, &next)?;
+        } = share_and_reserve(self.alloc, &mut self.log, &mut self.sizes, changes, &next)?;
         match self
             .store
             .save(self.alloc, self.core.durable(), changes, &after)
@@ -283,7 +283,7 @@ impl<D: Disk + Drop, J: Chapter, S: Publisher<J> + Drop> Book<D, J, S> {
         ensures kept { KeepsTogether D.Disk self.old self.new (C.items changes) (shown_with result) }
         ensures given { IfOk result (λ r. C.shared_items r.0 ≡ C.items changes) }
     {
-        self.find_room(changes.changes(), &next)?;
+        self.refuse_if_full(changes.changes(), &next)?;
         let given = changes.share(self.alloc)?;
         self.save(C::shared(&given), next)?;
         let shown = self.show_all();
@@ -295,7 +295,7 @@ impl<D: Disk + Drop, J: Chapter, S: Publisher<J> + Drop> Book<D, J, S> {
         ensures device { self.new.disk ≡ self.old.disk }
         ensures size { self.new.size ≡ self.old.size }
         ensures generation { self.new.generation ≡ self.old.generation }
-        ensures told { IsTold command result (world_book self.old) (world_book self.new) }
+        ensures reported { AnswersHistory command result (world_book self.old) (world_book self.new) }
     {
         let acked = self.acked as u64;
         match command {

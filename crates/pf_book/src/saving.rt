@@ -84,7 +84,7 @@ pub(crate) struct Copies {
 
 /// Shares changes, which leave `next`, and makes room for them in the log and for their number among the groups' sizes. After `AllocError`
 /// the log and the sizes are as before.
-pub(crate) fn prepare(
+pub(crate) fn share_and_reserve(
     alloc: Global,
     log: &mut Vec<Arc<Change>>,
     sizes: &mut Vec<usize>,

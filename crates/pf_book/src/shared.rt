@@ -2,7 +2,7 @@
 ghost use Rattle.std.specs.{Option.option_copied, Prelude.{◌≡◌, ℕ, IfSome, List, None, Option}};
 ghost use Rattle.pf_disk.specs.Disk.{IsImage};
 ghost use Rattle.pf_core.specs.{WorldBooks.IsAt, Worlds.{CurrentOpening, idle}};
-ghost use Rattle.pf_book.specs.{Anchors.{SaysAnchors, listed_in}, Books.{HoldsLeft, IsOpenable, world_book}, Groups.{IsAnsweredAsAlone, IsGroupAnswered, IsGroupAsAlone, IsGroupOf, told}, Receipts.{IsCall, IsReached, IsAnswered, TakesUp, PlainReceipt}, Statuses.SaysStatus, Together.IsAnsweredTogether};
+ghost use Rattle.pf_book.specs.{Anchors.{SaysAnchors, listed_in}, Books.{HoldsLeft, IsOpenable, world_book}, Groups.{IsAnsweredAsAlone, IsGroupAnswered, IsGroupAsAlone, IsGroupOf, result_list}, Receipts.{IsCall, IsReached, IsAnswered, TakesUp, PlainReceipt}, Statuses.SaysStatus, Together.IsAnsweredTogether};
 
 mod together;
 
@@ -54,8 +54,8 @@ impl<D: Disk + Drop, J: Chapter, S: Publisher<J> + Drop> Locked<D, J, S> {
         commands: &[Command],
         last: Option<&Receipt<J>>,
     ) -> Result<Vec<(Reply, Receipt<J>)>, Refusal>
-        ensures answered { IsGroupAnswered J.base J.setting commands.now (told result) (option_copied last.entry) }
-        ensures group { IsGroupOf D.Disk self.old self.new commands.now (told result) }
+        ensures answered { IsGroupAnswered J.base J.setting commands.now (result_list result) (option_copied last.entry) }
+        ensures group { IsGroupOf D.Disk self.old self.new commands.now (result_list result) }
     {
         let answers = self.book.answer_all(commands, last);
         self.book.between_calls();
@@ -69,8 +69,8 @@ impl<D: Disk + Drop, J: Chapter, S: Publisher<J> + Drop> Locked<D, J, S> {
         commands: &[Command],
     ) -> Option<Result<Vec<(Reply, Receipt<J>)>, Refusal>>
         ensures answered { IfSome result (λ r. (last : Option PlainReceipt) → TakesUp last (world_book self.old)
-            → IsAnsweredAsAlone J.base J.setting commands.now (told r) last) }
-        ensures group { IfSome result (λ r. IsGroupAsAlone D.Disk self.old self.new commands.now (told r)) }
+            → IsAnsweredAsAlone J.base J.setting commands.now (result_list r) last) }
+        ensures group { IfSome result (λ r. IsGroupAsAlone D.Disk self.old self.new commands.now (result_list r)) }
         ensures none { (result ≡ None) → self.new ≡ self.old }
     {
         let Some(answers) = self.book.answer_as_alone(commands) else {
@@ -86,7 +86,7 @@ impl<D: Disk + Drop, J: Chapter, S: Publisher<J> + Drop> Locked<D, J, S> {
         commands: &[Command],
         last: Option<&Receipt<J>>,
     ) -> Option<Result<Vec<(Reply, Receipt<J>)>, Refusal>>
-        ensures { IfSome result (λ r. IsAnsweredAsAlone J.base J.setting commands.now (told r) (option_copied last.entry)) }
+        ensures { IfSome result (λ r. IsAnsweredAsAlone J.base J.setting commands.now (result_list r) (option_copied last.entry)) }
     {
         self.book.look_at(last);
         self.group_as_alone(commands)
@@ -189,7 +189,7 @@ impl<D: Disk + Drop, J: Chapter + Numbering, S: Publisher<J> + Drop> Shared<D, J
         commands: &[Command],
         last: Option<&Receipt<J>>,
     ) -> Result<Vec<(Reply, Receipt<J>)>, Refusal>
-        ensures { IsGroupAnswered J.base J.setting commands.now (told result) (option_copied last.entry) }
+        ensures { IsGroupAnswered J.base J.setting commands.now (result_list result) (option_copied last.entry) }
     {
         let turn = self.queue.come(rt);
         let answers = self.queue.value(rt).group(commands, last);
@@ -206,7 +206,7 @@ impl<D: Disk + Drop, J: Chapter + Numbering, S: Publisher<J> + Drop> Shared<D, J
         commands: &[Command],
         last: Option<&Receipt<J>>,
     ) -> Option<Result<Vec<(Reply, Receipt<J>)>, Refusal>>
-        ensures { IfSome result (λ r. IsAnsweredAsAlone J.base J.setting commands.now (told r) (option_copied last.entry)) }
+        ensures { IfSome result (λ r. IsAnsweredAsAlone J.base J.setting commands.now (result_list r) (option_copied last.entry)) }
     {
         let turn = self.queue.come(rt);
         let answers = self.queue.value(rt).group_as_alone_after(commands, last);

@@ -41,6 +41,6 @@ last_of xs k x within here =
     let next : length xs - 1 - k + 1 ≡ length xs - k = omega arith in
     ap (λ (n : ℕ). drop n xs) first ∙ drop_item xs (length xs - 1 - k) x (omega arith) here ∙ ap (λ (n : ℕ). x ∷ drop n xs) next
 
-pub more_behind : (xs ys : List Word) (k : ℕ) (x y : Word) → k < length xs → k < length ys → x ≡ get_or xs (length xs - 1 - k) x → y ≡ get_or ys (length ys - 1 - k) y → x ≡ y → drop (length xs - k) xs ≡ drop (length ys - k) ys → drop (length xs - (k + 1)) xs ≡ drop (length ys - (k + 1)) ys
-more_behind xs ys k x y in_xs in_ys at_xs at_ys same so_far =
+pub more_after : (xs ys : List Word) (k : ℕ) (x y : Word) → k < length xs → k < length ys → x ≡ get_or xs (length xs - 1 - k) x → y ≡ get_or ys (length ys - 1 - k) y → x ≡ y → drop (length xs - k) xs ≡ drop (length ys - k) ys → drop (length xs - (k + 1)) xs ≡ drop (length ys - (k + 1)) ys
+more_after xs ys k x y in_xs in_ys at_xs at_ys same so_far =
     last_of xs k x in_xs at_xs ∙ ap (λ (z : Word). z ∷ drop (length xs - k) xs) same ∙ ap (λ (l : List Word). y ∷ l) so_far ∙ sym (last_of ys k y in_ys at_ys)

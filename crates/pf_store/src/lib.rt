@@ -26,12 +26,12 @@
 //! the next one is neither proved nor tested.
 #![tactic(auto)]
 
-pub mod groups;
+pub mod encoding;
 mod limits;
 pub mod snapshots;
 pub mod store;
 
-pub use groups::{AsChange, GroupFault, Recorded, read_group, write_group};
+pub use encoding::{AsChange, GroupFault, Recorded, read_group, write_group};
 pub use limits::{AROUND, OPENING_RECORD, ROOM_KEPT, ROOM_TO_OPEN};
 pub use pf_snap::FormatFault;
 pub use snapshots::{read_durable, write_durable};

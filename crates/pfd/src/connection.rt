@@ -86,7 +86,7 @@ impl Connection {
     }
 
     /// Serves it from where it is, by what calls a Book, until a pause or its end. A connection that paused goes on in the next opening.
-    pub(crate) fn serve<C: CallBook<J> + AskBook<J>, J: Chapter, G: Gate, P: Pause>(
+    pub(crate) fn carry_on<C: CallBook<J> + AskBook<J>, J: Chapter, G: Gate, P: Pause>(
         &mut self,
         alloc: Global,
         book: &C,
@@ -213,9 +213,9 @@ impl Connection {
                 patience: self.arrival.patience,
                 pause,
             };
-            let told = turn_away(&mut writer);
+            let reported = turn_away(&mut writer);
             self.unsent = writer.into_unsent();
-            told?;
+            reported?;
         }
         match stage_of(alloc, way, self.number) {
             Ok(stage) => {
@@ -247,7 +247,7 @@ impl Connection {
             patience: self.arrival.patience,
             pause,
         };
-        let left = serve_stage(
+        let left = carry_on_stage(
             alloc,
             &mut self.stage,
             &mut reader,
@@ -340,7 +340,7 @@ fn stage_of(alloc: Global, way: Way, number: u32) -> Result<Stage, AllocError>
 }
 
 // Serves what a connection sends, from where it is until a pause or its reader's end.
-fn serve_stage<C: CallBook<J> + AskBook<J>, J: Chapter, G: Gate, P: Pause, R: Read, O: Write>(
+fn carry_on_stage<C: CallBook<J> + AskBook<J>, J: Chapter, G: Gate, P: Pause, R: Read, O: Write>(
     alloc: Global,
     stage: &mut Stage,
     reader: &mut R,

@@ -2,7 +2,7 @@
 ghost use Rattle.std.specs.{Arc.arc_value, Prelude.{◌≡◌, ◌↔◌, ◌++◌, ◌∷◌, [], ℕ, List, Err, IfOk, IfErr, IsTrue, length, map, take, nat_lt, fold}};
 ghost use Rattle.pf_disk.specs.Disk.{IsImage};
 ghost use Rattle.pf_core.specs.Refusing.{and_then, unless};
-ghost use Rattle.pf_core.specs.declared.reply.Refusal.TheVariants as told;
+ghost use Rattle.pf_core.specs.declared.reply.Refusal.TheVariants as refusals;
 ghost use Rattle.pf_core.specs.{Calls.replies_in, Commands.group_words, Durable.Changes.{PlainDurable, after}, WorldBooks.{IsAt, StandsFor}, Worlds.{CurrentOpening, idle, grouping, upshot, Event, called_group, changes_due, is_halted, flat, LegalReplies, shown_by}};
 ghost use Rattle.pf_book.specs.{Courses.{FindRoomEach, IsPlanned}, Groups.IsGroupCall};
 ghost use Rattle.pf_book.specs.Books.{world_book, HoldsLeft, listed, replied, AreNumbered, IsLeft, KeepsOpening, StaysUnlessAnyKept, UsesDevice, is_fault_result};
@@ -28,7 +28,7 @@ fn alone(answer: Result<(Vec<Reply>, Vec<Arc<Change>>), Refusal>) -> Result<Vec<
 impl<D: Disk + Drop, J: Chapter, S: Publisher<J> + Drop> Book<D, J, S> {
     // Whether a group may begin: none is pending, and the number and the kinds of its commands are allowed.
     fn check_all(&self, commands: &[Command]) -> Result<(), Refusal>
-        ensures { result ≡ and_then (unless (is_halted self.now.pending) told.Halted) (group_words commands.now) }
+        ensures { result ≡ and_then (unless (is_halted self.now.pending) refusals.Halted) (group_words commands.now) }
     {
         if self.acked < self.log.len() {
             return Err(Refusal::Halted);

@@ -3,7 +3,7 @@ ghost use Rattle.std.specs.Prelude.{All, ◌≡◌, ◌<◌, ◌≤◌, ◌↔�
 ghost use Rattle.std.specs.{Arc.arc_value, List.AllByRecursion, Option.{ForSome, option_copied, option_map}, Vec.Iter.into_iter_items};
 ghost use mathlib.Core.List.{IsPrefix};
 ghost use Rattle.pf_core.specs.Worlds.{flat};
-ghost use Rattle.pf_book.specs.{Courses.IsPlanned, Groups.{told, IsGroupAsAlone, IsGroupOf}, Pairs.{behind, is_kept, given_to, kept_count, left_behind, paired}, Books.{world_book, log_in}, Receipts.{token_of, receipt_of, Confirms, EndsIn, IsCall, TakesUp, ShownFits}};
+ghost use Rattle.pf_book.specs.{Courses.IsPlanned, Groups.{result_list, IsGroupAsAlone, IsGroupOf}, Pairs.{count_after, is_kept, given_to, kept_count, given_after, paired}, Books.{world_book, log_in}, Receipts.{token_of, receipt_of, Confirms, EndsIn, IsCall, TakesUp, ShownFits}};
 
 use crate::book::Book;
 use crate::chapter::Chapter;
@@ -37,9 +37,9 @@ fn is_kept(reply: &Reply) -> bool
 }
 
 // How many changes the history has after a reply, if it had `before` of them before it.
-fn behind(reply: &Reply, before: usize) -> usize
+fn count_after(reply: &Reply, before: usize) -> usize
     requires { before < 2 ^ 63 }
-    ensures { result ≡ behind reply.now before }
+    ensures { result ≡ count_after reply.now before }
 {
     if is_kept(reply) { before + 1 } else { before }
 }
@@ -47,7 +47,7 @@ fn behind(reply: &Reply, before: usize) -> usize
 // The next of the changes that are given to replies in turn, if this reply kept one.
 fn give(reply: &Reply, given: &mut IntoIter<Arc<Change>>) -> Option<Arc<Change>>
     ensures given { option_map arc_value result ≡ given_to reply.now (map arc_value (into_iter_items given.old)) }
-    ensures left { map arc_value (into_iter_items given.new) ≡ left_behind reply.now (map arc_value (into_iter_items given.old)) }
+    ensures left { map arc_value (into_iter_items given.new) ≡ given_after reply.now (map arc_value (into_iter_items given.old)) }
 {
     if is_kept(reply) { given.next() } else { None }
 }
@@ -75,7 +75,7 @@ impl<D: Disk + Drop, J: Chapter, S: Publisher<J> + Drop> Book<D, J, S> {
         commands: &[Command],
         last: Option<&Receipt<J>>,
     ) -> Result<Vec<(Reply, Receipt<J>)>, Refusal>
-        ensures group { IsGroupOf D.Disk self.old self.new commands.now (told result) }
+        ensures group { IsGroupOf D.Disk self.old self.new commands.now (result_list result) }
         ensures last { TakesUp (option_copied last.entry) (world_book self.old) }
     {
         self.look_at(last);
@@ -91,7 +91,7 @@ impl<D: Disk + Drop, J: Chapter, S: Publisher<J> + Drop> Book<D, J, S> {
         &mut self,
         commands: &[Command],
     ) -> Option<Result<Vec<(Reply, Receipt<J>)>, Refusal>>
-        ensures group { IfSome result (λ r. IsGroupAsAlone D.Disk self.old self.new commands.now (told r)) }
+        ensures group { IfSome result (λ r. IsGroupAsAlone D.Disk self.old self.new commands.now (result_list r)) }
         ensures none { (result ≡ None) → self.new ≡ self.old }
     {
         match self.plan(commands) {
@@ -113,7 +113,7 @@ impl<D: Disk + Drop, J: Chapter, S: Publisher<J> + Drop> Book<D, J, S> {
         course: Course,
     ) -> Result<Vec<(Reply, Receipt<J>)>, Refusal>
         requires { IsPlanned (world_book self.old) commands.now course.replies.items course.changes.items course.next }
-        ensures { IsGroupOf D.Disk self.old self.new commands.now (told result) }
+        ensures { IsGroupOf D.Disk self.old self.new commands.now (result_list result) }
     {
         let answers = Vec::with_capacity(self.alloc, commands.len())?;
         let before = self.log.len();
@@ -199,7 +199,7 @@ impl<D: Disk + Drop, J: Chapter, S: Publisher<J> + Drop> Book<D, J, S> {
         let mut seq = before;
         for reply in replies {
             let change = give(&reply, &mut given);
-            seq = behind(&reply, seq);
+            seq = count_after(&reply, seq);
             let receipt = self.receipt(seq, &reply, change);
             answers.push_reserved((reply, receipt));
         }

@@ -4,8 +4,8 @@ use Rattle.pf_core.specs.declared.reply.{Outcome.Outcome, Reply.Reply, Reply.The
 use Rattle.pf_core.specs.declared.{command.Command.{Command, TheVariants.History}, reply.Answer.TheVariants.Judged, step.Step.TheVariants.{Wants}}
 use Rattle.pf_core.specs.{Calls.call, Commands.{may_change, step_by, takes_memory}, Durable.Changes.{PlainChange, verdict}, Laws.Wanted.left_is, WorldBooks.WorldBook, Cores.{IsMade, PlainCore, plain}, Worlds.{calling, flat, grouping}}
 use Rattle.pf_core.specs.declared.step.ReadyStep.TheVariants as made
-use Rattle.pf_book.specs.{Books.{PlainBook, book_of, world_book, world_book_of, IsBook, IsTold}, Courses.{IsPlanned, KeepsTogether}, Receipts.IsCall}
-use Rattle.pf_book.proofs.Calling.{with_core, IsFree, Steps, unchanging, none-behind, no-fault, not-more, answer-leads, halted-leads, refusal-leads, judged-by, refused-call, told-call, err-not-fault, wants-free}
+use Rattle.pf_book.specs.{Books.{PlainBook, book_of, world_book, world_book_of, IsBook, AnswersHistory}, Courses.{IsPlanned, KeepsTogether}, Receipts.IsCall}
+use Rattle.pf_book.proofs.Calling.{with_core, IsFree, Steps, unchanging, none-pending, no-fault, not-more, answer-leads, halted-leads, refusal-leads, judged-by, refused-call, reported-call, err-not-fault, wants-free}
 use Rattle.pf_book.proofs.BookInvariant.{stepped-book}
 use Rattle.pf_book.proofs.{Grouping.{made-call, ready}, OpenedBooks.{parts, acked-of, disk-of, core-of, left-in, quiet-of, rests-of, all-of}, Single.{change_after, one-call, planned-one, reply_after}}
 use Rattle.pf_book.proofs.book.Book.call.Given.{Over}
@@ -38,7 +38,7 @@ module _ (g : Over) (c : After-step_ready g) where
       let counted : c.len.result ≡ length (map arc_value c.self.inside.log.items) = grind (arith, common_steps, c.len.ensures) in
       elim c.else-self-len.branch [
         | else-self-len-via-then-self-len+else-may_change w ↦ unchanging (world_book_of (parts c.self.invariant)) c.args.command.now (sym w.may_change.ensures ∙ w.if-may_change.false)
-        | else-self-len-via-else-self-len w ↦ none-behind (parts c.self.invariant) c.args.command.now c.self.invariant.low (omega (arith, counted, w.if-self-len.false))
+        | else-self-len-via-else-self-len w ↦ none-pending (parts c.self.invariant) c.args.command.now c.self.invariant.low (omega (arith, counted, w.if-self-len.false))
       ]
 
 pub invariant_of-self : goal.invariant_of-self
@@ -151,10 +151,10 @@ returns-in-Ok-OfHistory g c =
     let f = c.answer_history.ensures in
     let e = rw c.in-Ok-OfHistory.field-0-is at c.in-Ok-OfHistory.ensures in
     let asked : k ≡ History c.in-Ok-OfHistory.command = left_is c.self.inside.core.tickets c.self.inside.core.durable k c.in-Ok-OfHistory.command (sym (e.reply.0 (λ m. cc (m)))) in
-    let told : IsTold c.in-Ok-OfHistory.command c.answer_history.result (world_book now) (world_book new) =
-    subst (λ (l : PlainBook g.row.D.Denot). IsTold c.in-Ok-OfHistory.command c.answer_history.result (world_book l) (world_book new)) (core-of i c.self.view_is c.step_ready.new.self e.left) f.told in
+    let reported : AnswersHistory c.in-Ok-OfHistory.command c.answer_history.result (world_book now) (world_book new) =
+    subst (λ (l : PlainBook g.row.D.Denot). AnswersHistory c.in-Ok-OfHistory.command c.answer_history.result (world_book l) (world_book new)) (core-of i c.self.view_is c.step_ready.new.self e.left) f.reported in
     subst (λ (x : Command). IsCall g.D.Disk now new x c.answer_history.result None) (sym asked)
-    (told-call now new c.in-Ok-OfHistory.command c.answer_history.result told (f.device ∙ sym (disk-of i c.self.view_is))
+    (reported-call now new c.in-Ok-OfHistory.command c.answer_history.result reported (f.device ∙ sym (disk-of i c.self.view_is))
     (quiet-of g.D.Disk i c.self.view_is (g.met.D.Disk.only_now c.self.inside.store.disk) (left-in i c.self.view_is (calling (History c.in-Ok-OfHistory.command))) new f.device f.generation f.size))
 
 pub returns-in-Err : goal.returns-in-Err

@@ -2,7 +2,7 @@ use Rattle.std.proofs.Common.{◌≡◌, ◌∙◌, Bool, true, false, Result, L
 use Rattle.std.proofs.lemmas.List.{length-map, drop_all, take_all}
 use Rattle.std.specs.{Arc.arc_value}
 use Rattle.pf_core.specs.{declared.reply.{Refusal.Refusal, Reply.Reply}, Worlds.{as_stored, grouping}}
-use Rattle.pf_book.specs.{Books.{told_after, UsesDevice, IsLeft, world_book}, Courses.{IsPlanned, KeepsTogether}, Groups.IsGroupCall}
+use Rattle.pf_book.specs.{Books.{reported_after, UsesDevice, IsLeft, world_book}, Courses.{IsPlanned, KeepsTogether}, Groups.IsGroupCall}
 use Rattle.pf_book.proofs.{Grouping.{changes-are, made-call, nothing-due, ready, unchanged-call}, OpenedBooks.{rests-of, left-in}}
 use Rattle.pf_book.proofs.book.Book.finish.Given.{Over}
 use Rattle.pf_book.proofs.book.Book.finish.Goals.{After-make, After-self}
@@ -27,7 +27,7 @@ module _ (g : Over) (c : After-make g) where
   plan : IsPlanned (world_book c.args.self.now) c.args.commands.now c.args.course.replies.items c.args.course.changes.items (Some c.in-Some.next)
   plan = subst (λ next. IsPlanned (world_book c.args.self.now) c.args.commands.now c.args.course.replies.items c.args.course.changes.items next) c.in-Some.is c.requires
 
-  made : (shown : Result Bool Refusal) → KeepsTogether g.D.Disk c.args.self.now c.make.new.self c.args.course.changes.items shown → IsGroupCall g.D.Disk c.args.self.now c.make.new.self c.args.commands.now (told_after shown c.args.course.replies.items)
+  made : (shown : Result Bool Refusal) → KeepsTogether g.D.Disk c.args.self.now c.make.new.self c.args.course.changes.items shown → IsGroupCall g.D.Disk c.args.self.now c.make.new.self c.args.commands.now (reported_after shown c.args.course.replies.items)
   made = made-call c.args.self.now c.make.new.self c.args.commands.now c.args.course.replies.items c.args.course.changes.items plan
       (rests-of g.D.Disk c.self.invariant c.self.view_is (g.met.D.Disk.only_now c.self.inside.store.disk) (left-in c.self.invariant c.self.view_is (grouping c.args.commands.now)))
 
@@ -44,13 +44,13 @@ returns-then-shown-clause-given g c h at = c.in-Ok.ensures.given ∙ changes-are
 pub returns-else-shown-clause-call : goal.returns-else-shown-clause-call
 returns-else-shown-clause-call g c =
     let items : List Reply = c.args.course.replies.items in
-    let told : List Reply = c.all_stored.new.replies in
+    let reported : List Reply = c.all_stored.new.replies in
     let len : ℕ = c.args.course.replies.len in
-    let stored : told ≡ map as_stored items = c.all_stored.ensures ∙ ap (map as_stored) c.deref_mut.ensures.value in
-    let long : length told ≡ length items = ap length stored ∙ length-map items as_stored in
+    let stored : reported ≡ map as_stored items = c.all_stored.ensures ∙ ap (map as_stored) c.deref_mut.ensures.value in
+    let long : length reported ≡ length items = ap length stored ∙ length-map items as_stored in
     let whole : length items ≡ len = ap length (sym c.deref_mut.ensures.value) ∙ c.deref_mut.ensures.len in
-    let all : take len (told ++ drop (length told) items) ≡ map as_stored items =
-    ap (λ (l : List Reply). take len (told ++ l)) (drop_all (length told) items (omega (arith, long))) ∙ ap (take len) (append-nil told) ∙ take_all len told (omega (arith, long, whole)) ∙ stored in
+    let all : take len (reported ++ drop (length reported) items) ≡ map as_stored items =
+    ap (λ (l : List Reply). take len (reported ++ l)) (drop_all (length reported) items (omega (arith, long))) ∙ ap (take len) (append-nil reported) ∙ take_all len reported (omega (arith, long, whole)) ∙ stored in
     subst (λ (rs : List Reply). IsGroupCall g.D.Disk c.args.self.now c.make.new.self c.args.commands.now (Ok rs)) (sym all)
     (made g (goal.at.returns-else-shown-clause-call g c).After-make (Ok false) (subst (λ (x : Bool). KeepsTogether g.D.Disk c.args.self.now c.make.new.self c.args.course.changes.items (Ok x)) c.if-shown.false c.in-Ok.ensures.kept))
 

@@ -2,46 +2,46 @@ use Rattle.std.proofs.{Common.{◌≡◌, List, map, refl, sym, ap, ◌∙◌, s
 use Rattle.std.specs.{Arc.arc_value, List.list_all}
 use Rattle.pf_core.specs.{Durable.Changes.{PlainChange, after}, Nexts.PlainNext, Worlds.is_fault}
 use Rattle.pf_store.specs.{Groups.{can_be_wanted, is_group, made_all}, Stores.{FindsRoom, FollowInTurn, HoldsEither}}
-use Rattle.pf_book.specs.Books.{HasRoom, HasNoRoom, IsMore, IsUnkept, UsesDevice, left_together, world_book}
+use Rattle.pf_book.specs.Books.{BookHasRoom, HasNoRoom, IsMore, IsUnkept, UsesDevice, left_together, world_book}
 use Rattle.pf_book.proofs.{Finding.{kept-then, unroomed}, Openable.uses-then}
 use Rattle.pf_book.proofs.book.Book.make.Given.{Over}
-use Rattle.pf_book.proofs.book.Book.make.Goals.{After-find_room, After-shared}
+use Rattle.pf_book.proofs.book.Book.make.Goals.{After-refuse_if_full, After-shared}
 use Rattle.pf_book.proofs.book.Book.make.Goals as goal
 
-pub find_room-requires-clause-left : goal.find_room-requires-clause-left
-find_room-requires-clause-left g c = ap (λ (r : PlainNext). r.durable) c.requires.left_is ∙ ap (after c.args.self.now.whole.durable) (sym c.changes.ensures)
+pub refuse_if_full-requires-clause-left : goal.refuse_if_full-requires-clause-left
+refuse_if_full-requires-clause-left g c = ap (λ (r : PlainNext). r.durable) c.requires.left_is ∙ ap (after c.args.self.now.whole.durable) (sym c.changes.ensures)
 
-pub find_room-requires-clause-group : goal.find_room-requires-clause-group
-find_room-requires-clause-group g c = subst (λ (es : List PlainChange). is_group es ≡ true) (sym c.changes.ensures) c.requires.group
+pub refuse_if_full-requires-clause-group : goal.refuse_if_full-requires-clause-group
+refuse_if_full-requires-clause-group g c = subst (λ (es : List PlainChange). is_group es ≡ true) (sym c.changes.ensures) c.requires.group
 
-pub find_room-requires-clause-wanted : goal.find_room-requires-clause-wanted
-find_room-requires-clause-wanted g c = subst (λ (es : List PlainChange). list_all can_be_wanted es ≡ true) (sym c.changes.ensures) c.requires.wanted
+pub refuse_if_full-requires-clause-wanted : goal.refuse_if_full-requires-clause-wanted
+refuse_if_full-requires-clause-wanted g c = subst (λ (es : List PlainChange). list_all can_be_wanted es ≡ true) (sym c.changes.ensures) c.requires.wanted
 
-pub find_room-requires-clause-free : goal.find_room-requires-clause-free
-find_room-requires-clause-free g c = c.requires.none
+pub refuse_if_full-requires-clause-free : goal.refuse_if_full-requires-clause-free
+refuse_if_full-requires-clause-free g c = c.requires.none
 
 -- no call of the device was made so far
-quiet : (g : Over) (c : After-find_room g) → UsesDevice g.D.Disk false c.args.self.now c.args.self.now (HoldsEither c.args.self.now.whole.durable (after c.args.self.now.whole.durable (g.C.ChangeGroup.items c.args.changes)))
+quiet : (g : Over) (c : After-refuse_if_full g) → UsesDevice g.D.Disk false c.args.self.now c.args.self.now (HoldsEither c.args.self.now.whole.durable (after c.args.self.now.whole.durable (g.C.ChangeGroup.items c.args.changes)))
 quiet g c =
     let now = c.args.self.now in
-    subst (λ (es : List PlainChange). UsesDevice g.D.Disk false now now (HoldsEither now.whole.durable (after now.whole.durable es))) c.changes.ensures c.find_room.ensures.device
+    subst (λ (es : List PlainChange). UsesDevice g.D.Disk false now now (HoldsEither now.whole.durable (after now.whole.durable es))) c.changes.ensures c.refuse_if_full.ensures.device
 
-pub returns-in_err-find_room-clause-kept : goal.returns-in_err-find_room-clause-kept
-returns-in_err-find_room-clause-kept g c =
-    let why = c.in_err-find_room.field-0.0 in
+pub returns-in_err-refuse_if_full-clause-kept : goal.returns-in_err-refuse_if_full-clause-kept
+returns-in_err-refuse_if_full-clause-kept g c =
+    let why = c.in_err-refuse_if_full.field-0.0 in
     let now = c.args.self.now in
     let p = err_from_is_err_and c.from_residual.result c.from_residual.ensures.1 in
-    rw (p.1, p.2) (unroomed now why (g.C.ChangeGroup.items c.args.changes) (subst (HasNoRoom why (world_book now)) c.changes.ensures c.in_err-find_room.ensures.err) (quiet g (goal.at.returns-in_err-find_room-clause-kept g c).After-find_room))
+    rw (p.1, p.2) (unroomed now why (g.C.ChangeGroup.items c.args.changes) (subst (HasNoRoom why (world_book now)) c.changes.ensures c.in_err-refuse_if_full.ensures.err) (quiet g (goal.at.returns-in_err-refuse_if_full-clause-kept g c).After-refuse_if_full))
 
-pub returns-in_err-find_room-clause-given : goal.returns-in_err-find_room-clause-given
-returns-in_err-find_room-clause-given g c = let p = err_from_is_err_and c.from_residual.result c.from_residual.ensures.1 in rw (p.1) tt
+pub returns-in_err-refuse_if_full-clause-given : goal.returns-in_err-refuse_if_full-clause-given
+returns-in_err-refuse_if_full-clause-given g c = let p = err_from_is_err_and c.from_residual.result c.from_residual.ensures.1 in rw (p.1) tt
 
 pub returns-in_err-given-clause-kept : goal.returns-in_err-given-clause-kept
 returns-in_err-given-clause-kept g c =
     let p = err_from_is_err_and c.from_residual-in_err-given.result c.from_residual-in_err-given.ensures.1 in
     rw (p.1, p.2) (record {
-      kept = (refl, subst (HasRoom (world_book c.args.self.now)) c.changes.ensures c.in_ok-find_room.ensures.ok);
-      uses = quiet g (goal.at.returns-in_err-given-clause-kept g c).After-find_room;
+      kept = (refl, subst (BookHasRoom (world_book c.args.self.now)) c.changes.ensures c.in_ok-refuse_if_full.ensures.ok);
+      uses = quiet g (goal.at.returns-in_err-given-clause-kept g c).After-refuse_if_full;
       still = λ why is calm. refl;
     })
 
@@ -59,12 +59,12 @@ pub save-requires-clause-fit : goal.save-requires-clause-fit
 save-requires-clause-fit g c = subst (λ (es : List PlainChange). FollowInTurn c.args.self.now.whole.durable (made_all es)) (sym (shared g (goal.at.save-requires-clause-fit g c).After-shared)) c.requires.fit
 
 pub save-requires-clause-room : goal.save-requires-clause-room
-save-requires-clause-room g c = subst (HasRoom (world_book c.args.self.now)) (c.changes.ensures ∙ sym (shared g (goal.at.save-requires-clause-room g c).After-shared)) c.in_ok-find_room.ensures.ok
+save-requires-clause-room g c = subst (BookHasRoom (world_book c.args.self.now)) (c.changes.ensures ∙ sym (shared g (goal.at.save-requires-clause-room g c).After-shared)) c.in_ok-refuse_if_full.ensures.ok
 
 pub save-requires-clause-found : goal.save-requires-clause-found
 save-requires-clause-found g c =
     let l = c.args.self.now in
-    subst (FindsRoom l.size l.whole.durable c.args.next.durable) (c.changes.ensures ∙ sym (shared g (goal.at.save-requires-clause-found g c).After-shared)) c.in_ok-find_room.ensures.found
+    subst (FindsRoom l.size l.whole.durable c.args.next.durable) (c.changes.ensures ∙ sym (shared g (goal.at.save-requires-clause-found g c).After-shared)) c.in_ok-refuse_if_full.ensures.found
 
 pub save-requires-clause-free : goal.save-requires-clause-free
 save-requires-clause-free g c = c.requires.none
