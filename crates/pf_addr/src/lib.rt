@@ -2,7 +2,7 @@
 //! out.
 //!
 //! The modules at the root: `addr` and `net` (addresses; networks and what they contain), `fault` (what is wrong with a text), `reading`
-//! and `groups` (reading texts, IPv4 and IPv6), `write` (writing them), `net_form` (bytes), `net_key` (networks as keys of
+//! and `ipv6_text` (reading texts, IPv4 and IPv6), `write` (writing them), `net_form` (bytes), `net_key` (networks as keys of
 //! maps). `path` has names, paths and references, their bytes and keys. `path` uses no other module; the modules at the root don't use
 //! `path`; `laws` may use all.
 //!
