@@ -3,7 +3,7 @@ use Rattle.std.proofs.{Common.{◌≡◌, ℕ, ◌+◌, ◌-◌, ◌<◌, ◌≤
 use Rattle.std.specs.{Prelude.{◌⊎◌, ◌≢◌, nat_le}, Int.{from_be_bytes, w32}}
 use Rattle.pf_addr.specs.{Collected.{parts_of, parts_kept, eight_groups, groups_of, groups_kept, last_kept}, Grammar.{v6_number, two_groups}, Reading.{parts_at, v4_of, v4_at, has, group_at, end_at, groups_at, v6_of, v6_around, gap, v6_at}}
 use Rattle.pf_form.specs.Form.Forms.{◌>>=◌}
-use Rattle.pf_addr.specs.declared.{fault.AddrFault.AddrFault, fault.AddrFault.TheVariants.BadGroups, groups.Groups.Groups, reading.Parts.Parts}
+use Rattle.pf_addr.specs.declared.{fault.AddrFault.AddrFault, fault.AddrFault.TheVariants.BadGroups, ipv6_text.Groups.Groups, reading.Parts.Parts}
 
 -- ---- what was kept of what was read
 

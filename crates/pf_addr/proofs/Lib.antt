@@ -8,6 +8,6 @@ pub mod Numbers
 pub mod ClearedBits
 pub mod Writers
 pub mod Addresses
-pub mod FaultsTold
-pub mod NameFaultsTold
+pub mod FaultsReported
+pub mod NameFaultsReported
 pub mod FirstBytes

@@ -40,8 +40,8 @@ child_found p q rest x some begins slash = child_is p q x (begins ∙ ap (λ (r 
 pub not_within : (p q : List ℕ) → (length p == 0) ≡ false → ((rest : List ℕ) → q ≢ p ++ rest) → is_child p q ≡ false
 not_within p q some none = no_child p q (λ x is. none (47 ∷ x) (is ∙ within_some p x some))
 
-pub no_slash_behind : (p q rest : List ℕ) → (length p == 0) ≡ false → q ≡ p ++ rest → ((x : List ℕ) → rest ≢ 47 ∷ x) → is_child p q ≡ false
-no_slash_behind p q rest some begins none =
+pub no_slash_after : (p q rest : List ℕ) → (length p == 0) ≡ false → q ≡ p ++ rest → ((x : List ℕ) → rest ≢ 47 ∷ x) → is_child p q ≡ false
+no_slash_after p q rest some begins none =
     no_child p q (λ x is. none x (append_cancel_left p rest (47 ∷ x) (sym begins ∙ is ∙ within_some p x some)))
 
 -- ---- depth

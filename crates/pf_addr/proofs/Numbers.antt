@@ -3,11 +3,11 @@ use Rattle.std.proofs.{Common.{◌≡◌, ℕ, ◌+◌, ◌-◌, ◌<◌, ◌≤
 use Rattle.std.specs.List.{slice_split, position}
 use Rattle.pf_addr.specs.{Collected.{parts_of, eight_groups, groups_of}, Grammar.{pieces, four_bytes}, Reading.{One, Last, pieces_at}, Laws.Places.{split_some, split_none}}
 use Rattle.pf_form.specs.Form.Forms.{◌>>=◌}
-use Rattle.pf_addr.specs.declared.{fault.AddrFault.AddrFault, groups.Groups.Groups, reading.Parts.Parts}
+use Rattle.pf_addr.specs.declared.{fault.AddrFault.AddrFault, ipv6_text.Groups.Groups, reading.Parts.Parts}
 
 -- what is read, and stored by `make`, if these numbers come before the rest, which begins at `at`
-abbrev pub behind : {S : Type 0} → One → Last → ℕ → (List ℕ → S) → List ℕ → ℕ → List ℕ → Result S AddrFault
-behind one last c make done at rest = pieces_at one last at (slice_split (λ b. b == c) rest) >>= λ ns. Ok (make (done ++ ns))
+abbrev pub read_after : {S : Type 0} → One → Last → ℕ → (List ℕ → S) → List ℕ → ℕ → List ℕ → Result S AddrFault
+read_after one last c make done at rest = pieces_at one last at (slice_split (λ b. b == c) rest) >>= λ ns. Ok (make (done ++ ns))
 
 regrouped : {S : Type 0} (make : List ℕ → S) (done : List ℕ) (first : Result ℕ AddrFault) (others : Result (List ℕ) AddrFault) → (first >>= (λ n. others >>= λ ns. Ok (n ∷ ns)) >>= λ ns. Ok (make (done ++ ns))) ≡ (first >>= λ n. others >>= λ ns. Ok (make ((done ++ n ∷ []) ++ ns)))
 regrouped make done (Err e) others = refl
@@ -20,23 +20,23 @@ step one last at p [] lt = absurd (omega arith)
 step one last at p (q ∷ ps) lt = refl
 
 -- A piece is read, and then the rest after its separator.
-pub behind_piece : {S : Type 0} (one : One) (last : Last) (c : ℕ) (make : List ℕ → S) (done : List ℕ) (at : ℕ) (rest : List ℕ) (i : ℕ) (r : Result ℕ AddrFault) → position (λ b. b == c) rest ≡ Some i → i < length rest → r ≡ one at (take i rest) → behind one last c make done at rest ≡ (r >>= λ n. behind one last c make (done ++ n ∷ []) (at + (i + 1)) (drop (i + 1) rest))
-behind_piece one last c make done at rest i r place lt is =
+pub read_piece_after : {S : Type 0} (one : One) (last : Last) (c : ℕ) (make : List ℕ → S) (done : List ℕ) (at : ℕ) (rest : List ℕ) (i : ℕ) (r : Result ℕ AddrFault) → position (λ b. b == c) rest ≡ Some i → i < length rest → r ≡ one at (take i rest) → read_after one last c make done at rest ≡ (r >>= λ n. read_after one last c make (done ++ n ∷ []) (at + (i + 1)) (drop (i + 1) rest))
+read_piece_after one last c make done at rest i r place lt is =
     let next : at + length (take i rest) + 1 ≡ at + (i + 1) = omega (arith, length-take-le i rest (omega arith)) in
     let others : List (List ℕ) = slice_split (λ b. b == c) (drop (i + 1) rest) in
     let some : 0 < length others = omega (arith, length-slice_split (λ b. b == c) (drop (i + 1) rest)) in
     rw (split_some (λ b. b == c) rest i place, step one last at (take i rest) others some, ← is, next) (regrouped make done r (pieces_at one last (at + (i + 1)) others))
 
-pub behind_last : {S : Type 0} (one : One) (last : Last) (c : ℕ) (make : List ℕ → S) (done : List ℕ) (at : ℕ) (rest : List ℕ) → position (λ b. b == c) rest ≡ None → behind one last c make done at rest ≡ (last at rest >>= λ ns. Ok (make (done ++ ns)))
+pub read_last_after : {S : Type 0} (one : One) (last : Last) (c : ℕ) (make : List ℕ → S) (done : List ℕ) (at : ℕ) (rest : List ℕ) → position (λ b. b == c) rest ≡ None → read_after one last c make done at rest ≡ (last at rest >>= λ ns. Ok (make (done ++ ns)))
 unfolding pieces_at
-behind_last one last c make done at rest place = rw (split_none (λ b. b == c) rest place) refl
+read_last_after one last c make done at rest place = rw (split_none (λ b. b == c) rest place) refl
 
 -- ---- a text whose first numbers have been read
 
 pub record SoFar {S : Type 0} (one : One) (last : Last) (c : ℕ) (make : List ℕ → S) (begin : ℕ) (text : List ℕ) (kept : S) (at : ℕ) (rest : List ℕ) : Type 0 where
   pub done : List ℕ
   pub is : kept ≡ make done
-  pub same : (pieces_at one last begin (pieces c text) >>= λ ns. Ok (make ns)) ≡ behind one last c make done at rest
+  pub same : (pieces_at one last begin (pieces c text) >>= λ ns. Ok (make ns)) ≡ read_after one last c make done at rest
   pub place : at + length rest ≡ begin + length text
   pub few : length done ≤ at
 
@@ -53,16 +53,16 @@ pub at_next : {S : Type 0} (one : One) (last : Last) (c : ℕ) (make : List ℕ 
 at_next one last c make begin text kept next at rest i n so place lt read is = rw (take_rest rest (i + 1)) (record {
   done = so.done ++ n ∷ [];
   is = is;
-  same = so.same ∙ behind_piece one last c make so.done at rest i (Ok n) place lt read;
+  same = so.same ∙ read_piece_after one last c make so.done at rest i (Ok n) place lt read;
   place = omega (arith, length-drop (i + 1) rest, so.place);
   few = omega (arith, length-append so.done (n ∷ []), so.few);
 })
 
 pub at_fault : {S : Type 0} (one : One) (last : Last) (c : ℕ) (make : List ℕ → S) (begin : ℕ) (text : List ℕ) (kept : S) (at : ℕ) (rest : List ℕ) (i : ℕ) (e : AddrFault) (so : SoFar one last c make begin text kept at rest) → position (λ b. b == c) rest ≡ Some i → i < length rest → Err e ≡ one at (take i rest) → Err e ≡ (pieces_at one last begin (pieces c text) >>= λ ns. Ok (make ns))
-at_fault one last c make begin text kept at rest i e so place lt read = sym (so.same ∙ behind_piece one last c make so.done at rest i (Err e) place lt read)
+at_fault one last c make begin text kept at rest i e so place lt read = sym (so.same ∙ read_piece_after one last c make so.done at rest i (Err e) place lt read)
 
 pub at_last : {S : Type 0} (one : One) (last : Last) (c : ℕ) (make : List ℕ → S) (begin : ℕ) (text : List ℕ) (kept : S) (at : ℕ) (rest : List ℕ) (so : SoFar one last c make begin text kept at rest) → position (λ b. b == c) rest ≡ None → (last at rest >>= λ ns. Ok (make (so.done ++ ns))) ≡ (pieces_at one last begin (pieces c text) >>= λ ns. Ok (make ns))
-at_last one last c make begin text kept at rest so place = sym (so.same ∙ behind_last one last c make so.done at rest place)
+at_last one last c make begin text kept at rest so place = sym (so.same ∙ read_last_after one last c make so.done at rest place)
 
 -- ---- one number more
 

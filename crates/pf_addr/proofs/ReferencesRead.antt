@@ -3,7 +3,7 @@ use Rattle.std.proofs.{Common.{◌≡◌, inl, inr, ℕ, ◌-◌, ◌<◌, ◌�
 use Rattle.std.specs.{Prelude.{if◌then◌else◌, nat_lt}, List.{AllByRecursion, join_with_byte, list_all, slice_index_or}, Option.{option_and_then, option_map_or}, Str.bytes_eq}
 use Rattle.pf_addr.specs.declared.path.limits.TheConstants.{REFERENCE_LIMIT}
 use Rattle.pf_form.specs.declared.form.fault.Kind.{Kind}
-use Rattle.pf_addr.specs.{Path.{Names.is_name_byte, Paths.is_slash, PathGrammar.{IsComponent, IsNames}, References.{PlainReference, refers, quote, ending, behind, before, unquoted, split_wildcard, reference_fault, reference_in, reference_text, quoted}, ReferenceGrammar.{IsReference, SpellsReference}}, Laws.Path.References.{ReferenceIsSpelled, SpelledReferenceIsRead}}
+use Rattle.pf_addr.specs.{Path.{Names.is_name_byte, Paths.is_slash, PathGrammar.{IsComponent, IsNames}, References.{PlainReference, refers, quote, ending, rest_after, before, unquoted, split_wildcard, reference_fault, reference_in, reference_text, quoted}, ReferenceGrammar.{IsReference, SpellsReference}}, Laws.Path.References.{ReferenceIsSpelled, SpelledReferenceIsRead}}
 use Rattle.pf_form.specs.Form.Words.{Word}
 use Rattle.pf_addr.proofs.PathsRead.{names_only, names_found}
 
@@ -12,8 +12,8 @@ use Rattle.pf_addr.proofs.PathsRead.{names_only, names_found}
 same_bytes : (a b : Word) → bytes_eq a b ≡ true → a ≡ b
 same_bytes a b = (bytes_eq-Decides a b).0
 
-pub behind_is : (front text rest : Word) → behind front text ≡ Some rest → text ≡ front ++ rest
-behind_is front text rest e = by (bytes_eq (take (length front) text) front) refl e where
+pub rest_after_is : (front text rest : Word) → rest_after front text ≡ Some rest → text ≡ front ++ rest
+rest_after_is front text rest e = by (bytes_eq (take (length front) text) front) refl e where
   by : (b : Bool) → bytes_eq (take (length front) text) front ≡ b → (if b then Some (drop (length front) text) else None) ≡ Some rest → text ≡ front ++ rest
   by true same e =
       let is : drop (length front) text ≡ rest = cc in
@@ -99,12 +99,12 @@ in_quotes text = rw (before_end text quote) refl
 -- ---- reading
 
 pub unquoted_is : (w : Word) → (w ≡ unquoted w) ⊎ (w ≡ quoted (unquoted w))
-unquoted_is w = by (behind quote w) refl where
-  within : (rest : Word) (o : Option Word) → behind quote w ≡ Some rest → before quote rest ≡ o → (w ≡ option_map_or (λ text. text) o w) ⊎ (w ≡ quoted (option_map_or (λ text. text) o w))
+unquoted_is w = by (rest_after quote w) refl where
+  within : (rest : Word) (o : Option Word) → rest_after quote w ≡ Some rest → before quote rest ≡ o → (w ≡ option_map_or (λ text. text) o w) ⊎ (w ≡ quoted (option_map_or (λ text. text) o w))
   within rest None front end = inl refl
-  within rest (Some text) front end = inr (behind_is quote w rest front ∙ ap (λ (t : Word). quote ++ t) (before_is quote rest text end))
+  within rest (Some text) front end = inr (rest_after_is quote w rest front ∙ ap (λ (t : Word). quote ++ t) (before_is quote rest text end))
 
-  by : (o : Option Word) → behind quote w ≡ o → (w ≡ option_map_or (λ text. text) (option_and_then (before quote) o) w) ⊎ (w ≡ quoted (option_map_or (λ text. text) (option_and_then (before quote) o) w))
+  by : (o : Option Word) → rest_after quote w ≡ o → (w ≡ option_map_or (λ text. text) (option_and_then (before quote) o) w) ⊎ (w ≡ quoted (option_map_or (λ text. text) (option_and_then (before quote) o) w))
   by None front = inl refl
   by (Some rest) front = within rest (before quote rest) front refl
 

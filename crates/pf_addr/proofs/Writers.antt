@@ -8,11 +8,11 @@ appends_more old mid new text w n p q = rw (take-add w n text) (Appends-then old
 
 -- ---- the groups of a V6 address: the first, and so many of the others
 
-abbrev behind_colon : ℕ → ℕ → List ℕ
-behind_colon n end = 58 ∷ group_text n end
+abbrev colon_and_group : ℕ → ℕ → List ℕ
+colon_and_group n end = 58 ∷ group_text n end
 
 abbrev pub groups_to : ℕ → List ℕ → ℕ → List ℕ
-groups_to n ends i = group_text n 112 ++ flat_map (behind_colon n) (take i ends)
+groups_to n ends i = group_text n 112 ++ flat_map (colon_and_group n) (take i ends)
 
 pub groups_more : (n : ℕ) (ends : List ℕ) (i : ℕ) → i < length ends → groups_to n ends i ++ 58 ∷ group_text n (get_or ends i 0) ≡ groups_to n ends (i + 1)
-groups_more n ends i lt = flat_map_more (behind_colon n) (group_text n 112) (take i ends) (get_or ends i 0) ∙ ap (λ (l : List ℕ). group_text n 112 ++ flat_map (behind_colon n) l) (sym (take_more ends i 0 lt))
+groups_more n ends i lt = flat_map_more (colon_and_group n) (group_text n 112) (take i ends) (get_or ends i 0) ∙ ap (λ (l : List ℕ). group_text n 112 ++ flat_map (colon_and_group n) l) (sym (take_more ends i 0 lt))

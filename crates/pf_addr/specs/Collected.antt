@@ -2,7 +2,7 @@
 use Rattle.std.specs.Prelude.{ℕ, Bool, List, ◌++◌, length, take, replicate, Result, Ok}
 use Rattle.pf_addr.specs.{Grammar.four_bytes, Reading.{parts_at, groups_at, end_at}}
 use Rattle.pf_form.specs.Form.Forms.{◌>>=◌}
-use Rattle.pf_addr.specs.declared.{fault.AddrFault.AddrFault, reading.Parts.Parts, groups.Groups.Groups, groups.TheConstants.GROUPS}
+use Rattle.pf_addr.specs.declared.{fault.AddrFault.AddrFault, reading.Parts.Parts, ipv6_text.Groups.Groups, ipv6_text.TheConstants.GROUPS}
 
 abbrev pub parts_of : List ℕ → Parts
 parts_of parts = record { bytes = four_bytes parts; count = length parts }

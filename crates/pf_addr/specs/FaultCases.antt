@@ -1,7 +1,7 @@
 -- Which fault a text has that spells no address or no network, and at which byte, by cases on the text. The order of faults is this
 -- project's own.
 use Rattle.std.specs.{Prelude.{◌≡◌, ◌≢◌, ℕ, ◌+◌, ◌==◌, ◌<◌, ◌≤◌, ◌⊎◌, Bool, true, false, List, [], ◌∷◌, ◌++◌, length, slice_index, All}, List.AllZip, Str.Parse.IsNumeral}
-use Rattle.pf_addr.specs.declared.{addr.Addr.Addr, fault.AddrFault.AddrFault, fault.AddrFault.TheVariants.{Empty, BadDigit, TooBig, BadLength, BadGroups}, groups.TheConstants.GROUPS}
+use Rattle.pf_addr.specs.declared.{addr.Addr.Addr, fault.AddrFault.AddrFault, fault.AddrFault.TheVariants.{Empty, BadDigit, TooBig, BadLength, BadGroups}, ipv6_text.TheConstants.GROUPS}
 use Rattle.pf_addr.specs.{Address.{width, family_of}, Grammar.{is_other, is_small, is_short, pieces, IsNumber, Dotted, IsGroup, Grouped, EndGrouped, Spells}}
 
 -- the first byte that passes a test is at this place
@@ -40,9 +40,9 @@ IsGroupFault = IsPieceFault 16 is_short
 -- ---- pieces in a row, with one byte between two
 
 -- where a piece begins that comes after these
-abbrev pub place_behind : ℕ → List (List ℕ) → ℕ
-place_behind at [] = at
-place_behind at (p ∷ ps) = place_behind (at + length p + 1) ps
+abbrev pub start_after : ℕ → List (List ℕ) → ℕ
+start_after at [] = at
+start_after at (p ∷ ps) = start_after (at + length p + 1) ps
 
 -- the fault of a piece followed by these: if there are none, it is the last
 abbrev pub where_last : List (List ℕ) → Faulty → Faulty → Faulty
@@ -53,11 +53,11 @@ where_last (p ∷ ps) inner last = inner
 pub record IsFirstFault (Good : List ℕ → ℕ → Type 0) (inner last : Faulty) (at : ℕ) (ps : List (List ℕ)) (fault : AddrFault) : Type 0 where
   pub front : List (List ℕ)
   pub piece : List ℕ
-  pub behind : List (List ℕ)
+  pub following : List (List ℕ)
   pub numbers : List ℕ
-  pub cut : ps ≡ front ++ piece ∷ behind
+  pub cut : ps ≡ front ++ piece ∷ following
   pub good : AllZip Good front numbers
-  pub faulty : where_last behind inner last (place_behind at front) piece fault
+  pub faulty : where_last following inner last (start_after at front) piece fault
 
 -- ---- V4
 
@@ -97,7 +97,7 @@ pub data IsV6Fault (text : List ℕ) (fault : AddrFault) : Type 0 where
   wrong_number : NoGap text → (groups : List ℕ) → EndGrouped groups text → length groups ≢ GROUPS
       → fault ≡ BadGroups 0 → IsV6Fault text fault
   bad_before : (front back : List ℕ) → FirstGap text front back → IsInnerFault 0 front fault → IsV6Fault text fault
-  bad_behind : (front back fs : List ℕ) → FirstGap text front back → Grouped fs front
+  bad_after_gap : (front back fs : List ℕ) → FirstGap text front back → Grouped fs front
       → IsOuterFault (length front + 2) back fault → IsV6Fault text fault
   too_many : (front back fs bs : List ℕ) → FirstGap text front back → Grouped fs front → EndGrouped bs back
       → GROUPS ≤ length fs + length bs → fault ≡ BadGroups 0 → IsV6Fault text fault

@@ -2,7 +2,7 @@
 -- (RFC 4291 section 2.2), a network in CIDR notation (pf.conf(5), PARAMETERS).
 use Rattle.std.specs.{Prelude.{◌≡◌, ℕ, ◌/◌, ◌%◌, ◌<◌, ◌≤◌, nat_le, Bool, ◌&&◌, ◌==◌, ◌⊎◌, List, [], ◌∷◌, ◌++◌, length, take, replicate}, Char.digit_value, List.{AllZip, slice_split}, Int.{from_be_bytes, w32}, Int.Digits.number_from_digits, Str.Parse.{IsNumeral, digits_value}}
 use Rattle.pf_form.specs.Form.Numbers as digits
-use Rattle.pf_addr.specs.declared.{addr.Addr.Addr, reading.TheConstants.NUMBER_DIGITS, groups.TheConstants.{GROUP_DIGITS, GROUPS}}
+use Rattle.pf_addr.specs.declared.{addr.Addr.Addr, reading.TheConstants.NUMBER_DIGITS, ipv6_text.TheConstants.{GROUP_DIGITS, GROUPS}}
 use Rattle.pf_addr.specs.declared.addr.Addr.TheVariants as addr
 use Rattle.pf_addr.specs.Address.{PlainNet, width, family_of, network_from, network_of}
 
@@ -84,13 +84,13 @@ pub record Shortened (groups text : List ℕ) : Type 0 where
   pub front : List ℕ
   pub back : List ℕ
   pub before : List ℕ
-  pub behind : List ℕ
+  pub following : List ℕ
   pub zeros : ℕ
   pub cut : text ≡ front ++ 58 ∷ 58 ∷ back
   pub grouped : Grouped before front
-  pub ended : EndGrouped behind back
+  pub ended : EndGrouped following back
   pub some : 0 < zeros
-  pub value : groups ≡ before ++ replicate zeros 0 ++ behind
+  pub value : groups ≡ before ++ replicate zeros 0 ++ following
 
 -- the number that groups write, the first the highest
 abbrev pub v6_number : List ℕ → ℕ

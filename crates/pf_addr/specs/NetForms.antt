@@ -2,17 +2,17 @@
 use Rattle.std.specs.Prelude.{ℕ, ◌-◌, ◌*◌, ◌/◌, ◌^◌, ◌==◌, ◌&&◌, ◌||◌, nat_le, Bool, replicate, if◌then◌else◌}
 use Rattle.pf_addr.specs.declared.addr.{TheConstants.{V4_BITS, V6_BITS}, Family.Family, Family.TheVariants.{V4, V6}}
 use Rattle.pf_addr.specs.Address.{PlainNet, width}
-use Rattle.pf_form.specs.Bytes.Forms.{nat, Form, number, back, that}
+use Rattle.pf_form.specs.Bytes.Forms.{nat, ByteForm, number, back, that}
 
 abbrev pub family_byte : Family → ℕ
 family_byte V4 = 4
 family_byte V6 = 6
 
-unfoldable pub family : Form nat
+unfoldable pub family : ByteForm nat
 family = that (λ b. (b == 4) || (b == 6)) (number 1)
 
 -- an address of the family of this byte, in 16 bytes; an IPv4 address is in the first four, followed by zeros
-abbrev pub address_in : ℕ → Form nat
+abbrev pub address_in : ℕ → ByteForm nat
 address_in family = if family == 4 then back (number 4) (replicate 12 0) else number 16
 
 -- a network's front is followed by zeros

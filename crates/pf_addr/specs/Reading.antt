@@ -3,7 +3,7 @@
 use Rattle.std.specs.{Prelude.{ℕ, ◌+◌, ◌-◌, ◌==◌, nat_le, Bool, true, false, ◌&&◌, List, [], ◌∷◌, ◌++◌, length, take, drop, replicate, Option, Some, None, is_some, Result, Ok, Err, if◌then◌else◌}, List.position, Option.ok_or, Str.Parse.digits_value}
 use Rattle.pf_addr.specs.{Address.{PlainNet, width, family_of, network_from, network_of}, Grammar.{is_other, is_short, pieces, v4_number, v6_number, two_groups}}
 use Rattle.pf_form.specs.Form.{Forms.◌>>=◌, Numbers.number_of}
-use Rattle.pf_addr.specs.declared.{addr.Addr.Addr, fault.AddrFault.AddrFault, fault.AddrFault.TheVariants.{Empty, BadDigit, TooBig, BadLength, BadGroups}, reading.TheConstants.NUMBER_DIGITS, groups.TheConstants.GROUPS}
+use Rattle.pf_addr.specs.declared.{addr.Addr.Addr, fault.AddrFault.AddrFault, fault.AddrFault.TheVariants.{Empty, BadDigit, TooBig, BadLength, BadGroups}, reading.TheConstants.NUMBER_DIGITS, ipv6_text.TheConstants.GROUPS}
 use Rattle.pf_addr.specs.declared.addr.Addr.TheVariants as addr
 
 -- the number, if it is at most `most`

@@ -19,7 +19,7 @@ Wrote r old new text = Writes r old new text × IfErr r (λ e. error_kind e ≢ 
 -- The text is written after what was written so far; if an earlier write failed, its error stays, and nothing more is written.
 pub record Continues {A B : Type 0} (so_far : Result A Error) (mid : Option (List ℕ))
     (r : Result B Error) (new : Option (List ℕ)) (text : List ℕ) : Type 0 where
-  pub behind : (old : Option (List ℕ)) (front : List ℕ) → Wrote so_far old mid front → Wrote r old new (front ++ text)
+  pub following : (old : Option (List ℕ)) (front : List ℕ) → Wrote so_far old mid front → Wrote r old new (front ++ text)
 
 -- ---- laws
 
@@ -59,14 +59,14 @@ Writes-then (Err e) old mid new a b p w = WritesFront-then old mid new a b p w
 pub Continues-then : {A B C : Type 0} {q : Result A Error} {r : Result B Error} {s : Result C Error} {old mid new : Option (List ℕ)}
     {a b : List ℕ} → Continues q old r mid a → Continues r mid s new b → Continues q old s new (a ++ b)
 Continues-then {s = s} {new = new} {a = a} {b = b} first second = record {
-  behind = λ at front w. subst (λ (text : List ℕ). Wrote s at new text) (append_assoc front a b)
-      (second.behind at (front ++ a) (first.behind at front w));
+  following = λ at front w. subst (λ (text : List ℕ). Wrote s at new text) (append_assoc front a b)
+      (second.following at (front ++ a) (first.following at front w));
 }
 
 pub Continues-ok : {A B : Type 0} (q : Result A Error) (u : A) (r : Result B Error) (mid new : Option (List ℕ)) (text : List ℕ) → q ≡ Ok u →
     Writes r mid new text → IfErr r (λ e. error_kind e ≢ Interrupted) → Continues q mid r new text
 Continues-ok {A = A} q u r mid new text is p retried = record {
-  behind = λ old front w. (
+  following = λ old front w. (
     Writes-then r old mid new front text (let h : Wrote {A = A} (Ok u) old mid front =
         subst (λ (x : Result A Error). Wrote x old mid front) is w in h.0) p,
     retried,
@@ -76,11 +76,11 @@ Continues-ok {A = A} q u r mid new text is p retried = record {
 pub Continues-err : {A B : Type 0} (q : Result A Error) (e : Error) (mid : Option (List ℕ)) (text : List ℕ) → q ≡ Err e →
     Continues {B = B} q mid (Err e) mid text
 Continues-err {A = A} q e mid text is = record {
-  behind = λ old front w. let h : Wrote {A = A} (Err e) old mid front = subst (λ (x : Result A Error). Wrote x old mid front) is w in
+  following = λ old front w. let h : Wrote {A = A} (Err e) old mid front = subst (λ (x : Result A Error). Wrote x old mid front) is w in
       (WritesFront-longer old mid front text h.0, h.1);
 }
 
 -- after nothing
-pub behind_nothing : {A B : Type 0} (u : A) {r : Result B Error} {mid new : Option (List ℕ)} {text : List ℕ} →
+pub after_nothing : {A B : Type 0} (u : A) {r : Result B Error} {mid new : Option (List ℕ)} {text : List ℕ} →
     Continues {A = A} (Ok u) mid r new text → Wrote r mid new text
-behind_nothing u {mid = mid} all = all.behind mid [] (Appends-none mid, tt)
+after_nothing u {mid = mid} all = all.following mid [] (Appends-none mid, tt)

@@ -3,7 +3,7 @@ ghost use Rattle.std.specs.Prelude.{◌≡◌, IfOk, Ok};
 ghost use Rattle.pf_addr.specs.{Address.{family_of, width}, Grammar.SpellsAddr, Reading.{addr_at, address_at}};
 
 use crate::fault::AddrFault;
-use crate::groups::read_v6;
+use crate::ipv6_text::read_v6;
 use crate::reading::{place_of, read_v4};
 
 /// How many bits an IPv4 address has.

@@ -1,6 +1,6 @@
 //! Laws of networks and of texts. Each function's contract is the law; its body does nothing.
 ghost use Rattle.std.specs.Prelude.{◌≡◌, ◌↔◌, ℕ, ◌^◌, ◌<◌, ◌≤◌, true, List, Ok};
-ghost use Rattle.pf_addr.specs.declared.{addr.Addr.Addr, addr.TheConstants.{V4_BITS, V6_BITS}, groups.TheConstants.{GROUPS, GROUP_DIGITS}};
+ghost use Rattle.pf_addr.specs.declared.{addr.Addr.Addr, addr.TheConstants.{V4_BITS, V6_BITS}, ipv6_text.TheConstants.{GROUPS, GROUP_DIGITS}};
 ghost use Rattle.pf_addr.specs.declared.reading.TheConstants.{NUMBER_DIGITS};
 ghost use Rattle.pf_addr.specs.Address.{PlainNet, width, family_of, network_from, contains, IsAddr, BeginsAs, Agree};
 ghost use Rattle.pf_addr.specs.{FaultCases.{IsAddrFault, IsNetFault}, Grammar.{SpellsAddr, SpellsNet}, Reading.{addr_at, net_at}};
@@ -63,14 +63,14 @@ pub fn net_text_is_one_word()
 {}
 
 /// A text that isn't an address is refused for the one fault that it has, by cases on the text.
-#[tactic(auto, using(crate::proofs::FaultsTold::addr_told))]
-pub fn faults_of_addrs_are_told()
+#[tactic(auto, using(crate::proofs::FaultsReported::addr_reported))]
+pub fn faults_of_addrs_are_reported()
     ensures { TellsFaults addr_at IsAddrFault }
 {}
 
 /// A text that isn't a network is refused for the one fault that it has, by cases on the text.
-#[tactic(auto, using(crate::proofs::FaultsTold::net_faults_told))]
-pub fn faults_of_nets_are_told()
+#[tactic(auto, using(crate::proofs::FaultsReported::net_faults_reported))]
+pub fn faults_of_nets_are_reported()
     ensures { TellsFaults net_at IsNetFault }
 {}
 

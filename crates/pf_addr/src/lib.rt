@@ -2,7 +2,7 @@
 //! out.
 //!
 //! The modules at the root: `addr` and `net` (addresses; networks and what they contain), `fault` (what is wrong with a text), `reading`
-//! and `groups` (reading texts, IPv4 and IPv6), `write` (writing them), `net_form` (bytes), `net_key` (networks as keys of
+//! and `ipv6_text` (reading texts, IPv4 and IPv6), `write` (writing them), `net_form` (bytes), `net_key` (networks as keys of
 //! maps). `path` has names, paths and references, their bytes and keys. `path` uses no other module; the modules at the root don't use
 //! `path`; `laws` may use all.
 //!
@@ -17,7 +17,7 @@
 //!
 //! Proved, by the contracts in `laws` and `path::laws`: a text is read exactly where the grammar spells it (`addrs_are_read_as_spelled`,
 //! `nets_are_read_as_spelled`, `path::laws::paths_are_read_as_spelled` and their like); any other is refused for the one fault that it
-//! has (`faults_of_addrs_are_told`, `faults_of_nets_are_told`, `path::laws::faults_of_names_are_told`); what is written is read again,
+//! has (`faults_of_addrs_are_reported`, `faults_of_nets_are_reported`, `path::laws::faults_of_names_are_reported`); what is written is read again,
 //! and no two values share a text; a network contains exactly the addresses that begin with its bits (`networks_contain_by_bits`); bytes
 //! give back what was written (`networks_have_bytes_of_their_own`, `path::laws::names_have_bytes_of_their_own`).
 //! Only tests of other crates show that memory runs out only if a growth was refused.
@@ -25,7 +25,7 @@
 
 mod addr;
 mod fault;
-mod groups;
+mod ipv6_text;
 mod laws;
 mod net;
 mod net_form;
@@ -37,8 +37,8 @@ mod write;
 pub use addr::{Addr, Family, V4_BITS, V6_BITS};
 pub use fault::AddrFault;
 pub use laws::{
-    addrs_are_read_as_spelled, addrs_have_texts_of_their_own, faults_of_addrs_are_told,
-    faults_of_nets_are_told, net_text_is_one_word, nets_are_read_as_spelled,
+    addrs_are_read_as_spelled, addrs_have_texts_of_their_own, faults_of_addrs_are_reported,
+    faults_of_nets_are_reported, net_text_is_one_word, nets_are_read_as_spelled,
     nets_have_texts_of_their_own, networks_contain_by_bits, networks_have_bytes_of_their_own,
     sizes_are_these, written_addr_is_read_again, written_net_is_read_again,
 };

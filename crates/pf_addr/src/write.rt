@@ -58,7 +58,7 @@ fn write_some<W: Write>(out: &mut W, text: &[u8]) -> io::Result<usize>
 
 /// Writes an address: V4 as four decimal numbers between dots, V6 as eight groups between colons, in lower-case hexadecimal without
 /// leading zeros (RFC 4291 section 2.2, form 1). Errors as in [`write_text`].
-#[tactic(auto, using(crate::specs::Writing::behind_nothing))]
+#[tactic(auto, using(crate::specs::Writing::after_nothing))]
 pub fn write_addr<W: Write>(out: &mut W, addr: Addr) -> io::Result<()>
     ensures { Wrote result (W.contents out.old) (W.contents out.new) (addr_text addr) }
 {
@@ -67,7 +67,7 @@ pub fn write_addr<W: Write>(out: &mut W, addr: Addr) -> io::Result<()>
 
 /// Writes a network: its first address and, unless that is its only one, a slash and how many bits its addresses share. Errors as in
 /// [`write_text`].
-#[tactic(auto, using(crate::specs::Writing::behind_nothing))]
+#[tactic(auto, using(crate::specs::Writing::after_nothing))]
 pub fn write_net<W: Write>(out: &mut W, net: Net) -> io::Result<()>
     ensures { Wrote result (W.contents out.old) (W.contents out.new) (net_text net) }
 {

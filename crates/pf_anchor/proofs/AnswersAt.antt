@@ -94,15 +94,15 @@ abbrev pub IsUpTo : List ℕ → List PlainAnswered → ℕ → Type 0
 IsUpTo p known n = IsPartitionPoint (λ a. is_ge (path_order p a.0.0) ≡ true) (λ a. is_ge (path_order p a.0.0) ≡ false) known n
 
 -- those behind a number of them, as a slice has them
-abbrev pub behind : ℕ → List PlainAnswered → List PlainAnswered
-behind n known = take (length known - n) (drop n known)
+abbrev pub rest_from : ℕ → List PlainAnswered → List PlainAnswered
+rest_from n known = take (length known - n) (drop n known)
 
-pub behind_sorted : (n : ℕ) (known : List PlainAnswered) → IsInOrder known → IsInOrder (behind n known)
-behind_sorted n known sorted = subst IsInOrder (sym (take_rest known n)) (sorted_back table_order_total n known sorted)
+pub rest_sorted : (n : ℕ) (known : List PlainAnswered) → IsInOrder known → IsInOrder (rest_from n known)
+rest_sorted n known sorted = subst IsInOrder (sym (take_rest known n)) (sorted_back table_order_total n known sorted)
 
-found_behind : (p : List ℕ) (known : List PlainAnswered) (start count : ℕ) → IsInOrder known → IsBefore p known start →
+found_in_rest : (p : List ℕ) (known : List PlainAnswered) (start count : ℕ) → IsInOrder known → IsBefore p known start →
     (packet : PlainPacket) (ts : List PlainPlacedTable) → AreAnswered packet ts known → IsUpTo p (drop start known) count → AreAnsweredAt packet ts p (take count (drop start known))
-found_behind p known start count sorted before packet ts are upto = record {
+found_in_rest p known start count sorted before packet ts are upto = record {
   sorted = sorted_front table_order count (drop start known) (sorted_back table_order_total start known sorted);
   each = λ name.
       back_passed table_order_total (p, name) count (drop start known) (λ i d past few. less_differs (path_order p (get_or (drop start known) i d).0.0) _ (upto.1 i d past few))
@@ -110,8 +110,8 @@ found_behind p known start count sorted before packet ts are upto = record {
       ∙ ap (find table_order (p, name)) are.each ∙ answer_found packet (p, name) ts;
 }
 
-pub found_at_path : (p : List ℕ) (known : List PlainAnswered) (start count : ℕ) → IsInOrder known → IsBefore p known start → IsUpTo p (behind start known) count →
-    (packet : PlainPacket) (ts : List PlainPlacedTable) → AreAnswered packet ts known → AreAnsweredAt packet ts p (take count (behind start known))
+pub found_at_path : (p : List ℕ) (known : List PlainAnswered) (start count : ℕ) → IsInOrder known → IsBefore p known start → IsUpTo p (rest_from start known) count →
+    (packet : PlainPacket) (ts : List PlainPlacedTable) → AreAnswered packet ts known → AreAnsweredAt packet ts p (take count (rest_from start known))
 found_at_path p known start count sorted before upto packet ts are =
     subst (λ (xs : List PlainAnswered). IsUpTo p xs count → AreAnsweredAt packet ts p (take count xs)) (sym (take_rest known start))
-    (found_behind p known start count sorted before packet ts are) upto
+    (found_in_rest p known start count sorted before packet ts are) upto

@@ -36,18 +36,18 @@ pub block_goes_on : {M : Type 0} (effect : ℕ → PlainRule → Evaluated M) (t
     and_then (Open last) (rules_give effect test (8 * block) (drop (8 * block) rules))
     ≡ and_then (Open (option_or latest last)) (rules_give effect test (8 * (block + 1)) (drop (8 * (block + 1)) rules))
 block_goes_on {M} effect test last latest block rules gives =
-    let behind = rules_give effect test (8 * (block + 1)) (drop (8 * (block + 1)) rules) in
+    let following = rules_give effect test (8 * (block + 1)) (drop (8 * (block + 1)) rules) in
     ap (and_then (Open last)) (block_apart effect test block rules)
-    ∙ ap (λ (x : Evaluated M). and_then (Open last) (and_then x behind)) (sym gives)
-    ∙ then_open last latest behind
+    ∙ ap (λ (x : Evaluated M). and_then (Open last) (and_then x following)) (sym gives)
+    ∙ then_open last latest following
 
 pub block_ends : {M : Type 0} (effect : ℕ → PlainRule → Evaluated M) (test : PlainRule → Bool) (last : Option M) (m : M) (block : ℕ) (rules : List PlainRule) →
     Ended m ≡ rules_give effect test (8 * block) (eight_from (8 * block) rules) →
     and_then (Open last) (rules_give effect test (8 * block) (drop (8 * block) rules)) ≡ Ended m
 block_ends {M} effect test last m block rules gives =
-    let behind = rules_give effect test (8 * (block + 1)) (drop (8 * (block + 1)) rules) in
+    let following = rules_give effect test (8 * (block + 1)) (drop (8 * (block + 1)) rules) in
     ap (and_then (Open last)) (block_apart effect test block rules)
-    ∙ ap (λ (x : Evaluated M). and_then (Open last) (and_then x behind)) (sym gives)
+    ∙ ap (λ (x : Evaluated M). and_then (Open last) (and_then x following)) (sym gives)
 
 -- a rule of a block that ends the evaluation
 pub rule_ends : {M : Type 0} (effect : ℕ → PlainRule → Evaluated M) (test : PlainRule → Bool) (last : Option M) (m : M) (n : ℕ) (rules : List PlainRule) (r : PlainRule) (rest : List PlainRule) →
@@ -263,9 +263,9 @@ no_match rules block mask none = record { unset = λ i lt set un. absurd (cc (sy
 pub all_stop : (rules : List PlainRule) (block mask : ℕ) → AreStops rules block mask mask
 all_stop rules block mask = record { unset = λ i lt set un. absurd (cc (sym set ∙ un)) }
 
-pub told_of : (rules : List PlainRule) (block mask bits : ℕ) → ((i : ℕ) → i < 8 → is_set bits i ≡ block_mark stops rules block i) → AreStops rules block mask (bit_and bits mask)
-told_of rules block mask bits told = record {
-  unset = λ i lt set un. sym (told i lt) ∙ first (is_set bits i) (is_set mask i) set (sym (is_set-and bits mask i) ∙ un);
+pub stops_of : (rules : List PlainRule) (block mask bits : ℕ) → ((i : ℕ) → i < 8 → is_set bits i ≡ block_mark stops rules block i) → AreStops rules block mask (bit_and bits mask)
+stops_of rules block mask bits reported = record {
+  unset = λ i lt set un. sym (reported i lt) ∙ first (is_set bits i) (is_set mask i) set (sym (is_set-and bits mask i) ∙ un);
 } where
   first : (a b : Bool) → b ≡ true → (a && b) ≡ false → a ≡ false
   first false b e f = refl
@@ -289,10 +289,10 @@ so_many_passed : {M : Type 0} (effect : ℕ → PlainRule → Evaluated M) (test
 so_many_passed effect test rules block zero none =
     ap (λ (k : ℕ). rules_give effect test (8 * k) (drop (8 * k) rules)) (let z : block ≡ block + 0 = omega arith in z)
 so_many_passed {M} effect test rules block (suc n) none =
-    let behind : Evaluated M = rules_give effect test (8 * (block + 1)) (drop (8 * (block + 1)) rules) in
+    let following : Evaluated M = rules_give effect test (8 * (block + 1)) (drop (8 * (block + 1)) rules) in
     block_apart effect test block rules
-    ∙ ap (λ (x : Evaluated M). and_then x behind) (none_found effect test rules block 0 (record { each = λ i lt. none_set i ∙ sym (none block i (omega arith) (omega arith) lt) }) refl)
-    ∙ none_and_then behind
+    ∙ ap (λ (x : Evaluated M). and_then x following) (none_found effect test rules block 0 (record { each = λ i lt. none_set i ∙ sym (none block i (omega arith) (omega arith) lt) }) refl)
+    ∙ none_and_then following
     ∙ so_many_passed effect test rules (block + 1) n (λ k i le lt. none k i (omega (arith, le)) (omega (arith, lt)))
     ∙ ap (λ (k : ℕ). rules_give effect test (8 * k) (drop (8 * k) rules)) (let z : block + 1 + n ≡ block + suc n = omega arith in z)
 

@@ -3,7 +3,7 @@ use Rattle.std.proofs.Common.{◌≡◌, ℕ, T, zero, suc, ◌+◌, inl, inr, B
 use Rattle.std.specs.FinMap.{find, is_sorted}
 use Rattle.pf_addr.specs.{Path.Paths.{main, path_order}, Path.References.PlainReference}
 use Rattle.pf_rule.specs.{Rules.PlainRule, declared.{rule.Action.Action, rule.Effect.Effect, rule.Effect.TheVariants.Decide, rule.Effect.TheVariants.Evaluate}}
-use Rattle.pf_anchor.specs.{declared.{evaluated.Evaluated.Evaluated, evaluated.Evaluated.TheVariants.Open, evaluated.Evaluated.TheVariants.Ended}, Matches.{PlainMatch, found}, Rulesets.{PlainPlaced, ruled, rules_in, rules_at, targets, leads_to}, Evaluation.{Tests, and_then, settled, in_turn, effected, evaluate_with, levels, evaluation, matching, verdict_by, last_of, judged, rules_at_path}, Laws.Evaluation.{IsIn, rule_numbered, IsDecidedBy, Holds, AnchorsNeverDecide, ToldRuleDecides}}
+use Rattle.pf_anchor.specs.{declared.{evaluated.Evaluated.Evaluated, evaluated.Evaluated.TheVariants.Open, evaluated.Evaluated.TheVariants.Ended}, Matches.{PlainMatch, found}, Rulesets.{PlainPlaced, ruled, rules_in, rules_at, targets, leads_to}, Evaluation.{Tests, and_then, settled, in_turn, effected, evaluate_with, levels, evaluation, matching, verdict_by, last_of, judged, rules_at_path}, Laws.Evaluation.{IsIn, rule_numbered, IsDecidedBy, Holds, AnchorsNeverDecide, VerdictRuleDecides}}
 use Rattle.pf_anchor.specs.declared.verdict.RuleVerdict.TheVariants as by
 use Rattle.pf_anchor.proofs.{Evaluations.default_judged, Entries.{found_is_in, entry_is}}
 
@@ -66,17 +66,17 @@ anchors_never_decide c tests e i = levels_hold _ c tests e i
 
 -- ---- the rule of a verdict
 
-told_is : (m : PlainMatch) (p : List ℕ) (n : ℕ) (a : Action) → verdict_by (Some m) ≡ by.Rule p n a → m ≡ found p n a
-told_is m p n a told =
+verdict_is : (m : PlainMatch) (p : List ℕ) (n : ℕ) (a : Action) → verdict_by (Some m) ≡ by.Rule p n a → m ≡ found p n a
+verdict_is m p n a reported =
     let path : m.path ≡ p = cc in
     let number : m.number ≡ n = cc in
     let action : m.action ≡ a = cc in
     ap (λ (q : List ℕ). found q m.number m.action) path ∙ ap (λ (k : ℕ). found p k m.action) number ∙ ap (found p n) action
 
-told_holds : (P : PlainMatch → Type 0) (x : Evaluated PlainMatch) (p : List ℕ) (n : ℕ) (a : Action) → Holds P x → verdict_by (last_of x) ≡ by.Rule p n a → P (found p n a)
-told_holds P (Ended m) p n a h told = let same : m ≡ found p n a = told_is m p n a told in subst P same h
-told_holds P (Open None) p n a h told = absurd (cc (told))
-told_holds P (Open (Some m)) p n a h told = let same : m ≡ found p n a = told_is m p n a told in subst P same h
+verdict_holds : (P : PlainMatch → Type 0) (x : Evaluated PlainMatch) (p : List ℕ) (n : ℕ) (a : Action) → Holds P x → verdict_by (last_of x) ≡ by.Rule p n a → P (found p n a)
+verdict_holds P (Ended m) p n a h reported = let same : m ≡ found p n a = verdict_is m p n a reported in subst P same h
+verdict_holds P (Open None) p n a h reported = absurd (cc (reported))
+verdict_holds P (Open (Some m)) p n a h reported = let same : m ≡ found p n a = verdict_is m p n a reported in subst P same h
 
 entry_decides : (c : List PlainPlaced) (tests : Tests) (p : List ℕ) (n : ℕ) (a : Action) (t : PlainPlaced) → T (is_sorted path_order c) → IsIn t c → IsDecidedBy tests (found p n a) t →
     (r : PlainRule) × ((rule_numbered (rules_at p c) n ≡ Some r) × (tests p r ≡ true) × (r.effect ≡ Decide a))
@@ -84,14 +84,14 @@ entry_decides c tests p n a t sorted i is =
     let rules : rules_at p c ≡ t.1 = sym (ap (λ (e : PlainPlaced). e.1) (entry_is c t sorted i) ∙ ap (λ (q : List ℕ). rules_at q c) is.1.0) in
     (is.0, (ap (λ (rs : List PlainRule). rule_numbered rs n) rules ∙ is.1.1, ap (λ (q : List ℕ). tests q is.0) (sym is.1.0) ∙ is.1.2, is.1.3))
 
-pub told_rule_decides : ToldRuleDecides
-told_rule_decides c packet p n a is told = by (find path_order main c.rulesets) refl where
+pub verdict_rule_decides : VerdictRuleDecides
+verdict_rule_decides c packet p n a is reported = by (find path_order main c.rulesets) refl where
   by : (v : Option (List PlainRule)) → find path_order main c.rulesets ≡ v → (r : PlainRule) × ((rule_numbered (rules_at p c.rulesets) n ≡ Some r) × (matching c.tables packet p r ≡ true) × (r.effect ≡ Decide a))
-  by None none = absurd (cc (default_judged c packet (ap rules_in none), told))
+  by None none = absurd (cc (default_judged c packet (ap rules_in none), reported))
   by (Some rs) some =
       let rulesets = c.rulesets in
       let tests = matching c.tables packet in
       let e = ruled main rs in
       let there : judged c packet ≡ verdict_by (last_of (evaluation rulesets tests e)) = ap (λ (v : Option (List PlainRule)). verdict_by (last_of (evaluation rulesets tests (ruled main (rules_in v))))) some in
-      let decided = told_holds (λ m. (t : PlainPlaced) × (IsIn t rulesets × IsDecidedBy tests m t)) (evaluation rulesets tests e) p n a (anchors_never_decide rulesets tests e (found_is_in main rulesets rs some)) (sym there ∙ told) in
+      let decided = verdict_holds (λ m. (t : PlainPlaced) × (IsIn t rulesets × IsDecidedBy tests m t)) (evaluation rulesets tests e) p n a (anchors_never_decide rulesets tests e (found_is_in main rulesets rs some)) (sym there ∙ reported) in
       entry_decides rulesets tests p n a decided.0 is.sorted decided.1.0 decided.1.1

@@ -4,7 +4,7 @@ use Rattle.std.specs.{Prelude.filter, FinMap.is_sorted}
 use Rattle.pf_addr.specs.{Path.Paths.same_path, Path.Nested.{depth, is_child}}
 use Rattle.pf_addr.proofs.PathsRead.{same_path_is}
 use Rattle.pf_anchor.specs.{declared.{evaluated.Evaluated.Evaluated}, Matches.PlainMatch, Rulesets.PlainPlaced, Evaluation.{Tests, and_then, in_turn, evaluation}, Known.{PlainKnown, depth_order, placed_of, given, AreGiven, AreOnward, IsEnough, IsListing}}
-use Rattle.pf_anchor.proofs.GivenAt.{enough_behind, given_is, given_yes, sorted_from}
+use Rattle.pf_anchor.proofs.GivenAt.{enough_after, given_is, given_yes, sorted_from}
 
 -- the ruleset before those of which it is known
 module _ (t : List PlainKnown) (left : ℕ) (k : PlainKnown) (some : 0 < left) (few : left ≤ length t) (at : k ≡ get_or t (left - 1) k) where
@@ -31,7 +31,7 @@ module _ (t : List PlainKnown) (left : ℕ) (k : PlainKnown) (some : 0 < left) (
   enough_here c tests e listing all onward is =
       subst (λ (x : PlainPlaced). IsEnough (evaluation c tests) c x.0 (take (length t - left) (drop left t))) (sym is)
       (subst (λ (ks : List PlainKnown). IsEnough (evaluation c tests) c k.0.0 ks) (sym (take_rest t left))
-      (enough_behind c (placed_of t) tests (left - 1) k.0 (drop left t) listing next_ruleset all onward))
+      (enough_after c (placed_of t) tests (left - 1) k.0 (drop left t) listing next_ruleset all onward))
 
   module _ (v : PlainKnown) (is : v.0 ≡ k.0) where
     pub still_few : left - 1 ≤ length (set t (left - 1) v)

@@ -100,10 +100,10 @@ parted_past p ks sorted i j d le lt is = by (is_ge (place_order p (place_of (get
       let less = less_on p (place_of (get_or ks i d).0.0) (place_of (get_or ks j d).0.0) (ge_less _ e) (in_order ks sorted i j d le lt) in
       absurd (cc (sym is ∙ ap is_ge less))
 
-pub sorted_behind : (n : ℕ) (ks : List PlainKnown) → IsInOrder ks → IsInOrder (drop n ks)
-sorted_behind zero ks sorted = sorted
-sorted_behind (suc n) [] sorted = tt
-sorted_behind (suc n) (k ∷ ks) sorted = sorted_behind n ks (second_of _ _ sorted)
+pub sorted_after : (n : ℕ) (ks : List PlainKnown) → IsInOrder ks → IsInOrder (drop n ks)
+sorted_after zero ks sorted = sorted
+sorted_after (suc n) [] sorted = tt
+sorted_after (suc n) (k ∷ ks) sorted = sorted_after n ks (second_of _ _ sorted)
 
 -- ---- the place of a path
 
@@ -143,24 +143,24 @@ same_rest p q (k ∷ ks) from all =
     ∙ same_rest p q ks from (second_of _ _ all)
 
 -- what stands from a place on
-pub behind_is : (ks : List PlainKnown) (n : ℕ) (k : PlainKnown) → n < length ks → k ≡ get_or ks n k → drop n ks ≡ k ∷ drop (n + 1) ks
-behind_is ks n k lt is = drop_more ks n k lt ∙ ap (λ (x : PlainKnown). x ∷ drop (n + 1) ks) (sym is)
+pub after_is : (ks : List PlainKnown) (n : ℕ) (k : PlainKnown) → n < length ks → k ≡ get_or ks n k → drop n ks ≡ k ∷ drop (n + 1) ks
+after_is ks n k lt is = drop_more ks n k lt ∙ ap (λ (x : PlainKnown). x ∷ drop (n + 1) ks) (sym is)
 
 from_there : (p : List ℕ) (ks : List PlainKnown) (n : ℕ) (k : PlainKnown) → IsPlaceOf p ks n → n < length ks → k ≡ get_or ks n k → is_gt (depth_order p k.0.0) ≡ false
 from_there p ks n k place lt is = ap (λ (x : PlainKnown). is_gt (depth_order p x.0.0)) is ∙ place.1 n k (omega arith) lt
 
 all_past : (ks : List PlainKnown) (n : ℕ) (k : PlainKnown) (rest : List PlainKnown) → IsInOrder ks → drop n ks ≡ k ∷ rest → T (below_all depth_order k.0.0 (placed_of rest))
-all_past ks n k rest sorted is = first_of _ _ (subst IsInOrder is (sorted_behind n ks sorted))
+all_past ks n k rest sorted is = first_of _ _ (subst IsInOrder is (sorted_after n ks sorted))
 
 pub at_the_place : (p : List ℕ) (ks : List PlainKnown) (n : ℕ) (k : PlainKnown) → IsInOrder ks → IsPlaceOf p ks n → n < length ks → k ≡ get_or ks n k → same_path p k.0.0 ≡ true → given (same_path p) ks ≡ k.1
 at_the_place p ks n k sorted place lt is same =
-    let left = behind_is ks n k lt is in
+    let left = after_is ks n k lt is in
     same_front p ks n place ∙ ap (given (same_path p)) left ∙ given_yes (same_path p) k (drop (n + 1) ks) same
     ∙ ap (and_then k.1) (same_rest p k.0.0 (drop (n + 1) ks) (from_there p ks n k place lt is) (all_past ks n k (drop (n + 1) ks) sorted left)) ∙ and_then_none k.1
 
 pub not_at_the_place : (p : List ℕ) (ks : List PlainKnown) (n : ℕ) (k : PlainKnown) → IsInOrder ks → IsPlaceOf p ks n → n < length ks → k ≡ get_or ks n k → same_path p k.0.0 ≡ false → given (same_path p) ks ≡ Open None
 not_at_the_place p ks n k sorted place lt is other =
-    let left = behind_is ks n k lt is in
+    let left = after_is ks n k lt is in
     same_front p ks n place ∙ ap (given (same_path p)) left ∙ given_no (same_path p) k (drop (n + 1) ks) other
     ∙ same_rest p k.0.0 (drop (n + 1) ks) (from_there p ks n k place lt is) (all_past ks n k (drop (n + 1) ks) sorted left)
 
@@ -240,20 +240,20 @@ child_front p ks n place =
 past_there : (p : ℕ × List ℕ) (ks : List PlainKnown) (n : ℕ) (k : PlainKnown) → IsPlacePast p ks n → n < length ks → k ≡ get_or ks n k → place_order p (place_of k.0.0) ≡ Less
 past_there p ks n k place lt is = ge_less _ (ap (λ (x : PlainKnown). is_ge (place_order p (place_of x.0.0))) is ∙ place.1 n k (omega arith) lt)
 
-onward_behind : (n : ℕ) (ks : List PlainKnown) → AreOnward ks → AreOnward (drop n ks)
-onward_behind zero ks onward = onward
-onward_behind (suc n) [] onward = tt
-onward_behind (suc n) (k ∷ ks) onward = onward_behind n ks onward.1
+onward_after : (n : ℕ) (ks : List PlainKnown) → AreOnward ks → AreOnward (drop n ks)
+onward_after zero ks onward = onward
+onward_after (suc n) [] onward = tt
+onward_after (suc n) (k ∷ ks) onward = onward_after n ks onward.1
 
 pub children_there : (p : List ℕ) (ks : List PlainKnown) (n : ℕ) (k : PlainKnown) → AreKept ks → IsPlacePast (before_children p) ks n → n < length ks → k ≡ get_or ks n k → is_child p k.0.0 ≡ true → given (is_child p) ks ≡ k.2
 children_there p ks n k kept place lt at is =
-    let left = behind_is ks n k lt at in
-    let onward = subst AreOnward left (onward_behind n ks kept.onward) in
+    let left = after_is ks n k lt at in
+    let onward = subst AreOnward left (onward_after n ks kept.onward) in
     child_front p ks n place ∙ ap (given (is_child p)) left ∙ sym (onward.0 p is)
 
 pub no_children_there : (p : List ℕ) (ks : List PlainKnown) (n : ℕ) (k : PlainKnown) → AreKept ks → IsPlacePast (before_children p) ks n → n < length ks → k ≡ get_or ks n k → is_child p k.0.0 ≡ false → given (is_child p) ks ≡ Open None
 no_children_there p ks n k kept place lt at other =
-    let left = behind_is ks n k lt at in
+    let left = after_is ks n k lt at in
     child_front p ks n place ∙ ap (given (is_child p)) left ∙ given_no (is_child p) k (drop (n + 1) ks) other
     ∙ no_children p k.0.0 (drop (n + 1) ks) (past_there (before_children p) ks n k place lt at) other (all_past ks n k (drop (n + 1) ks) kept.sorted left)
 
@@ -312,39 +312,39 @@ led_to c es p s listing = by (path_within p s.names) refl where
 
 -- ---- the rulesets that come after one are enough for its rules
 
-below_behind : (q : List ℕ) (c : List PlainPlaced) (i : ℕ) (e : PlainPlaced) (back : List PlainPlaced) → T (below_all depth_order q c) → drop i c ≡ e ∷ back → depth_order q e.0 ≡ Less
-below_behind q [] zero e back all is = absurd (cc (is))
-below_behind q [] (suc i) e back all is = absurd (cc (is))
-below_behind q (x ∷ c) zero e back all is =
+below_after : (q : List ℕ) (c : List PlainPlaced) (i : ℕ) (e : PlainPlaced) (back : List PlainPlaced) → T (below_all depth_order q c) → drop i c ≡ e ∷ back → depth_order q e.0 ≡ Less
+below_after q [] zero e back all is = absurd (cc (is))
+below_after q [] (suc i) e back all is = absurd (cc (is))
+below_after q (x ∷ c) zero e back all is =
     let same : x ≡ e = cc in
     ap (λ (y : PlainPlaced). depth_order q y.0) (sym same) ∙ less_of (depth_order q x.0) (first_of _ _ all)
-below_behind q (x ∷ c) (suc i) e back all is = below_behind q c i e back (second_of _ _ all) is
+below_after q (x ∷ c) (suc i) e back all is = below_after q c i e back (second_of _ _ all) is
 
 skipped : (P : List ℕ → Bool) (x : PlainPlaced) (c : List PlainPlaced) → P x.0 ≡ false → filter (λ y. P y.0) (x ∷ c) ≡ filter (λ y. P y.0) c
 skipped P x c is = ap (λ (b : Bool). cond b (x ∷ filter (λ y. P y.0) c) (filter (λ y. P y.0) c)) is
 
 -- a test that only later paths pass keeps only later rulesets
-kept_behind : (P : List ℕ → Bool) (c : List PlainPlaced) (i : ℕ) (e : PlainPlaced) (back : List PlainPlaced) → T (is_sorted depth_order c) → drop i c ≡ e ∷ back →
+kept_after : (P : List ℕ → Bool) (c : List PlainPlaced) (i : ℕ) (e : PlainPlaced) (back : List PlainPlaced) → T (is_sorted depth_order c) → drop i c ≡ e ∷ back →
     ((q : List ℕ) → P q ≡ true → depth_order e.0 q ≡ Less) → filter (λ x. P x.0) c ≡ filter (λ x. P x.0) back
-kept_behind P [] zero e back sorted is later = absurd (cc (is))
-kept_behind P [] (suc i) e back sorted is later = absurd (cc (is))
-kept_behind P (x ∷ c) zero e back sorted is later =
+kept_after P [] zero e back sorted is later = absurd (cc (is))
+kept_after P [] (suc i) e back sorted is later = absurd (cc (is))
+kept_after P (x ∷ c) zero e back sorted is later =
     ap (filter (λ y. P y.0)) is ∙ skipped P e back (not_passed P e.0 (λ h. not_itself e.0 (later e.0 h)))
-kept_behind P (x ∷ c) (suc i) e back sorted is later =
-    skipped P x c (not_passed P x.0 (λ h. not_back e.0 x.0 (later x.0 h) (below_behind x.0 c i e back (first_of _ _ sorted) is)))
-    ∙ kept_behind P c i e back (second_of _ _ sorted) is later
+kept_after P (x ∷ c) (suc i) e back sorted is later =
+    skipped P x c (not_passed P x.0 (λ h. not_back e.0 x.0 (later x.0 h) (below_after x.0 c i e back (first_of _ _ sorted) is)))
+    ∙ kept_after P c i e back (second_of _ _ sorted) is later
 
 pub sorted_from : (c : List PlainPlaced) (i : ℕ) → T (is_sorted depth_order c) → T (is_sorted depth_order (drop i c))
 sorted_from c zero sorted = sorted
 sorted_from [] (suc i) sorted = tt
 sorted_from (x ∷ c) (suc i) sorted = sorted_from c i (second_of _ _ sorted)
 
-pub enough_behind : (c es : List PlainPlaced) (tests : Tests) (i : ℕ) (e : PlainPlaced) (ks : List PlainKnown) → IsListing c es → drop i es ≡ e ∷ placed_of ks → AreGiven (evaluation c tests) ks → AreOnward ks →
+pub enough_after : (c es : List PlainPlaced) (tests : Tests) (i : ℕ) (e : PlainPlaced) (ks : List PlainKnown) → IsListing c es → drop i es ≡ e ∷ placed_of ks → AreGiven (evaluation c tests) ks → AreOnward ks →
     IsEnough (evaluation c tests) c e.0 ks
-enough_behind c es tests i e ks listing is all onward =
+enough_after c es tests i e ks listing is all onward =
     let f = evaluation c tests in
     record {
       kept = record { sorted = second_of _ _ (subst (λ (xs : List PlainPlaced). T (is_sorted depth_order xs)) is (sorted_from es i listing.sorted)); onward = onward };
       each = λ r. given_is f (leads_to e.0 r) ks all
-          ∙ ap (in_turn f) (sym (kept_behind (leads_to e.0 r) es i e (placed_of ks) listing.sorted is (λ q. leads_after e.0 r q)) ∙ led_to c es e.0 r listing);
+          ∙ ap (in_turn f) (sym (kept_after (leads_to e.0 r) es i e (placed_of ks) listing.sorted is (λ q. leads_after e.0 r q)) ∙ led_to c es e.0 r listing);
     }

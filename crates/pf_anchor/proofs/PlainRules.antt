@@ -17,13 +17,13 @@ GivesDeciding test p k rules x =
 here : (test : PlainRule → Bool) (p : List ℕ) (k : ℕ) (r : PlainRule) (rs : List PlainRule) (x : Evaluated PlainMatch) (a : Action) → test r ≡ true → r.effect ≡ Decide a → (r.quick ≡ true) ⊎ (list_any test rs ≡ false) → last_of x ≡ Some (found p k a) → GivesDeciding test p k (r ∷ rs) x
 here test p k r rs x a m decide stands last =
     let at : k ≡ k + 0 = omega arith in
-    inr (0, (r, (a, (record { before = []; behind = rs; all = refl; numbered = refl; matches = m; not_ended = refl; stands = stands }, decide, last ∙ ap (λ (n : ℕ). Some (found p n a)) at))))
+    inr (0, (r, (a, (record { before = []; following = rs; all = refl; numbered = refl; matches = m; not_ended = refl; stands = stands }, decide, last ∙ ap (λ (n : ℕ). Some (found p n a)) at))))
 
 -- a rule that decides after one that doesn't end the evaluation
 further : (test : PlainRule → Bool) (p : List ℕ) (k : ℕ) (x : PlainRule) (xs : List PlainRule) (n : ℕ) (r : PlainRule) (a : Action) (y : Evaluated PlainMatch) → not (test x && x.quick) ≡ true → IsDeciding test xs n r → r.effect ≡ Decide a → last_of y ≡ Some (found p (k + 1 + n) a) → GivesDeciding test p k (x ∷ xs) y
 further test p k x xs n r a y passed is decide last =
     let at : k + 1 + n ≡ k + suc n = omega arith in
-    inr (suc n, (r, (a, (record { before = x ∷ is.before; behind = is.behind; all = ap (λ rs. x ∷ rs) is.all; numbered = ap suc is.numbered; matches = is.matches; not_ended = rw passed is.not_ended; stands = is.stands }, decide, last ∙ ap (λ (m : ℕ). Some (found p m a)) at))))
+    inr (suc n, (r, (a, (record { before = x ∷ is.before; following = is.following; all = ap (λ rs. x ∷ rs) is.all; numbered = ap suc is.numbered; matches = is.matches; not_ended = rw passed is.not_ended; stands = is.stands }, decide, last ∙ ap (λ (m : ℕ). Some (found p m a)) at))))
 
 -- a later match stands in place of an earlier one
 then_stands : (m d : PlainMatch) (y : Evaluated PlainMatch) → last_of y ≡ Some d → last_of (and_then (Open (Some m)) y) ≡ Some d

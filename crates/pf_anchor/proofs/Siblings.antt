@@ -45,8 +45,8 @@ slash_is n is = ap is_slash is
 
 -- where the last slash of a path stands, and a slash at the end of what comes before a component
 module _ (a x w : List ℕ) (start : ℕ) (is : w ≡ a ++ x) (single : list_any is_slash x ≡ false) (slash : 0 < start → get_or w (start - 1) 0 ≡ 47) (none : (k : ℕ) → start ≤ k → k < length w → get_or w k 0 ≢ 47) (few : start ≤ length w) where
-  not_behind : length a < start → {A : Type 0} → A
-  not_behind lt =
+  not_after : length a < start → {A : Type 0} → A
+  not_after lt =
       let some : 0 < start = omega (arith, lt) in
       let long : length w ≡ length a + length x = ap length is ∙ length-append a x in
       let at : get_or x (start - 1 - length a) 0 ≡ 47 = sym (ap (λ (v : List ℕ). get_or v (start - 1) 0) is ∙ get_or-append_right a x (start - 1) 0 (omega (arith, lt))) ∙ slash some in
@@ -64,10 +64,10 @@ start_is : (p x w : List ℕ) (start : ℕ) → w ≡ within p x → list_any is
 start_is [] x w start is single slash none few = by start refl where
   by : (n : ℕ) → start ≡ n → start ≡ 0
   by zero at = at
-  by (suc n) at = not_behind [] x w start is single slash none few (omega (arith, at))
+  by (suc n) at = not_after [] x w start is single slash none few (omega (arith, at))
 start_is (b ∷ bs) x w start is single slash none few =
     let low : (start < length (front (b ∷ bs))) → ⊥ = λ lt. not_before ((b ∷ bs) ++ 47 ∷ []) x w start is single slash none few (b ∷ bs) refl lt in
-    let high : (length (front (b ∷ bs)) < start) → ⊥ = λ lt. not_behind ((b ∷ bs) ++ 47 ∷ []) x w start is single slash none few lt in
+    let high : (length (front (b ∷ bs)) < start) → ⊥ = λ lt. not_after ((b ∷ bs) ++ 47 ∷ []) x w start is single slash none few lt in
     omega (arith, low, high)
 
 pub front_is : (p w : List ℕ) (start : ℕ) → is_child p w ≡ true → (0 < start → get_or w (start - 1) 0 ≡ 47) → ((k : ℕ) → start ≤ k → k < length w → get_or w k 0 ≢ 47) → start ≤ length w → take start w ≡ front p

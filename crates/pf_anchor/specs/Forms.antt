@@ -8,7 +8,7 @@
 -- each list after its number in four bytes; so nothing is there twice. No ruleset and no table is empty.
 use Rattle.std.specs.{Prelude.{ℕ, ◌+◌, ◌==◌, ◌&&◌, not, nat_le, Bool, List, length, map}, List.{list_all, sum_by}, Ordering.is_lt}
 use Rattle.pf_addr.specs.Path.{Paths.path_order, PathForms.{TextShape, path_form, table_name_form}}
-use Rattle.pf_form.specs.Bytes.{Forms.{Shape, both, list, Value, Form, pair, counted, that, length_of}, Lists.ordered}
+use Rattle.pf_form.specs.Bytes.{Forms.{Shape, both, list, Value, ByteForm, pair, counted, that, length_of}, Lists.ordered}
 use Rattle.pf_rule.specs.{Rules.PlainRule, Sum.{Forms.label_bytes, Layouts.{RuleShape, rule_layout, plain_rule, allows}, Reading.rule_of}}
 use Rattle.pf_table.specs.{declared.limits.TheConstants.{TABLE_LIMIT}, EntryForms.{EntryShape, entry, plain_entry, entry_of, entry_before}, Entries.PlainEntry}
 use Rattle.pf_anchor.specs.{declared.limits.TheConstants.{RULE_LIMIT, RULESET_LIMIT, TABLE_COUNT_LIMIT}, Configurations.PlainConfig, Rulesets.PlainPlaced, Tables.{PlainPlacedTable, placed_table, table_order}}
@@ -24,10 +24,10 @@ has_some xs = not (length xs == 0)
 abbrev pub RulesShape : Shape
 RulesShape = both TextShape (list RuleShape)
 
-unfoldable pub rule_list_form : ℕ → Form (list RuleShape)
+unfoldable pub rule_list_form : ℕ → ByteForm (list RuleShape)
 rule_list_form version = that (at_most RULE_LIMIT) (counted 4 (rule_layout version))
 
-unfoldable pub rules_form : ℕ → Form RulesShape
+unfoldable pub rules_form : ℕ → ByteForm RulesShape
 rules_form version = pair path_form (rule_list_form version)
 
 abbrev pub ruleset_before : Value RulesShape → Value RulesShape → Bool
@@ -37,7 +37,7 @@ ruleset_before a b = is_lt (path_order a.0 b.0)
 abbrev pub are_rulesets : List (Value RulesShape) → Bool
 are_rulesets rs = at_most RULESET_LIMIT rs && list_all (λ r. has_some r.1) rs
 
-unfoldable pub rulesets_form : ℕ → Form (list RulesShape)
+unfoldable pub rulesets_form : ℕ → ByteForm (list RulesShape)
 rulesets_form version = that are_rulesets (ordered ruleset_before 4 (rules_form version))
 
 abbrev pub plain_ruled : PlainPlaced → Value RulesShape
@@ -58,10 +58,10 @@ allows_ruleset version r = allows_rules version r.1
 abbrev pub NamedShape : Shape
 NamedShape = both TextShape (list EntryShape)
 
-unfoldable pub entries_form : Form (list EntryShape)
+unfoldable pub entries_form : ByteForm (list EntryShape)
 entries_form = that (at_most TABLE_LIMIT) (ordered entry_before 4 entry)
 
-unfoldable pub named_form : Form NamedShape
+unfoldable pub named_form : ByteForm NamedShape
 named_form = pair table_name_form entries_form
 
 abbrev pub plain_entries : List PlainEntry → List (Value EntryShape)
@@ -81,7 +81,7 @@ named_in v = (v.0, entries_in v.1)
 abbrev pub PlacedShape : Shape
 PlacedShape = both TextShape NamedShape
 
-unfoldable pub placed_form : Form PlacedShape
+unfoldable pub placed_form : ByteForm PlacedShape
 placed_form = pair path_form named_form
 
 abbrev pub placed_before : Value PlacedShape → Value PlacedShape → Bool
@@ -91,7 +91,7 @@ placed_before a b = is_lt (table_order (a.0, a.1.0) (b.0, b.1.0))
 abbrev pub are_tables : List (Value PlacedShape) → Bool
 are_tables ts = at_most TABLE_COUNT_LIMIT ts && list_all (λ t. has_some t.1.1) ts
 
-unfoldable pub kept_tables_form : Form (list PlacedShape)
+unfoldable pub kept_tables_form : ByteForm (list PlacedShape)
 kept_tables_form = that are_tables (ordered placed_before 4 placed_form)
 
 abbrev pub plain_tabled : PlainPlacedTable → Value PlacedShape

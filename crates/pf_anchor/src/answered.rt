@@ -145,9 +145,9 @@ fn all_at<'k, 'a>(known: &'k [Answered<'a>], path: &Path) -> &'k [Answered<'a>]
     ensures { (packet : PlainPacket) (ts : List PlainPlacedTable) → AreAnswered packet ts known.now → AreAnsweredAt packet ts path.now result.now }
 {
     let start = count_before_path(known, path);
-    let behind = &known[start..];
-    let count = count_up_to_path(behind, path);
-    &behind[..count]
+    let following = &known[start..];
+    let count = count_up_to_path(following, path);
+    &following[..count]
 }
 
 /// The answers of the tables that a ruleset's rules may mean by a name.

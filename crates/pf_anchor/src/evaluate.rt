@@ -138,7 +138,7 @@ fn last_so_far<'a>(
 
 /// A block in which a quick or an anchor rule may match.
 #[derive(Clone, Copy)]
-struct Stop {
+struct StopBlock {
     block: usize,
     /// Which of its rules match.
     mask: u8,
@@ -148,7 +148,7 @@ struct Stop {
 #[derive(Drop)]
 struct Passed<'a> {
     last: Option<Match<'a>>,
-    stop: Option<Stop>,
+    stop: Option<StopBlock>,
 }
 
 // Passes blocks from one on, up to the next in which a quick or an anchor rule may match. None: it is bounded, and tables were asked as often
@@ -178,7 +178,7 @@ fn pass_blocks<'a, T: AskedTables>(
         }
         if stopping(placed, block, mask) != 0 {
             let last = last_so_far(placed, last_block, before);
-            let stop = Some(Stop { block, mask });
+            let stop = Some(StopBlock { block, mask });
             return Some(Passed { last, stop });
         }
         if mask != 0 {

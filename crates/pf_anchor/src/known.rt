@@ -76,7 +76,7 @@ fn is_single(text: &[u8]) -> bool
 }
 
 // What comes after the front of a text.
-fn behind_front<'a>(text: &'a [u8], front: &[u8]) -> Option<&'a [u8]>
+fn rest_after<'a>(text: &'a [u8], front: &[u8]) -> Option<&'a [u8]>
     ensures { MatchOption result ((rest : List ℕ) → text.now ≢ front.now ++ rest) (λ rest. text.now ≡ front.now ++ rest.now) }
 {
     text.strip_prefix(front)
@@ -89,19 +89,19 @@ fn is_sibling(path: &Path, other: &Path) -> bool
     let bytes = path.as_bytes();
     let start = name_start(bytes);
     let front = &bytes[..start];
-    match behind_front(other.as_bytes(), front) {
+    match rest_after(other.as_bytes(), front) {
         Some(name) => is_single(name),
         None => false,
     }
 }
 
 // What the children of a path give from behind a child of it on.
-fn given_onward<'a>(placed: &Placed, behind: &[Known<'a>]) -> Evaluated<Match<'a>>
-    requires sorted { T (is_sorted depth_order (placed.now ∷ placed_of behind.now)) }
-    requires onward { AreOnward behind.now }
-    ensures { (p : List ℕ) → is_child p placed.now.0 ≡ true → result ≡ given (is_child p) behind.now }
+fn given_onward<'a>(placed: &Placed, following: &[Known<'a>]) -> Evaluated<Match<'a>>
+    requires sorted { T (is_sorted depth_order (placed.now ∷ placed_of following.now)) }
+    requires onward { AreOnward following.now }
+    ensures { (p : List ℕ) → is_child p placed.now.0 ≡ true → result ≡ given (is_child p) following.now }
 {
-    let Some(next) = behind.first() else {
+    let Some(next) = following.first() else {
         return Evaluated::Open(None);
     };
     if is_sibling(placed.key(), next.placed.key()) {
@@ -139,14 +139,14 @@ impl<'a> Known<'a> {
     }
 
     /// The same ruleset, where it is known what it gives, and what those behind it give.
-    pub(crate) fn found(&self, gives: Evaluated<Match<'a>>, behind: &[Known<'a>]) -> Known<'a>
-        requires sorted { T (is_sorted depth_order (self.now.0 ∷ placed_of behind.now)) }
-        requires onward { AreOnward behind.now }
+    pub(crate) fn found(&self, gives: Evaluated<Match<'a>>, following: &[Known<'a>]) -> Known<'a>
+        requires sorted { T (is_sorted depth_order (self.now.0 ∷ placed_of following.now)) }
+        requires onward { AreOnward following.now }
         ensures placed { result.0 ≡ self.now.0 }
         ensures gives { result.1 ≡ gives.entry }
-        ensures onward { (p : List ℕ) → is_child p self.now.0.0 ≡ true → result.2 ≡ and_then gives.entry (given (is_child p) behind.now) }
+        ensures onward { (p : List ℕ) → is_child p self.now.0.0 ≡ true → result.2 ≡ and_then gives.entry (given (is_child p) following.now) }
     {
-        let onward = gives.and_then(&given_onward(self.placed, behind));
+        let onward = gives.and_then(&given_onward(self.placed, following));
         Known {
             placed: self.placed,
             components: self.components,

@@ -2,7 +2,7 @@
 ghost use Rattle.std.specs.Prelude.{◌≡◌, ◌+◌, ◌*◌, ℕ, true, All, length};
 ghost use Rattle.pf_rule.specs.Rules.{IsRule};
 ghost use Rattle.pf_anchor.specs.declared.limits.TheConstants.{RULE_LIMIT, RULESET_LIMIT, TABLE_COUNT_LIMIT};
-ghost use Rattle.pf_anchor.specs.{Forms.{allows_rules, labels_length, ruled_length, tabled_length}, Rulesets.PlainPlaced, Tables.PlainPlacedTable, Laws.Configurations.{ReplacesInTurn, StaysMap, OneMap, ChildrenHaveRules}, Laws.Tables.{ReplacesTables, HasItsEntries, OtherNamesStay, OtherPathsStay, StaysTableMap, EmptyIsAbsent, OneTableMap, LeavesTheOther, TablesAtPath, OwnAnswers, OwnHidesMain, MainAnswersElse, NoneElse, OthersAnswerNothing}, Laws.Evaluation.{TellsWhatDecides, Unrolls, IsTheOnly, DepthIsEnough, OwnMatch, EndsOutside, NothingWithin, MatchWithin, InTurn, LeadsToTheseAlone, QuickEnds, EndsTheVerdict, AnchorsNeverDecide, ToldRuleDecides, UnreachedIsNothing, InTwoParts, PassedOver}};
+ghost use Rattle.pf_anchor.specs.{Forms.{allows_rules, labels_length, ruled_length, tabled_length}, Rulesets.PlainPlaced, Tables.PlainPlacedTable, Laws.Configurations.{ReplacesInTurn, StaysMap, OneMap, ChildrenHaveRules}, Laws.Tables.{ReplacesTables, HasItsEntries, OtherNamesStay, OtherPathsStay, StaysTableMap, EmptyIsAbsent, OneTableMap, LeavesTheOther, TablesAtPath, OwnAnswers, OwnHidesMain, MainAnswersElse, NoneElse, OthersAnswerNothing}, Laws.Evaluation.{TellsWhatDecides, Unrolls, IsTheOnly, DepthIsEnough, OwnMatch, EndsOutside, NothingWithin, MatchWithin, InTurn, LeadsToTheseAlone, QuickEnds, EndsTheVerdict, AnchorsNeverDecide, VerdictRuleDecides, UnreachedIsNothing, InTwoParts, PassedOver}};
 
 /// A ruleset has at most 1,024 rules, and there are at most 1,024 rulesets and 1,024 tables.
 pub fn the_limits_of_rulesets()
@@ -79,7 +79,7 @@ pub fn rules_lead_to_rulesets_in_turn()
 /// The rule of a verdict is at the verdict's path and number, matches, and decides; an anchor rule never does. The same holds for what any
 /// ruleset's evaluation finds.
 pub fn no_anchor_rule_decides()
-    ensures told { ToldRuleDecides }
+    ensures reported { VerdictRuleDecides }
     ensures found { AnchorsNeverDecide }
 {}
 

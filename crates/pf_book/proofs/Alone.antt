@@ -2,11 +2,11 @@
 use Rattle.std.proofs.{Common.{◌≡◌, ℕ, ◌+◌, ◌≤◌, ◌<◌, Bool, true, false, cond, List, [], ◌∷◌, ◌++◌, length, Result, Ok, Err, refl, sym, ap, ◌∙◌, subst, append-nil, arith}, lemmas.Bool.Decides.nat_tests}
 use Rattle.std.specs.Prelude.{nat_lt}
 use Rattle.pf_core.specs.declared.{command.Command.Command, reply.Refusal.{Refusal, TheVariants.HistoryFull, TheVariants.Full}, reply.Reply.Reply}
-use Rattle.pf_core.specs.{Durable.Changes.{PlainDurable, PlainChange, applied}, Laws.Groups.{HaveRoomEach}, WorldBooks.{WorldBook, IsAt, IsFolded, LeadsGroup}, Worlds.{Setting, CurrentOpening, Upshot, flat, log_of, durable_of, room_for, amid, changes_due}}
+use Rattle.pf_core.specs.{Durable.Changes.{PlainDurable, PlainChange, applied}, Laws.Groups.{HaveRoomEach}, WorldBooks.{WorldBook, IsAt, LeadsGroup}, Worlds.{Setting, CurrentOpening, Upshot, flat, log_of, durable_of, room_for, amid, changes_due}}
 use Rattle.pf_core.proofs.{Courses.{IsAccepted, accepted, durable-amid, length-with}, Groups.rooms-found, InTurn.roomy_groups_are_in_turn}
 use Rattle.pf_store.specs.{Rooms.{on_device}}
 use Rattle.pf_book.specs.{Books.{PlainBook, world_book}, Courses.{FindRoomEach, IsPlanned}, Groups.{Answered, AreDueAsAlone, replies_of}}
-use Rattle.pf_book.proofs.{Calling.durable-is, Finding.device-fits, Grouping.calm}
+use Rattle.pf_book.proofs.{Calling.durable-is, Finding.device-fits, Grouping.changes-are}
 
 -- room in banks of this size is what the opening looks for
 rooms-each : (h : CurrentOpening) (limit size : ℕ) (es : List PlainChange) → h.setting ≡ on_device limit size → h.pending ≡ [] → length (flat h.acked) + length es ≤ limit → FindRoomEach size (durable_of h) es → HaveRoomEach h es
@@ -38,14 +38,14 @@ each-of h limit size (e ∷ es) setting none room each =
     let log : length (log_of h) ≡ length (flat h.acked) = ap (λ (gs : List (List PlainChange)). length (flat (h.acked ++ gs))) none ∙ ap (λ (gs : List (List PlainChange)). length (flat gs)) (append-nil h.acked) in
     rooms-each h limit size (e ∷ es) setting none (omega (arith, within h (e ∷ es) room (omega arith), log, ap (λ (s : Setting). s.limit) setting)) each
 
-pub due-as-alone : {D : Type 0} (h : CurrentOpening) (b : PlainBook D) (commands : List Command) (result : Result (List Answered) Refusal) → IsAt h (world_book b) → IsFolded (world_book b)
+pub due-as-alone : {D : Type 0} (h : CurrentOpening) (b : PlainBook D) (commands : List Command) (result : Result (List Answered) Refusal) → IsAt h (world_book b)
     → {due : List Reply} {es : List PlainChange} {left : _} → IsPlanned (world_book b) commands due es left → FindRoomEach b.size b.whole.durable es → (new : WorldBook) (came : Upshot)
     → LeadsGroup h new commands (replies_of result) came → AreDueAsAlone h commands result
-due-as-alone h b commands (Err e) at folded plan each new came leads = tt
-due-as-alone h b commands (Ok answers) at folded {due} {es} {left} plan each new came leads =
+due-as-alone h b commands (Err e) at plan each new came leads = tt
+due-as-alone h b commands (Ok answers) at {due} {es} {left} plan each new came leads =
     let w : WorldBook = world_book b in
     let k : IsAccepted h commands _ = accepted h commands _ came.failed leads.legal.reply in
-    let wants : es ≡ changes_due h [] commands = plan.course.changes h (calm h w at folded plan.none) in
+    let wants : es ≡ changes_due h [] commands = changes-are plan h at in
     let there : FindRoomEach b.size (durable_of h) (changes_due h [] commands) =
-    subst (FindRoomEach b.size (durable_of h)) wants (subst (λ (d : PlainDurable). FindRoomEach b.size d es) (durable-is h w at folded) each) in
+    subst (FindRoomEach b.size (durable_of h)) wants (subst (λ (d : PlainDurable). FindRoomEach b.size d es) (durable-is h w at plan.folded) each) in
     roomy_groups_are_in_turn h commands k.taken.none k.taken.may (each-of h b.limit b.size (changes_due h [] commands) (sym at.setting) k.taken.none k.taken.room there)

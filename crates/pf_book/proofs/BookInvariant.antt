@@ -9,7 +9,7 @@ use Rattle.pf_core.specs.{Commands.step_by, Durable.Changes.{PlainDurable, Plain
 use Rattle.pf_store.specs.{Openings.{IsNoLaterThan, LeavesRoom}, Rooms.on_device, Stores.{Holds, HoldsEither, IsRoomy}, StoreKept.{Stands, PlainStore}}
 use Rattle.pf_view.specs.Past.Pasts.{PlainFront, PlainTip, no_changes, all_acked, front_of}
 use Rattle.pf_view.specs.Seers.{PlainShower}
-use Rattle.pf_book.specs.{Books.{BookParts, parts_of, cut, world_book_of, HasRoom, HoldsFront, IsOpened, IsBook, shows_all}}
+use Rattle.pf_book.specs.{Books.{BookParts, parts_of, cut, world_book_of, BookHasRoom, HoldsFront, IsOpened, IsBook, shows_all}}
 use Rattle.pf_book.proofs.Openable.{later}
 use Rattle.pf_book.proofs.Wanting.{stepped-within}
 use Rattle.pf_book.proofs.HistoryGroups.{acked-is, flat-acked, cut-still, flat-more, grouped-some, left-group, taken-still, prefix_is, prefix_short, prefix_take, IsGrown, grown-cuts, grown-length, grown-all, grown-flat}
@@ -56,7 +56,7 @@ module _ {D : Type 0} {seen : D → List ℕ} {unsynced : D → ℕ → Bool} {p
 
   -- a group was kept
   pub more-book : (store : PlainStore D) (whole : PlainCore) (durable : PlainDurable) (log : List PlainChange) (sizes : List ℕ) (acked : ℕ) (tip : PlainTip) (front : PlainFront) (group : List PlainChange)
-      → IsGrown p log sizes acked group → HasRoom (world_book_of p) group → tip.front ≡ p.tip.front ++ group → tip.acked ≡ p.tip.acked + length group → tip.shown ≡ p.tip.shown → front ≡ front_of tip
+      → IsGrown p log sizes acked group → BookHasRoom (world_book_of p) group → tip.front ≡ p.tip.front ++ group → tip.acked ≡ p.tip.acked + length group → tip.shown ≡ p.tip.shown → front ≡ front_of tip
       → whole.durable ≡ after p.whole.durable group → AreTicketsWithin whole.tickets → durable ≡ whole.durable
       → p.store.halted ≡ false → store.halted ≡ false → Stands seen unsynced store whole.durable → store.generation ≤ p.store.generation + 1
       → Each store (λ c. Holds c whole.durable) → Each store (IsNoLaterThan (store.generation + 1)) → (IsRoomy store.size p.base → Each store LeavesRoom)
@@ -118,7 +118,7 @@ module _ {D : Type 0} {seen : D → List ℕ} {unsynced : D → ℕ → Bool} {p
 
   -- the device failed while a group was being kept
   pub fault-book : (store : PlainStore D) (log : List PlainChange) (sizes : List ℕ) (tip : PlainTip) (group : List PlainChange)
-      → p.acked ≡ length p.log → 0 < length group → length group ≤ GROUP_LIMIT → HasRoom (world_book_of p) group → log ≡ p.log ++ group → sizes ≡ p.sizes
+      → p.acked ≡ length p.log → 0 < length group → length group ≤ GROUP_LIMIT → BookHasRoom (world_book_of p) group → log ≡ p.log ++ group → sizes ≡ p.sizes
       → tip.front ≡ p.tip.front ++ group → tip.acked ≡ p.tip.acked → tip.shown ≡ p.tip.shown → store.halted ≡ true
       → Each store (HoldsEither p.whole.durable (after p.whole.durable group)) → Each store (IsNoLaterThan (store.generation + 1)) → (IsRoomy store.size p.base → Each store LeavesRoom)
       → IsBook seen unsynced (record p { store = store; log = log; sizes = sizes; tip = tip })

@@ -1,5 +1,5 @@
 -- What is left of a Book.
-use Rattle.std.proofs.{Common.{◌≡◌, ℕ, ◌≤◌, List, length, take, ap, sym, ◌∙◌, arith}, lemmas.List.{length-append, length-take, take-append-drop}}
+use Rattle.std.proofs.{Common.{ℕ, ◌≤◌, List, length, take, ap, arith}, lemmas.List.{length-append, length-take, take-append-drop}}
 use mathlib.Core.List.{IsPrefix}
 use Rattle.pf_core.specs.Durable.Changes.{PlainChange}
 use Rattle.pf_view.proofs.Prefixes.{prefix_shorter}

@@ -3,12 +3,12 @@ use Rattle.std.proofs.{Common.{◌≡◌, ◌≢◌, cond, ℕ, ◌+◌, ◌<◌
 use Rattle.std.specs.{Prelude.{flat_map, not, position, ◌↔◌, ⊤, IsTrue}, List.{AllByRecursion, list_all, position_from}}
 use Rattle.pf_core.specs.Refusing.{unless, refused_at, AreBothPassed, both_passed, not_refused}
 use Rattle.pf_ticket.specs.{Laws.Tickets.IsWithin as AreTicketsWithin, Mentions.{after as moved_by, switches}, Tickets.PlainTickets}
-use Rattle.pf_core.specs.declared.{command.Command.Command, reply.Refusal.Refusal, reply.Refusal.TheVariants.{BadCount, NotGrouped, Memory}, group.TheConstants.GROUP_LIMIT, reply.Reply.Reply, step.ReadyStep.ReadyStep, step.Step.Step, step.Step.TheVariants.{Done, Wants, OfHistory}}
+use Rattle.pf_core.specs.declared.{command.Command.Command, reply.Refusal.Refusal, reply.Refusal.TheVariants.{BadCount, NotGrouped, Memory}, group.TheConstants.GROUP_LIMIT, reply.Reply.Reply, step.ReadyStep.ReadyStep, step.Step.Step, step.Step.TheVariants.{Wants}}
 use Rattle.pf_core.specs.declared.step.ReadyStep.TheVariants as made
-use Rattle.pf_core.specs.{Commands.{step_by, may_be_grouped, bad_number, group_words}, Durable.Changes.{PlainDurable, PlainChange, after, applied, voided_by, fits}, Laws.Wanted.wants_what_fits, Nexts.PlainNext, Cores.{PlainCore, left_behind, plain, IsMadeFrom}, Worlds.{CurrentOpening, log_of, durable_of, step_in, reply_to, changes_of, amid, changes_due, replies_due}}
+use Rattle.pf_core.specs.{Commands.{step_by, may_be_grouped, bad_number, group_words}, Durable.Changes.{PlainDurable, PlainChange, after, applied, voided_by, fits}, Laws.Wanted.wants_what_fits, Nexts.PlainNext, Cores.{PlainCore, left_from, plain, IsMadeFrom}, Worlds.{CurrentOpening, log_of, durable_of, step_in, reply_to, changes_of, amid, changes_due, replies_due}}
 use Rattle.pf_core.proofs.Courses.{step-there, left-there, log-amid}
 use Rattle.pf_store.specs.{Groups.{can_be_wanted, made_all}, Stores.{FindsRoom, FollowInTurn}}
-use Rattle.pf_store.specs.declared.groups.recorded.Recorded.TheVariants as recorded
+use Rattle.pf_store.specs.declared.encoding.recorded.Recorded.TheVariants as recorded
 use Rattle.pf_store.proofs.Leading.{follow_push, left_by_made}
 use Rattle.pf_book.specs.{Books.left_together, Courses.{IsCalm, ready_of, found_by, left_to, StepFindsRoom, FindRoomEach}}
 use Rattle.pf_book.proofs.Wanting.{wanted-can}
@@ -29,13 +29,11 @@ still-ready : (d : PlainDurable) (changes : List PlainChange) (before : Option P
 still-ready d changes before is = is ∙ ap (ready_of d) (sym (append-nil changes))
 
 pub left-on : (d : PlainDurable) (changes : List PlainChange) (before : Option PlainNext) (step : Result ReadyStep Refusal) → before ≡ ready_of d changes → IsMadeFrom (found_by d before) step → left_to step before ≡ ready_of d (changes ++ changes_of (plain step))
-left-on d changes before (Ok (made.Done a)) is from = still-ready d changes before is
 left-on d changes before (Ok (made.Wants e n o)) is from =
-    let behind : found_by d before ≡ left_together d changes = ap (found_by d) is ∙ so-far d changes in
-    let left : n ≡ left_together d (changes ++ e ∷ []) = from ∙ ap (λ (r : PlainNext). left_behind r e) behind ∙ left-there d changes e in
+    let following : found_by d before ≡ left_together d changes = ap (found_by d) is ∙ so-far d changes in
+    let left : n ≡ left_together d (changes ++ e ∷ []) = from ∙ ap (λ (r : PlainNext). left_from r e) following ∙ left-there d changes e in
     ap Some left ∙ sym (some-ready d changes e)
-left-on d changes before (Ok (made.OfHistory c)) is from = still-ready d changes before is
-left-on d changes before (Err e) is from = still-ready d changes before is
+left-on d changes before step is from = still-ready d changes before is
 
 -- if nothing is left there are no changes
 pub none-ready : (d : PlainDurable) (changes : List PlainChange) → None ≡ ready_of d changes → changes ≡ []
@@ -55,8 +53,8 @@ Steps w before c s = s ≢ Err Memory → s ≡ step_by (moved_by w.tickets (swi
 abbrev pub tickets_there : PlainCore → List PlainChange → PlainTickets
 tickets_there w changes = moved_by w.tickets (switches (flat_map voided_by changes))
 
-pub step-behind : (w : PlainCore) (changes : List PlainChange) (c : Command) (before : Option PlainNext) (s : Result Step Refusal) → before ≡ ready_of w.durable changes → Steps w before c s → s ≢ Err Memory → s ≡ step_by (tickets_there w changes) (after w.durable changes) c
-step-behind w changes c before s is steps known =
+pub step-after : (w : PlainCore) (changes : List PlainChange) (c : Command) (before : Option PlainNext) (s : Result Step Refusal) → before ≡ ready_of w.durable changes → Steps w before c s → s ≢ Err Memory → s ≡ step_by (tickets_there w changes) (after w.durable changes) c
+step-after w changes c before s is steps known =
     steps known ∙ ap (λ (r : PlainNext). step_by (moved_by w.tickets (switches r.voided)) r.durable c) (ap (found_by w.durable) is ∙ so-far w.durable changes)
 
 -- it is the step that the group's course has there
@@ -92,9 +90,7 @@ fit-on d t changes changes' c (Ok (Wants e o)) is wants so =
     subst (λ (es : List PlainChange). FollowInTurn d (made_all es)) (sym wants)
     (subst (FollowInTurn d) (sym (map-append recorded.Made changes (e ∷ [])))
     (follow_push d (made_all changes) (recorded.Made e) so (subst (λ (k : PlainDurable). fits k e ≡ Ok tt) (sym (left_by_made d changes)) fit)))
-fit-on d t changes changes' c (Ok (Done a)) is wants so = subst (λ (es : List PlainChange). FollowInTurn d (made_all es)) (sym (wants ∙ append-nil changes)) so
-fit-on d t changes changes' c (Ok (OfHistory x)) is wants so = subst (λ (es : List PlainChange). FollowInTurn d (made_all es)) (sym (wants ∙ append-nil changes)) so
-fit-on d t changes changes' c (Err e) is wants so = subst (λ (es : List PlainChange). FollowInTurn d (made_all es)) (sym (wants ∙ append-nil changes)) so
+fit-on d t changes changes' c s is wants so = subst (λ (es : List PlainChange). FollowInTurn d (made_all es)) (sym (wants ∙ append-nil changes)) so
 
 all-push : (es : List PlainChange) (e : PlainChange) → list_all can_be_wanted es ≡ true → can_be_wanted e ≡ true → list_all can_be_wanted (es ++ e ∷ []) ≡ true
 all-push [] e all here = ap (λ (b : Bool). b && true) here
@@ -106,18 +102,14 @@ all-push (x ∷ es) e all here = by (can_be_wanted x) all (all-push es e) where
 -- and it can be wanted
 pub wanted-on : (t : PlainTickets) (d : PlainDurable) (changes changes' : List PlainChange) (c : Command) (s : Result Step Refusal) → AreTicketsWithin t → s ≡ step_by t d c → changes' ≡ changes ++ changes_of s → list_all can_be_wanted changes ≡ true → list_all can_be_wanted changes' ≡ true
 wanted-on t d changes changes' c (Ok (Wants e o)) within is wants so = ap (list_all can_be_wanted) wants ∙ all-push changes e so (wanted-can t d c e o within (sym is))
-wanted-on t d changes changes' c (Ok (Done a)) within is wants so = ap (list_all can_be_wanted) (wants ∙ append-nil changes) ∙ so
-wanted-on t d changes changes' c (Ok (OfHistory x)) within is wants so = ap (list_all can_be_wanted) (wants ∙ append-nil changes) ∙ so
-wanted-on t d changes changes' c (Err e) within is wants so = ap (list_all can_be_wanted) (wants ∙ append-nil changes) ∙ so
+wanted-on t d changes changes' c s within is wants so = ap (list_all can_be_wanted) (wants ∙ append-nil changes) ∙ so
 
 -- there is at most one
 pub few-on : (changes changes' : List PlainChange) (s : Result Step Refusal) → changes' ≡ changes ++ changes_of s → length changes' ≤ length changes + 1
 few-on changes changes' s wants = omega (arith, ap length wants, length-append changes (changes_of s), one s) where
   one : (s : Result Step Refusal) → length (changes_of s) ≤ 1
   one (Ok (Wants e o)) = omega arith
-  one (Ok (Done a)) = omega arith
-  one (Ok (OfHistory x)) = omega arith
-  one (Err e) = omega arith
+  one s = omega arith
 
 -- ---- its room
 
@@ -139,31 +131,29 @@ each-still size d changes changes' was has both same is each here =
 
 pub each-on : (size : ℕ) (d : PlainDurable) (changes changes' : List PlainChange) (before : Option PlainNext) (step : Result ReadyStep Refusal) (was has both : Bool) → before ≡ ready_of d changes → IsMadeFrom (found_by d before) step
     → changes' ≡ changes ++ changes_of (plain step) → both ≡ (was && has) → IsTrue was ↔ FindRoomEach size d changes → IsTrue has ↔ StepFindsRoom size (found_by d before).durable step → IsTrue both ↔ FindRoomEach size d changes'
-each-on size d changes changes' before (Ok (made.Done a)) was has both ready from same is each here = each-still size d changes changes' was has both same is each here
-each-on size d changes changes' before (Ok (made.OfHistory c)) was has both ready from same is each here = each-still size d changes changes' was has both same is each here
-each-on size d changes changes' before (Err e) was has both ready from same is each here = each-still size d changes changes' was has both same is each here
 each-on size d changes changes' before (Ok (made.Wants e n o)) was has both ready from same is each here =
     let and : IsTrue both ↔ (IsTrue was × IsTrue has) = both-true was has both is in
     let push = each-push size d changes e in
-    let behind : (found_by d before).durable ≡ after d changes = ap (λ (r : PlainNext). r.durable) (ap (found_by d) ready ∙ so-far d changes) in
-    let left : n.durable ≡ applied (after d changes) e = ap (λ (r : PlainNext). r.durable) from ∙ ap (λ (k : PlainDurable). applied k e) behind in
+    let following : (found_by d before).durable ≡ after d changes = ap (λ (r : PlainNext). r.durable) (ap (found_by d) ready ∙ so-far d changes) in
+    let left : n.durable ≡ applied (after d changes) e = ap (λ (r : PlainNext). r.durable) from ∙ ap (λ (k : PlainDurable). applied k e) following in
     let there : StepFindsRoom size (found_by d before).durable (Ok (made.Wants e n o)) → FindsRoom size (after d changes) (applied (after d changes) e) (e ∷ []) =
-    λ p. subst (λ (k : PlainDurable). FindsRoom size k (applied (after d changes) e) (e ∷ [])) behind (subst (λ (k : PlainDurable). FindsRoom size (found_by d before).durable k (e ∷ [])) left p) in
+    λ p. subst (λ (k : PlainDurable). FindsRoom size k (applied (after d changes) e) (e ∷ [])) following (subst (λ (k : PlainDurable). FindsRoom size (found_by d before).durable k (e ∷ [])) left p) in
     let back : FindsRoom size (after d changes) (applied (after d changes) e) (e ∷ []) → StepFindsRoom size (found_by d before).durable (Ok (made.Wants e n o)) =
-    λ p. subst (λ (k : PlainDurable). FindsRoom size (found_by d before).durable k (e ∷ [])) (sym left) (subst (λ (k : PlainDurable). FindsRoom size k (applied (after d changes) e) (e ∷ [])) (sym behind) p) in (
+    λ p. subst (λ (k : PlainDurable). FindsRoom size (found_by d before).durable k (e ∷ [])) (sym left) (subst (λ (k : PlainDurable). FindsRoom size k (applied (after d changes) e) (e ∷ [])) (sym following) p) in (
       λ p. subst (FindRoomEach size d) (sym same) (push.1 (each.0 (and.0 p).0, there (here.0 (and.0 p).1))),
       λ p. let q = push.0 (subst (FindRoomEach size d) same p) in and.1 (each.1 q.0, here.1 (back q.1)),
     )
+each-on size d changes changes' before step was has both ready from same is each here = each-still size d changes changes' was has both same is each here
 
 -- ---- a group's own words
 
 none-unfit : (i : ℕ) (commands : List Command) → position_from (λ (c : Command). not (may_be_grouped c)) i commands ≡ None → AllByRecursion (λ c. may_be_grouped c ≡ true) commands
 none-unfit i [] is = tt
 none-unfit i (c ∷ cs) is = by (may_be_grouped c) refl is (none-unfit (i + 1) cs) where
-  behind : Option ℕ
-  behind = position_from (λ (x : Command). not (may_be_grouped x)) (i + 1) cs
+  following : Option ℕ
+  following = position_from (λ (x : Command). not (may_be_grouped x)) (i + 1) cs
 
-  by : (b : Bool) → may_be_grouped c ≡ b → cond (not b) (Some i) behind ≡ None → (behind ≡ None → AllByRecursion (λ c. may_be_grouped c ≡ true) cs) → AllByRecursion (λ c. may_be_grouped c ≡ true) (c ∷ cs)
+  by : (b : Bool) → may_be_grouped c ≡ b → cond (not b) (Some i) following ≡ None → (following ≡ None → AllByRecursion (λ c. may_be_grouped c ≡ true) cs) → AllByRecursion (λ c. may_be_grouped c ≡ true) (c ∷ cs)
   by true may rest more = (may, more rest)
   by false never rest more = absurd (cc (rest))
 

@@ -1,10 +1,10 @@
 -- The receipts of a group's replies.
-use Rattle.std.proofs.{Common.{◌≡◌, inl, inr, ℕ, zero, suc, drop, ◌+◌, ◌≤◌, Bool, true, false, List, [], ◌∷◌, ◌++◌, length, take, Some, Result, Ok, Err, refl, sym, ap, ◌∙◌, subst, arith, append_assoc, append-nil, length-append}, lemmas.List.{map-id, take_all, take-append-le, Elements.{All-nil, All-cons}}}
+use Rattle.std.proofs.{Common.{◌≡◌, inl, inr, min, Option, ℕ, zero, suc, drop, ◌+◌, ◌≤◌, Bool, true, false, List, [], ◌∷◌, ◌++◌, length, take, Some, Result, Ok, Err, refl, sym, ap, ◌∙◌, subst, arith, append_assoc, append-nil, length-append}, lemmas.List.{map-id, take_all, take-append-le, Elements.{All-nil, All-cons}}}
 use Rattle.std.specs.{Prelude.{fold, map, slice_get, All}, List.AllByRecursion}
-use Rattle.pf_core.specs.declared.{command.Command.Command, reply.Refusal.Refusal, reply.Outcome.Outcome, reply.Reply.Reply, reply.Reply.TheVariants.{Answer, Applied, Stored, Refused}, step.Step.Step, step.Step.TheVariants.{Done, Wants, OfHistory}}
+use Rattle.pf_core.specs.declared.{command.Command.Command, reply.Refusal.Refusal, reply.Outcome.Outcome, reply.Reply.Reply, reply.Reply.TheVariants.{Answer, Applied, Stored, Refused}, step.Step.Step, step.Step.TheVariants.{Done, Wants}}
 use Rattle.pf_core.specs.{Durable.Changes.PlainChange, WorldBooks.{WorldBook, LeadsGroup}, Worlds.{Upshot, shown_by, CurrentOpening, flat, log_of, grouped, step_in, reply_to, changes_of, amid, changes_with, changes_due, replies_due}}
-use Rattle.pf_core.proofs.{Courses.{flat-with, IsOfGroup, told, wanted, refused, step-amid, MayBeGrouped, told_as, IsAccepted, accepted}, GroupLeads.{IsShownSo, shown-due}}
-use Rattle.pf_book.specs.{Groups.{Answered, AreAnswered}, Pairs.{behind, left_behind, kept_count, given_to, slip_at, paired}, Books.log_in, Receipts.{PlainReceipt, EndsIn, ShownFits, token_of}}
+use Rattle.pf_core.proofs.{Courses.{flat-with, IsOfGroup, reported, wanted, refused, step-amid, MayBeGrouped, as_due_or_stored, IsAccepted, accepted}, GroupLeads.{IsShownSo, shown-due}}
+use Rattle.pf_book.specs.{Groups.{Answered, AreAnswered}, Pairs.{count_after, given_after, kept_count, given_to, slip_at, paired}, Books.log_in, Receipts.{PlainReceipt, EndsIn, ShownFits, receipt_of, token_of}}
 
 same-end : (xs ys zs : List PlainChange) → xs ++ ys ≡ xs ++ zs → ys ≡ zs
 same-end [] ys zs is = is
@@ -32,13 +32,13 @@ abbrev First : CurrentOpening → List PlainChange → List PlainChange → Resu
 First h log changes s r slip = (slip.front ≡ log_of (amid h changes) ++ changes_of s) × ((slip.acked ≡ length slip.front) × ((slip.change ≡ slice_get (changes_of s) 0) × (slip.token ≡ token_of r log)))
 
 -- and the receipts of the commands after it
-abbrev Behind : CurrentOpening → List PlainChange → List PlainChange → List Command → Result Step Refusal → List Answered → Type 0
-Behind h log changes cs s [] = ⊥
-Behind h log changes cs s (a ∷ others) = First h log changes s a.0 a.1 × AreAnswered h log (changes ++ changes_of s) cs others
+abbrev AnswersFollow : CurrentOpening → List PlainChange → List PlainChange → List Command → Result Step Refusal → List Answered → Type 0
+AnswersFollow h log changes cs s [] = ⊥
+AnswersFollow h log changes cs s (a ∷ others) = First h log changes s a.0 a.1 × AreAnswered h log (changes ++ changes_of s) cs others
 
-behind-is : (h : CurrentOpening) (log changes : List PlainChange) (c : Command) (cs : List Command) (answers : List Answered) → Behind h log changes cs (step_in (amid h changes) c) answers → AreAnswered h log changes (c ∷ cs) answers
-behind-is h log changes c cs [] none = absurd none
-behind-is h log changes c cs (a ∷ others) both = (record { front = both.0.0; acked = both.0.1.0; change = both.0.1.1.0; token = both.0.1.1.1 }, both.1)
+follow-is : (h : CurrentOpening) (log changes : List PlainChange) (c : Command) (cs : List Command) (answers : List Answered) → AnswersFollow h log changes cs (step_in (amid h changes) c) answers → AreAnswered h log changes (c ∷ cs) answers
+follow-is h log changes c cs [] none = absurd none
+follow-is h log changes c cs (a ∷ others) both = (record { front = both.0.0; acked = both.0.1.0; change = both.0.1.1.0; token = both.0.1.1.1 }, both.1)
 
 -- so many changes are shown after the group
 module _ (many : ℕ) where
@@ -53,12 +53,12 @@ module _ (many : ℕ) where
   -- the same of the commands after the first
   abbrev On : CurrentOpening → List PlainChange → List Command → Bool → Type 0
   On h log cs stored = (changes rest : List PlainChange) → changes_due h changes cs ≡ changes ++ rest → log ≡ flat h.acked ++ (changes ++ rest) → (n : ℕ) → n ≡ length (flat h.acked) + length changes
-      → AreAnswered h log changes cs (paired many log n (map (told_as stored) (replies_due h changes cs)) rest)
+      → AreAnswered h log changes cs (paired many log n (map (as_due_or_stored stored) (replies_due h changes cs)) rest)
 
   -- if it wants no change
   still : (h : CurrentOpening) (log changes rest : List PlainChange) (cs : List Command) (stored : Bool) → h.pending ≡ [] → log ≡ flat h.acked ++ (changes ++ rest) → (n : ℕ) → n ≡ length (flat h.acked) + length changes → On h log cs stored
       → (s : Result Step Refusal) (x : Reply) → changes_of s ≡ [] → changes_due h (changes ++ changes_of s) cs ≡ changes ++ rest
-      → First h log changes s x (slip_at many log (n + 0) (slice_get (changes_of s) 0) x) × AreAnswered h log (changes ++ changes_of s) cs (paired many log (n + 0) (map (told_as stored) (replies_due h (changes ++ changes_of s) cs)) rest)
+      → First h log changes s x (slip_at many log (n + 0) (slice_get (changes_of s) 0) x) × AreAnswered h log (changes ++ changes_of s) cs (paired many log (n + 0) (map (as_due_or_stored stored) (replies_due h (changes ++ changes_of s) cs)) rest)
   still h log changes rest cs stored none all n is on s x nothing due =
       let same : changes ++ changes_of s ≡ changes = ap (λ (l : List PlainChange). changes ++ l) nothing ∙ append-nil changes in
       let zero_more : n + 0 ≡ n = omega arith in
@@ -71,7 +71,7 @@ module _ (many : ℕ) where
   -- and if it wants one
   wants : (h : CurrentOpening) (log changes rest : List PlainChange) (cs : List Command) (stored : Bool) → h.pending ≡ [] → log ≡ flat h.acked ++ (changes ++ rest) → (n : ℕ) → n ≡ length (flat h.acked) + length changes → On h log cs stored
       → (e : PlainChange) (o : Outcome) (x : Reply) (left : List PlainChange) → rest ≡ e ∷ left → changes_due h (changes ++ e ∷ []) cs ≡ (changes ++ e ∷ []) ++ left
-      → First h log changes (Ok (Wants e o)) x (slip_at many log (n + 1) (Some e) x) × AreAnswered h log (changes ++ e ∷ []) cs (paired many log (n + 1) (map (told_as stored) (replies_due h (changes ++ e ∷ []) cs)) left)
+      → First h log changes (Ok (Wants e o)) x (slip_at many log (n + 1) (Some e) x) × AreAnswered h log (changes ++ e ∷ []) cs (paired many log (n + 1) (map (as_due_or_stored stored) (replies_due h (changes ++ e ∷ []) cs)) left)
   wants h log changes rest cs stored none all n is on e o x left here due =
       let more : List PlainChange = changes ++ e ∷ [] in
       let whole : log ≡ flat h.acked ++ (more ++ left) = all ∙ ap (λ (l : List PlainChange). flat h.acked ++ (changes ++ l)) here ∙ ap (λ (l : List PlainChange). flat h.acked ++ l) (sym (append_assoc changes (e ∷ []) left)) in
@@ -84,9 +84,9 @@ module _ (many : ℕ) where
 
   by-step : (h : CurrentOpening) (log changes rest : List PlainChange) (cs : List Command) (stored : Bool) → h.pending ≡ [] → log ≡ flat h.acked ++ (changes ++ rest) → (n : ℕ) → n ≡ length (flat h.acked) + length changes → On h log cs stored
       → (stored' : Bool) (k : Command) (s : Result Step Refusal) → IsOfGroup k s → changes_due h (changes ++ changes_of s) cs ≡ changes ++ rest
-      → Behind h log changes cs s (paired many log n (told_as stored' (reply_to (amid h changes) s) ∷ map (told_as stored) (replies_due h (changes ++ changes_of s) cs)) rest)
-  by-step h log changes rest cs stored none all n is on true _ _ (told k x unmentioned silent) due = still h log changes rest cs stored none all n is on (Ok (Done x)) (Answer x) refl due
-  by-step h log changes rest cs stored none all n is on false _ _ (told k x unmentioned silent) due = still h log changes rest cs stored none all n is on (Ok (Done x)) (Answer x) refl due
+      → AnswersFollow h log changes cs s (paired many log n (as_due_or_stored stored' (reply_to (amid h changes) s) ∷ map (as_due_or_stored stored) (replies_due h (changes ++ changes_of s) cs)) rest)
+  by-step h log changes rest cs stored none all n is on true _ _ (reported k x unmentioned silent) due = still h log changes rest cs stored none all n is on (Ok (Done x)) (Answer x) refl due
+  by-step h log changes rest cs stored none all n is on false _ _ (reported k x unmentioned silent) due = still h log changes rest cs stored none all n is on (Ok (Done x)) (Answer x) refl due
   by-step h log changes rest cs stored none all n is on true _ _ (refused k e) due = still h log changes rest cs stored none all n is on (Err e) (Refused e) refl due
   by-step h log changes rest cs stored none all n is on false _ _ (refused k e) due = still h log changes rest cs stored none all n is on (Err e) (Refused e) refl due
   by-step h log changes rest cs stored none all n is on true _ _ (wanted k e o mentions) due =
@@ -99,10 +99,10 @@ module _ (many : ℕ) where
       rw here (wants h log changes rest cs stored none all n is on e o (Applied (length (log_of (amid h changes)) + 1) o) next.0 here next.1)
 
   pub slips : (h : CurrentOpening) (log changes rest : List PlainChange) (commands : List Command) (stored : Bool) → h.pending ≡ [] → MayBeGrouped commands → changes_due h changes commands ≡ changes ++ rest → log ≡ flat h.acked ++ (changes ++ rest)
-      → (n : ℕ) → n ≡ length (flat h.acked) + length changes → AreAnswered h log changes commands (paired many log n (map (told_as stored) (replies_due h changes commands)) rest)
+      → (n : ℕ) → n ≡ length (flat h.acked) + length changes → AreAnswered h log changes commands (paired many log n (map (as_due_or_stored stored) (replies_due h changes commands)) rest)
   slips h log changes rest [] stored none may due all n is = refl
   slips h log changes rest (c ∷ cs) stored none may due all n is =
-      behind-is h log changes c cs (paired many log n (told_as stored (reply_to (amid h changes) (step_in (amid h changes) c)) ∷ map (told_as stored) (replies_due h (changes_with h changes c) cs)) rest)
+      follow-is h log changes c cs (paired many log n (as_due_or_stored stored (reply_to (amid h changes) (step_in (amid h changes) c)) ∷ map (as_due_or_stored stored) (replies_due h (changes_with h changes c) cs)) rest)
       (by-step h log changes rest cs stored none all n is (λ more left due' all' m is'. slips h log more left cs stored none may.1 due' all' m is') stored c (step_in (amid h changes) c) (step-amid (amid h changes) c may.0) due)
 
   -- ---- the replies
@@ -110,31 +110,27 @@ module _ (many : ℕ) where
   -- pairing with receipts leaves the replies as they are
   pub paired-replies : (log : List PlainChange) (n : ℕ) (replies : List Reply) (given : List PlainChange) → map (λ (a : Answered). a.0) (paired many log n replies given) ≡ replies
   paired-replies log n [] given = refl
-  paired-replies log n (r ∷ replies) given = ap (λ (rs : List Reply). r ∷ rs) (paired-replies log (behind r n) replies (left_behind r given))
+  paired-replies log n (r ∷ replies) given = ap (λ (rs : List Reply). r ∷ rs) (paired-replies log (count_after r n) replies (given_after r given))
 
   -- and each receipt says how many are shown
   pub paired-shown : (log : List PlainChange) (n : ℕ) (replies : List Reply) (given : List PlainChange) → All (λ (a : Answered). a.1.shown ≡ many) (paired many log n replies given)
   paired-shown log n [] given = All-nil (λ (a : Answered). a.1.shown ≡ many)
-  paired-shown log n (r ∷ replies) given = All-cons (λ (a : Answered). a.1.shown ≡ many) _ _ refl (paired-shown log (behind r n) replies (left_behind r given))
+  paired-shown log n (r ∷ replies) given = All-cons (λ (a : Answered). a.1.shown ≡ many) _ _ refl (paired-shown log (count_after r n) replies (given_after r given))
 
-kept-step : (stored : Bool) (a : CurrentOpening) (s : Result Step Refusal) (rest : List Reply) → kept_count (told_as stored (reply_to a s) ∷ rest) ≡ length (changes_of s) + kept_count rest
-kept-step true a (Ok (Done x)) rest = refl
-kept-step false a (Ok (Done x)) rest = refl
+kept-step : (stored : Bool) (a : CurrentOpening) (s : Result Step Refusal) (rest : List Reply) → kept_count (as_due_or_stored stored (reply_to a s) ∷ rest) ≡ length (changes_of s) + kept_count rest
 kept-step true a (Ok (Wants e o)) rest = refl
 kept-step false a (Ok (Wants e o)) rest = refl
-kept-step true a (Ok (OfHistory x)) rest = refl
-kept-step false a (Ok (OfHistory x)) rest = refl
-kept-step true a (Err e) rest = refl
-kept-step false a (Err e) rest = refl
+kept-step true a s rest = refl
+kept-step false a s rest = refl
 
 -- as many replies keep a change as there are changes
-pub kept-due : (h : CurrentOpening) (changes : List PlainChange) (commands : List Command) (stored : Bool) → length changes + kept_count (map (told_as stored) (replies_due h changes commands)) ≡ length (changes_due h changes commands)
+pub kept-due : (h : CurrentOpening) (changes : List PlainChange) (commands : List Command) (stored : Bool) → length changes + kept_count (map (as_due_or_stored stored) (replies_due h changes commands)) ≡ length (changes_due h changes commands)
 kept-due h changes [] stored = omega arith
 kept-due h changes (c ∷ cs) stored =
     let a : CurrentOpening = amid h changes in
     let s : Result Step Refusal = step_in a c in
-    let rest : List Reply = map (told_as stored) (replies_due h (changes ++ changes_of s) cs) in
-    let one : kept_count (told_as stored (reply_to a s) ∷ rest) ≡ length (changes_of s) + kept_count rest = kept-step stored a s rest in
+    let rest : List Reply = map (as_due_or_stored stored) (replies_due h (changes ++ changes_of s) cs) in
+    let one : kept_count (as_due_or_stored stored (reply_to a s) ∷ rest) ≡ length (changes_of s) + kept_count rest = kept-step stored a s rest in
     let more : length (changes ++ changes_of s) + kept_count rest ≡ length (changes_due h (changes ++ changes_of s) cs) = kept-due h (changes ++ changes_of s) cs stored in
     omega (arith, one, more, length-append changes (changes_of s))
 
@@ -144,6 +140,15 @@ one-each h changes [] = refl
 one-each h changes (c ∷ cs) = ap (λ (n : ℕ). suc n) (one-each h (changes_with h changes c) cs)
 
 -- ---- one reply after the other
+
+-- where nothing is pending, all is acknowledged that a receipt has
+pub calm-log : (b : WorldBook) → b.pending ≡ [] → log_in b ≡ flat b.acked
+calm-log b calm = ap (λ (gs : List (List PlainChange)). flat (b.acked ++ gs)) calm ∙ ap flat (append-nil b.acked)
+
+pub calm-receipt : (b : WorldBook) (n : ℕ) (change : Option PlainChange) (r : Reply) → b.pending ≡ [] → n ≤ length (log_in b) → receipt_of b n change r ≡ slip_at b.shown (log_in b) n change r
+calm-receipt b n change r calm within =
+    let all : min n (length (flat b.acked)) ≡ n = omega (arith, within, ap length (calm-log b calm)) in
+    ap (λ (m : ℕ). record (slip_at b.shown (log_in b) n change r) { acked = m }) all
 
 drop-next : (log : List PlainChange) (n : ℕ) (e : PlainChange) (left : List PlainChange) → drop n log ≡ e ∷ left → (drop (suc n) log ≡ left) × ((suc n ≤ length log) × (take (suc n) log ≡ take n log ++ e ∷ []))
 drop-next [] zero e left is = absurd (cc (is))
@@ -170,7 +175,7 @@ next-paired log n (e ∷ left) rest is kept =
     )
 
 pub pair-on : (log : List PlainChange) (n : ℕ) (given : List PlainChange) (r : Reply) (rest : List Reply) → drop n log ≡ given → n ≤ length log → kept_count (r ∷ rest) ≡ length given
-    → IsPaired log (behind r n) (left_behind r given) rest × ((e : PlainChange) → given_to r given ≡ Some e → EndsIn (take (behind r n) log) e)
+    → IsPaired log (count_after r n) (given_after r given) rest × ((e : PlainChange) → given_to r given ≡ Some e → EndsIn (take (count_after r n) log) e)
 pair-on log n given (Answer a) rest is within kept = (still-paired log n given rest is within kept, λ e some. absurd (cc (some)))
 pair-on log n given (Refused x) rest is within kept = (still-paired log n given rest is within kept, λ e some. absurd (cc (some)))
 pair-on log n given (Applied seq o) rest is within kept = next-paired log n given rest is kept
@@ -182,33 +187,25 @@ no-items (x ∷ xs) is = absurd (omega (arith, is))
 
 -- ---- the result of a group
 
-fits-step : (stored : Bool) (a : CurrentOpening) (s : Result Step Refusal) (shown n : ℕ) → (stored ≡ false → shown ≡ n) → ShownFits (told_as stored (reply_to a s)) shown n
-fits-step true a (Ok (Done x)) shown n all = tt
-fits-step false a (Ok (Done x)) shown n all = tt
+fits-step : (stored : Bool) (a : CurrentOpening) (s : Result Step Refusal) (shown n : ℕ) → (stored ≡ false → shown ≡ n) → ShownFits (as_due_or_stored stored (reply_to a s)) shown n
 fits-step true a (Ok (Wants e o)) shown n all = tt
 fits-step false a (Ok (Wants e o)) shown n all = all refl
-fits-step true a (Ok (OfHistory x)) shown n all = tt
-fits-step false a (Ok (OfHistory x)) shown n all = tt
-fits-step true a (Err e) shown n all = tt
-fits-step false a (Err e) shown n all = tt
+fits-step true a s shown n all = tt
+fits-step false a s shown n all = tt
 
 -- the replies fit what is shown, if all is shown or the changes are stored
-fits-due : (h : CurrentOpening) (changes : List PlainChange) (commands : List Command) (stored : Bool) (shown n : ℕ) → (stored ≡ false → shown ≡ n) → AllByRecursion (λ r. ShownFits r shown n) (map (told_as stored) (replies_due h changes commands))
+fits-due : (h : CurrentOpening) (changes : List PlainChange) (commands : List Command) (stored : Bool) (shown n : ℕ) → (stored ≡ false → shown ≡ n) → AllByRecursion (λ r. ShownFits r shown n) (map (as_due_or_stored stored) (replies_due h changes commands))
 fits-due h changes [] stored shown n all = tt
 fits-due h changes (c ∷ cs) stored shown n all = (fits-step stored (amid h changes) (step_in (amid h changes) c) shown n all, fits-due h (changes_with h changes c) cs stored shown n all)
 
-silent-fits : (stored : Bool) (a : CurrentOpening) (s : Result Step Refusal) (shown n : ℕ) → length (changes_of s) ≡ 0 → ShownFits (told_as stored (reply_to a s)) shown n
-silent-fits true a (Ok (Done x)) shown n nothing = tt
-silent-fits false a (Ok (Done x)) shown n nothing = tt
+silent-fits : (stored : Bool) (a : CurrentOpening) (s : Result Step Refusal) (shown n : ℕ) → length (changes_of s) ≡ 0 → ShownFits (as_due_or_stored stored (reply_to a s)) shown n
 silent-fits true a (Ok (Wants e o)) shown n nothing = absurd (omega (arith, nothing))
 silent-fits false a (Ok (Wants e o)) shown n nothing = absurd (omega (arith, nothing))
-silent-fits true a (Ok (OfHistory x)) shown n nothing = tt
-silent-fits false a (Ok (OfHistory x)) shown n nothing = tt
-silent-fits true a (Err e) shown n nothing = tt
-silent-fits false a (Err e) shown n nothing = tt
+silent-fits true a s shown n nothing = tt
+silent-fits false a s shown n nothing = tt
 
 -- or if there are no changes
-fits-none : (h : CurrentOpening) (changes : List PlainChange) (commands : List Command) (stored : Bool) (shown n : ℕ) → length (changes_due h changes commands) ≡ length changes → AllByRecursion (λ r. ShownFits r shown n) (map (told_as stored) (replies_due h changes commands))
+fits-none : (h : CurrentOpening) (changes : List PlainChange) (commands : List Command) (stored : Bool) (shown n : ℕ) → length (changes_due h changes commands) ≡ length changes → AllByRecursion (λ r. ShownFits r shown n) (map (as_due_or_stored stored) (replies_due h changes commands))
 fits-none h changes [] stored shown n nothing = tt
 fits-none h changes (c ∷ cs) stored shown n nothing =
     let s : Result Step Refusal = step_in (amid h changes) c in
@@ -219,24 +216,24 @@ fits-none h changes (c ∷ cs) stored shown n nothing =
     (silent-fits stored (amid h changes) s shown n (omega (arith, long, same, first)), fits-none h (changes ++ changes_of s) cs stored shown n (omega (arith, long, same, first)))
 
 -- what its replies are, and what the history is after it
-pub record IsTold (h : CurrentOpening) (new : WorldBook) (commands : List Command) (replies : List Reply) : Type 0 where
+pub record AreGroupReplies (h : CurrentOpening) (new : WorldBook) (commands : List Command) (replies : List Reply) : Type 0 where
   pub stored : Bool
   pub none : h.pending ≡ []
   pub may : MayBeGrouped commands
-  pub told_is : replies ≡ map (told_as stored) (replies_due h [] commands)
+  pub replies_are : replies ≡ map (as_due_or_stored stored) (replies_due h [] commands)
   pub calm : new.pending ≡ []
   pub log : log_in new ≡ flat h.acked ++ changes_due h [] commands
   pub fits : AllByRecursion (λ r. ShownFits r new.shown (length (log_in new))) replies
 
-pub told-by : (h : CurrentOpening) (new : WorldBook) (commands : List Command) (replies : List Reply) (t : Upshot) → LeadsGroup h new commands (Ok replies) t → IsTold h new commands replies
-told-by h new commands replies t leads = record {
+pub reported-by : (h : CurrentOpening) (new : WorldBook) (commands : List Command) (replies : List Reply) (t : Upshot) → LeadsGroup h new commands (Ok replies) t → AreGroupReplies h new commands replies
+reported-by h new commands replies t leads = record {
   stored = k.stored;
   none = k.taken.none;
   may = k.taken.may;
-  told_is = k.told;
+  replies_are = k.reported;
   calm = calm;
   log = log;
-  fits = subst (λ (rs : List Reply). AllByRecursion (λ r. ShownFits r new.shown (length (log_in new))) rs) (sym k.told) (by k.stored refl);
+  fits = subst (λ (rs : List Reply). AllByRecursion (λ r. ShownFits r new.shown (length (log_in new))) rs) (sym k.reported) (by k.stored refl);
 } where
   es : List PlainChange
   es = changes_due h [] commands
@@ -250,13 +247,13 @@ told-by h new commands replies t leads = record {
   log : log_in new ≡ flat h.acked ++ changes_due h [] commands
   log = ap (λ (gs : List (List PlainChange)). flat (new.acked ++ gs)) calm ∙ ap flat (append-nil new.acked) ∙ ap flat (leads.at.acked ∙ ap (λ (gs : List (List PlainChange)). h.acked ++ gs) k.taken.group) ∙ flat-with h.acked (changes_due h [] commands)
 
-  by : (stored : Bool) → k.stored ≡ stored → AllByRecursion (λ r. ShownFits r new.shown (length (log_in new))) (map (told_as k.stored) (replies_due h [] commands))
+  by : (stored : Bool) → k.stored ≡ stored → AllByRecursion (λ r. ShownFits r new.shown (length (log_in new))) (map (as_due_or_stored k.stored) (replies_due h [] commands))
   by true is = fits-due h [] commands k.stored new.shown (length (log_in new)) (λ no. absurd (cc (no, is)))
   by false is = so (shown-due h h.shown [] h.shown commands k.taken.none k.taken.may (inl (refl, refl))) where
-    so : IsShownSo h h.shown (changes_due h [] commands) (fold (λ (m : ℕ) (r : Reply). shown_by r m) h.shown (replies_due h [] commands)) → AllByRecursion (λ r. ShownFits r new.shown (length (log_in new))) (map (told_as k.stored) (replies_due h [] commands))
+    so : IsShownSo h h.shown (changes_due h [] commands) (fold (λ (m : ℕ) (r : Reply). shown_by r m) h.shown (replies_due h [] commands)) → AllByRecursion (λ r. ShownFits r new.shown (length (log_in new))) (map (as_due_or_stored k.stored) (replies_due h [] commands))
     so (inl (nothing, still)) = fits-none h [] commands k.stored new.shown (length (log_in new)) (ap length nothing)
     so (inr all) =
-        let as_due : replies ≡ replies_due h [] commands = k.told ∙ ap (λ (b : Bool). map (told_as b) (replies_due h [] commands)) is ∙ map-id (replies_due h [] commands) in
+        let as_due : replies ≡ replies_due h [] commands = k.reported ∙ ap (λ (b : Bool). map (as_due_or_stored b) (replies_due h [] commands)) is ∙ map-id (replies_due h [] commands) in
         let shown : new.shown ≡ length (log_in new) =
         leads.at.shown ∙ leads.legal.shown ∙ ap (fold (λ (m : ℕ) (r : Reply). shown_by r m) h.shown) as_due ∙ all ∙ sym (length-append (flat h.acked) (changes_due h [] commands)) ∙ ap length (sym log) in
         fits-due h [] commands k.stored new.shown (length (log_in new)) (λ no. shown)

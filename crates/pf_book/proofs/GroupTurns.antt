@@ -1,10 +1,10 @@
 -- The receipts of a group, one after the other.
-use Rattle.std.proofs.{Common.{◌≡◌, ◌⊎◌, ◌∙◌, inl, inr, ℕ, ◌+◌, ◌<◌, ◌≤◌, Bool, true, false, List, [], ◌∷◌, ◌++◌, length, Option, Some, Result, Ok, Err, refl, sym, ap, subst, arith, append_assoc, append-nil, length-append}, lemmas.{List.map-id, List.Elements.{All-nil, All-cons, All-head, All-tail, All-weaker}, List.Kept.AllPairs-cons}}
+use Rattle.std.proofs.{Common.{◌≡◌, ◌⊎◌, ◌∙◌, inl, inr, ℕ, ◌+◌, ◌<◌, ◌≤◌, Bool, true, false, List, [], ◌∷◌, ◌++◌, length, Option, Some, Result, Ok, refl, sym, ap, subst, arith, append_assoc, append-nil, length-append}, lemmas.{List.map-id, List.Elements.{All-nil, All-cons, All-head, All-tail, All-weaker}, List.Kept.AllPairs-cons}}
 use Rattle.std.specs.{Prelude.{fold, map, slice_get, All}, List.AllPairs}
 use mathlib.Core.List.{IsPrefix}
-use Rattle.pf_core.specs.declared.{command.Command.Command, reply.Refusal.Refusal, reply.Reply.Reply, step.Step.Step, step.Step.TheVariants.{Done, Wants, OfHistory}}
+use Rattle.pf_core.specs.declared.{command.Command.Command, reply.Refusal.Refusal, reply.Reply.Reply, step.Step.Step, step.Step.TheVariants.{Wants}}
 use Rattle.pf_core.specs.{Durable.Changes.{PlainDurable, PlainChange}, Worlds.{Setting, CurrentOpening, Event, State, called_group, down, flat, log_of, step_in, reply_to, changes_of, amid, changes_with, changes_due, replies_due, as_stored, shown_by, LegalGroup, IsLegal}}
-use Rattle.pf_core.proofs.{Courses.{told_as, IsAccepted, accepted}, GroupLeads.{IsShownSo, shown-due, shown-stored}, LongerWorlds.in-two}
+use Rattle.pf_core.proofs.{Courses.{as_due_or_stored, IsAccepted, accepted}, GroupLeads.{IsShownSo, shown-due, shown-stored}, LongerWorlds.in-two}
 use Rattle.pf_view.proofs.Prefixes.{prefix_length, prefix_self, prefix_trans}
 use Rattle.pf_book.specs.{Groups.{Answered, AreAnswered, IsAnsweredAmid, IsGroupAnswered}, Receipts.{PlainReceipt, ComesAfter, IsNumberOf}}
 use Rattle.pf_book.proofs.{GroupReceipts.log-so-far, LockedCalls.{begins-more, shown-within}}
@@ -33,10 +33,8 @@ module _ (h : CurrentOpening) (none : h.pending ≡ []) (log : List PlainChange)
   front-next changes c r slip one = one.front ∙ ap (λ (l : List PlainChange). l ++ changes_of (step_in (amid h changes) c)) (log-so-far h changes none)
 
   some-wanted : (s : Result Step Refusal) (e : PlainChange) → slice_get (changes_of s) 0 ≡ Some e → 0 < length (changes_of s)
-  some-wanted (Ok (Done a)) e is = absurd (cc (is))
   some-wanted (Ok (Wants d o)) e is = omega arith
-  some-wanted (Ok (OfHistory x)) e is = absurd (cc (is))
-  some-wanted (Err x) e is = absurd (cc (is))
+  some-wanted s e is = absurd (cc (is))
 
   -- the next receipt comes after each that is so by then
   next-after : (changes : List PlainChange) (c : Command) (r : Reply) (slip last : PlainReceipt) → IsAnsweredAmid (amid h changes) c log r slip → slip.shown ≡ many → IsSoFar changes last → ComesAfter last slip
@@ -72,7 +70,7 @@ module _ (h : CurrentOpening) (none : h.pending ≡ []) (log : List PlainChange)
       All-cons (λ (x : Answered). ComesAfter last x.1) a answers first (All-weaker (λ (x : Answered). ComesAfter a.1 x.1) (λ (x : Answered). ComesAfter last x.1) (λ x. comes-on last a.1 x.1 first) answers rest)
 
   in-turn : (changes : List PlainChange) (commands : List Command) (answers : List Answered) → AreAnswered h log changes commands answers → All (λ (a : Answered). a.1.shown ≡ many) answers → AllPairs (λ (a b : Answered). ComesAfter a.1 b.1) answers
-  in-turn changes [] answers are shown = subst (AllPairs (λ (a b : Answered). ComesAfter a.1 b.1)) (sym are) (λ i j d first behind. absurd (omega (arith, behind)))
+  in-turn changes [] answers are shown = subst (AllPairs (λ (a b : Answered). ComesAfter a.1 b.1)) (sym are) (λ i j d first following. absurd (omega (arith, following)))
   in-turn changes (c ∷ commands) [] are shown = absurd are
   in-turn changes (c ∷ commands) (a ∷ answers) are shown =
       let own : a.1.shown ≡ many = All-head (λ (x : Answered). x.1.shown ≡ many) a answers shown in
@@ -82,25 +80,21 @@ module _ (h : CurrentOpening) (none : h.pending ≡ []) (log : List PlainChange)
 
   -- ---- numbers
 
-  number-of : (a : CurrentOpening) (s : Result Step Refusal) (stored : Bool) (slip : PlainReceipt) → slip.front ≡ log_of a ++ changes_of s → slip.acked ≡ length slip.front → IsNumberOf (told_as stored (reply_to a s)) slip
-  number-of a (Ok (Done x)) true slip front acked = tt
-  number-of a (Ok (Done x)) false slip front acked = tt
+  number-of : (a : CurrentOpening) (s : Result Step Refusal) (stored : Bool) (slip : PlainReceipt) → slip.front ≡ log_of a ++ changes_of s → slip.acked ≡ length slip.front → IsNumberOf (as_due_or_stored stored (reply_to a s)) slip
   number-of a (Ok (Wants e o)) true slip front acked = let long = ap length front ∙ length-append (log_of a) (e ∷ []) in (sym long, sym long ∙ sym acked)
   number-of a (Ok (Wants e o)) false slip front acked = let long = ap length front ∙ length-append (log_of a) (e ∷ []) in (sym long, sym long ∙ sym acked)
-  number-of a (Ok (OfHistory x)) true slip front acked = tt
-  number-of a (Ok (OfHistory x)) false slip front acked = tt
-  number-of a (Err e) true slip front acked = tt
-  number-of a (Err e) false slip front acked = tt
+  number-of a s true slip front acked = tt
+  number-of a s false slip front acked = tt
 
-  all-numbered : (changes : List PlainChange) (commands : List Command) (answers : List Answered) (stored : Bool) → AreAnswered h log changes commands answers → map (λ (a : Answered). a.0) answers ≡ map (told_as stored) (replies_due h changes commands)
+  all-numbered : (changes : List PlainChange) (commands : List Command) (answers : List Answered) (stored : Bool) → AreAnswered h log changes commands answers → map (λ (a : Answered). a.0) answers ≡ map (as_due_or_stored stored) (replies_due h changes commands)
       → All (λ (a : Answered). IsNumberOf a.0 a.1) answers
-  all-numbered changes [] answers stored are told = subst (All (λ (a : Answered). IsNumberOf a.0 a.1)) (sym are) (All-nil (λ (a : Answered). IsNumberOf a.0 a.1))
-  all-numbered changes (c ∷ commands) [] stored are told = absurd are
-  all-numbered changes (c ∷ commands) (a ∷ answers) stored are told =
+  all-numbered changes [] answers stored are reported = subst (All (λ (a : Answered). IsNumberOf a.0 a.1)) (sym are) (All-nil (λ (a : Answered). IsNumberOf a.0 a.1))
+  all-numbered changes (c ∷ commands) [] stored are reported = absurd are
+  all-numbered changes (c ∷ commands) (a ∷ answers) stored are reported =
       let s : Result Step Refusal = step_in (amid h changes) c in
-      let first : a.0 ≡ told_as stored (reply_to (amid h changes) s) = cc (told) in
+      let first : a.0 ≡ as_due_or_stored stored (reply_to (amid h changes) s) = cc (reported) in
       All-cons (λ (x : Answered). IsNumberOf x.0 x.1) a answers
-      (subst (λ (r : Reply). IsNumberOf r a.1) (sym first) (number-of (amid h changes) s stored a.1 are.0.front are.0.acked)) (all-numbered (changes_with h changes c) commands answers stored are.1 (cc (told)))
+      (subst (λ (r : Reply). IsNumberOf r a.1) (sym first) (number-of (amid h changes) s stored a.1 are.0.front are.0.acked)) (all-numbered (changes_with h changes c) commands answers stored are.1 (cc (reported)))
 
 -- ---- a group under the lock
 
@@ -119,7 +113,7 @@ module _ (base : PlainDurable) (setting : Setting) (commands : List Command) (an
 
   -- no group shows less
   shows-no-less : a.before.shown ≤ a.came.shown
-  shows-no-less = by taken.stored taken.told where
+  shows-no-less = by taken.stored taken.reported where
     within : a.before.shown ≤ length (flat a.before.acked)
     within = shown-within a.first a.world a.before event a.legal a.comes
 
@@ -133,22 +127,22 @@ module _ (base : PlainDurable) (setting : Setting) (commands : List Command) (an
     so (inl (nothing, still)) = omega (arith, still)
     so (inr all) = omega (arith, all, within)
 
-    by : (stored : Bool) → replies ≡ map (told_as stored) due → a.before.shown ≤ a.came.shown
-    by true told = omega (arith, legal.shown ∙ ap (fold (λ (n : ℕ) (r : Reply). shown_by r n) a.before.shown) told ∙ shown-stored a.before [] a.before.shown commands taken.taken.may)
-    by false told = omega (arith, legal.shown ∙ ap (fold (λ (n : ℕ) (r : Reply). shown_by r n) a.before.shown) (told ∙ map-id due), so (shown-due a.before a.before.shown [] a.before.shown commands taken.taken.none taken.taken.may (inl (refl, refl))))
+    by : (stored : Bool) → replies ≡ map (as_due_or_stored stored) due → a.before.shown ≤ a.came.shown
+    by true reported = omega (arith, legal.shown ∙ ap (fold (λ (n : ℕ) (r : Reply). shown_by r n) a.before.shown) reported ∙ shown-stored a.before [] a.before.shown commands taken.taken.may)
+    by false reported = omega (arith, legal.shown ∙ ap (fold (λ (n : ℕ) (r : Reply). shown_by r n) a.before.shown) (reported ∙ map-id due), so (shown-due a.before a.before.shown [] a.before.shown commands taken.taken.none taken.taken.may (inl (refl, refl))))
 
   -- its replies are those that are due, or all of them stored
   pub are-due : (replies ≡ replies_due a.before [] commands) ⊎ (replies ≡ map as_stored (replies_due a.before [] commands))
-  are-due = by taken.stored taken.told where
-    by : (stored : Bool) → replies ≡ map (told_as stored) (replies_due a.before [] commands) → (replies ≡ replies_due a.before [] commands) ⊎ (replies ≡ map as_stored (replies_due a.before [] commands))
-    by true told = inr told
-    by false told = inl (told ∙ map-id (replies_due a.before [] commands))
+  are-due = by taken.stored taken.reported where
+    by : (stored : Bool) → replies ≡ map (as_due_or_stored stored) (replies_due a.before [] commands) → (replies ≡ replies_due a.before [] commands) ⊎ (replies ≡ map as_stored (replies_due a.before [] commands))
+    by true reported = inr reported
+    by false reported = inl (reported ∙ map-id (replies_due a.before [] commands))
 
   pub turns : AllPairs (λ (x y : Answered). ComesAfter x.1 y.1) answers
   turns = in-turn a.before taken.taken.none _ a.came.shown [] commands answers a.receipts a.shown
 
   pub numbers : All (λ (x : Answered). IsNumberOf x.0 x.1) answers
-  numbers = all-numbered a.before taken.taken.none _ a.came.shown [] commands answers taken.stored a.receipts taken.told
+  numbers = all-numbered a.before taken.taken.none _ a.came.shown [] commands answers taken.stored a.receipts taken.reported
 
   pub after-last : (handed : PlainReceipt) → last ≡ Some handed → All (λ (x : Answered). ComesAfter handed x.1) answers
   after-last handed is =

@@ -3,7 +3,7 @@ use Rattle.std.proofs.{Common.{◌≡◌, ◌∙◌, ℕ, zero, suc, List, [], �
 use Rattle.std.specs.Prelude.{All, map, slice_get}
 use Rattle.pf_core.specs.declared.{command.Command.Command, reply.Refusal.TheVariants.Fault}
 use Rattle.pf_core.specs.{Durable.Changes.{PlainDurable, PlainChange}, WorldBooks.WorldBook, Worlds.{Setting, CurrentOpening, changes_with, log_of, heard_group}}
-use Rattle.pf_book.specs.{Groups.{Answered, AreAnswered, IsAnsweredAsAlone, IsGroupAnswered, replies_of}, Receipts.{PlainReceipt, TakesUp}, Together.{HasFailedAmong, IsAnsweredAmong, IsAnsweredTogether, PlainAsked, Told}}
+use Rattle.pf_book.specs.{Groups.{Answered, AreAnswered, IsAnsweredAsAlone, IsGroupAnswered, replies_of}, Receipts.{PlainReceipt, TakesUp}, Together.{HasFailedAmong, IsAnsweredAmong, IsAnsweredTogether, PlainAsked, PlainGiven}}
 
 -- ---- places of a list
 
@@ -89,17 +89,17 @@ module _ (base : PlainDurable) (setting : Setting) (w : WorldBook) (asked : List
         record {
           earlier = p.front;
           later = p.rest;
-          told = q.front;
+          reported = q.front;
           others = q.rest;
           group = whole.group;
           in_turn = whole.in_turn;
           place = q.long ∙ sym p.long;
         }
 
-    pub all-answered : (told : List Told) → told ≡ map Ok answers → (i : ℕ) (j : PlainAsked) (a : Told) → slice_get asked i ≡ Some j → slice_get told i ≡ Some a → IsAnsweredTogether base setting j a
-    all-answered told is i j a at also =
-        let m = unmapped Ok answers i a (subst (λ (l : List Told). slice_get l i ≡ Some a) is also) in
-        subst (λ (t : Told). IsAnsweredTogether base setting j t) (sym m.1) (inr (among i j m.0 at m.2))
+    pub all-answered : (reported : List PlainGiven) → reported ≡ map Ok answers → (i : ℕ) (j : PlainAsked) (a : PlainGiven) → slice_get asked i ≡ Some j → slice_get reported i ≡ Some a → IsAnsweredTogether base setting j a
+    all-answered reported is i j a at also =
+        let m = unmapped Ok answers i a (subst (λ (l : List PlainGiven). slice_get l i ≡ Some a) is also) in
+        subst (λ (t : PlainGiven). IsAnsweredTogether base setting j t) (sym m.1) (inr (among i j m.0 at m.2))
 
   module _ (group : (last : Option PlainReceipt) → TakesUp last w → IsGroupAnswered base setting commands (Err Fault) last) where
     failed : (i : ℕ) (j : PlainAsked) → slice_get asked i ≡ Some j → HasFailedAmong base setting j.command j.last
@@ -107,9 +107,9 @@ module _ (base : PlainDurable) (setting : Setting) (w : WorldBook) (asked : List
         let p = parted commands i j.command (command-at i j at) in
         record { earlier = p.front; later = p.rest; group = subst (λ (cs : List Command). IsGroupAnswered base setting cs (Err Fault) j.last) p.is (group j.last (taken-at i j at)) }
 
-    pub all-failed : (told : List Told) → told ≡ map Err lasts → (i : ℕ) (j : PlainAsked) (a : Told) → slice_get asked i ≡ Some j → slice_get told i ≡ Some a → IsAnsweredTogether base setting j a
-    all-failed told is i j a at also =
-        let m = unmapped Err lasts i a (subst (λ (l : List Told). slice_get l i ≡ Some a) is also) in
+    pub all-failed : (reported : List PlainGiven) → reported ≡ map Err lasts → (i : ℕ) (j : PlainAsked) (a : PlainGiven) → slice_get asked i ≡ Some j → slice_get reported i ≡ Some a → IsAnsweredTogether base setting j a
+    all-failed reported is i j a at also =
+        let m = unmapped Err lasts i a (subst (λ (l : List PlainGiven). slice_get l i ≡ Some a) is also) in
         let own : slice_get lasts i ≡ Some j.last = subst (λ (l : List (Option PlainReceipt)). slice_get l i ≡ Some j.last) (sym handed) (mapped (λ a. a.last) asked i j at) in
         let same : m.0 ≡ j.last = cc (own, m.2) in
-        subst (λ (t : Told). IsAnsweredTogether base setting j t) (sym m.1) (same, failed i j at)
+        subst (λ (t : PlainGiven). IsAnsweredTogether base setting j t) (sym m.1) (same, failed i j at)

@@ -1,15 +1,14 @@
 -- What a call comes to under the lock.
-use Rattle.std.proofs.Common.{◌≡◌, ◌⊎◌, inl, inr, ℕ, ◌+◌, ◌<◌, ◌≤◌, Bool, true, false, cond, List, [], ◌∷◌, ◌++◌, length, Option, None, Some, Result, Ok, Err, refl, sym, ap, ◌∙◌, subst, arith, append_assoc, append-nil, length-append}
+use Rattle.std.proofs.{Common.{◌≡◌, ◌⊎◌, inl, inr, ℕ, ◌+◌, ◌<◌, ◌≤◌, Bool, List, [], ◌∷◌, ◌++◌, length, take, Option, Some, Result, Ok, refl, sym, ap, ◌∙◌, subst, arith, append_assoc, append-nil, length-append}, lemmas.List.take_all}
 use Rattle.std.specs.{Prelude.◌&&◌, Option.ForSome}
 use mathlib.Core.List.{IsPrefix}
-use Rattle.pf_core.specs.declared.{command.Command.Command, command.HistoryCommand.HistoryCommand, command.HistoryCommand.TheVariants.{Log, Publish}, reply.Outcome.Outcome, reply.Refusal.Refusal, reply.Refusal.TheVariants.Halted, reply.Reply.Reply, reply.Reply.TheVariants.{Answer, Applied, Stored, Refused}, step.Step.Step, step.Step.TheVariants.{Done, Wants, OfHistory}}
-use Rattle.pf_core.specs.{Calls.call, Commands.{step_by, may_change}, Durable.Changes.{PlainDurable, PlainChange}, WorldBooks.{WorldBook, IsAt, IsFolded, Leads, LeadsGroup, StandsFor}, Worlds.{Setting, CurrentOpening, down, up, Upshot, Event, called, called_group, heard_group, flat, log_of, durable_of, is_halted, acked_by, step_in, or_refused, due_at, due, group_in, heard, room_for, shown_by, shown_by_answer, told_of_history, State, state_after, StandsIn, LegalReply, LegalCall, IsLegal, IsWorld}}
-use Rattle.pf_core.specs.declared.reply.Answer.{Answer as ToldOf}
-use Rattle.pf_core.proofs.{Prefixes.flat-append, Groups.{IsKept, IsNotKept, kept-or-not}, Limits.{IsOfHistory, answered-step}, Showing.{shows-nothing, shows_all}, Stepping.unhalted, LongerWorlds.{flat-push, stands-on, stands-on-group, in-two}}
-use Rattle.pf_book.proofs.Calling.{wants-may}
+use Rattle.pf_core.specs.declared.{command.Command.Command, command.HistoryCommand.HistoryCommand, command.HistoryCommand.TheVariants.{Log, Publish}, reply.Outcome.Outcome, reply.Refusal.Refusal, reply.Reply.Reply, reply.Reply.TheVariants.{Answer, Applied, Stored, Refused}, step.Step.Step, step.Step.TheVariants.{Done}}
+use Rattle.pf_core.specs.{Calls.call, Commands.{step_by, may_change}, Durable.Changes.{PlainDurable, PlainChange}, WorldBooks.{WorldBook, IsAt, IsFolded, Leads, LeadsGroup, StandsFor}, Worlds.{Setting, CurrentOpening, down, up, Upshot, Event, called, called_group, heard_group, flat, log_of, durable_of, is_halted, acked_by, step_in, group_in, heard, shown_by, shown_by_answer, history_answer, State, state_after, LegalReply, LegalCall, IsLegal, IsWorld}}
+use Rattle.pf_core.specs.declared.reply.Answer.{Answer as ReportedOf}
+use Rattle.pf_core.proofs.{Prefixes.flat-append, Groups.either, Limits.{IsOfHistory, answered-step, applied-step, stored-step}, Showing.{shows-nothing, shows_all}, Stepping.unhalted, LongerWorlds.{flat-push, stands-on, stands-on-group, in-two}}
 use Rattle.pf_view.proofs.Prefixes.{prefix_whole}
-use Rattle.pf_book.specs.Groups.{Answered as Told, AreDueAsAlone, HasReceipts, HaveShown, IsAnsweredAsAlone, IsGroupAnswered, replies_of}
-use Rattle.pf_book.specs.{Books.{log_in, IsMore, IsNumbered, IsTold}, Receipts.{PlainReceipt, EndsIn, ShownFits, token_of, IsAdded, IsGiven, Follows, ShowsNoLess, IsReached, IsLast, IsChangeOf, IsAnswered}}
+use Rattle.pf_book.specs.Groups.{Answered as Reported, AreDueAsAlone, HasReceipts, HaveShown, IsAnsweredAsAlone, IsGroupAnswered, replies_of}
+use Rattle.pf_book.specs.{Books.{log_in, IsMore, IsNumbered}, Receipts.{PlainReceipt, EndsIn, ShownFits, receipt_of, token_of, IsAdded, IsGiven, Follows, ShowsNoLess, TakesUp, IsReached, IsLast, IsChangeOf, IsAnswered}}
 
 -- ---- lists
 
@@ -23,6 +22,9 @@ begins-more xs ys zs p = (p.0 ++ zs, sym (append_assoc xs p.0 zs) ∙ ap (λ (l 
 
 shorter : (xs ys : List PlainChange) → IsPrefix xs ys → length xs ≤ length ys
 shorter xs ys p = omega (arith, ap length p.1, length-append xs p.0)
+
+more-acked : (gs hs : List (List PlainChange)) → length (flat gs) ≤ length (flat (gs ++ hs))
+more-acked gs hs = omega (arith, ap length (flat-append gs hs), length-append (flat gs) (flat hs))
 
 -- ---- what a world's history is
 
@@ -46,24 +48,19 @@ added-by old kept new e change more acked pending free is = record {
   none_after = pending ∙ more.pending ∙ free;
 }
 
--- an answer about the history gives none
-pub told-given : (x : HistoryCommand) (r : Reply) (b new p q : WorldBook) → IsTold x r b new → IsGiven r None p q
-told-given Log r b new p q told = subst (λ (y : Reply). IsGiven y None p q) (sym told.1) refl
-told-given Publish r b new p q (inl told) = subst (λ (y : Reply). IsGiven y None p q) (sym told.0) refl
-told-given Publish r b new p q (inr told) = subst (λ (y : Reply). IsGiven y None p q) (sym told.0) refl
-
 -- then the whole history is acknowledged
 all-added : (change : Option PlainChange) (old new : WorldBook) → IsAdded change old new → log_in new ≡ flat new.acked
 all-added change old new added = ap (λ (gs : List (List PlainChange)). flat (new.acked ++ gs)) added.none_after ∙ ap flat (append-nil new.acked)
 
 -- and the change is its last one
-added-last : (change : Option PlainChange) (old new : WorldBook) → IsAdded change old new → ForSome change (λ e. EndsIn (log_in new) e × (length (log_in new) ≤ length (flat new.acked)))
+added-last : (change : Option PlainChange) (old new : WorldBook) → IsAdded change old new → ForSome change (λ e. EndsIn (take (length (log_in new)) (log_in new)) e × (length (log_in new) ≤ length (flat new.acked)))
 added-last change old new added = λ e some.
     let same : added.made ≡ e = cc (added.is, some) in
-    let all : log_in new ≡ flat new.acked = all-added change old new added in
-    ((log_in old, subst (λ (x : PlainChange). log_in new ≡ log_in old ++ x ∷ []) same (log-added change old new added)), omega (arith, ap length all))
+    let whole : take (length (log_in new)) (log_in new) ≡ log_in old ++ e ∷ [] =
+    take_all (length (log_in new)) (log_in new) (omega arith) ∙ subst (λ (x : PlainChange). log_in new ≡ log_in old ++ x ∷ []) same (log-added change old new added) in
+    ((log_in old, whole), omega (arith, ap length (all-added change old new added)))
 
-pub given-last : (r : Reply) (change : Option PlainChange) (old new : WorldBook) → IsGiven r change old new → ForSome change (λ e. EndsIn (log_in new) e × (length (log_in new) ≤ length (flat new.acked)))
+pub given-last : (r : Reply) (change : Option PlainChange) (old new : WorldBook) → IsGiven r change old new → ForSome change (λ e. EndsIn (take (length (log_in new)) (log_in new)) e × (length (log_in new) ≤ length (flat new.acked)))
 given-last (Answer a) change old new given = λ e some. absurd (cc (given, some))
 given-last (Applied n o) change old new given = added-last change old new given
 given-last (Stored n o) change old new given = added-last change old new given
@@ -111,9 +108,10 @@ module _ (base : PlainDurable) (setting : Setting) (old new : WorldBook) (c : Co
     stands = stands-on reached.first old new reached.world (call c r) t reached.stands (leads reached.stands.held reached.stands.at) folded;
   }
 
-  pub answered : (slip : PlainReceipt) (last : Option PlainReceipt) → slip.front ≡ log_in new → slip.acked ≡ length (flat new.acked) → slip.shown ≡ t.shown → IsGiven r slip.change old new → slip.token ≡ token_of r (log_in new)
-      → Follows last (log_in old) (length (flat old.acked)) → ShowsNoLess last old.shown → IsAnswered base setting c r slip last
-  answered slip last front acked shown given token follows shows =
+  pub answered : (slip : PlainReceipt) (last : Option PlainReceipt) → slip ≡ receipt_of new (length (log_in new)) slip.change r → new.shown ≡ t.shown → IsGiven r slip.change old new → TakesUp last old → IsAnswered base setting c r slip last
+  answered slip last says shown given takes =
+      let front : slip.front ≡ log_in new = ap (λ (s : PlainReceipt). s.front) says ∙ take_all (length (log_in new)) (log_in new) (omega arith) in
+      let acked : slip.acked ≡ length (flat new.acked) = omega (arith, ap (λ (s : PlainReceipt). s.acked) says, more-acked new.acked new.pending) in
       let h : CurrentOpening = reached.stands.held in
       let at : IsAt h old = reached.stands.at in
       let on : Leads h new (call c r) t = leads h at in
@@ -128,11 +126,11 @@ module _ (base : PlainDurable) (setting : Setting) (old new : WorldBook) (c : Co
         legal = (stands-on reached.first old new reached.world (call c r) t reached.stands on folded).legal;
         front = front ∙ log-at (heard h (call c r) t) new on.at;
         acked = acked ∙ ap (λ (gs : List (List PlainChange)). length (flat gs)) on.at.acked;
-        shown = shown;
+        shown = ap (λ (s : PlainReceipt). s.shown) says ∙ shown;
         change = change-is h c r t slip old new at on.at front given;
-        token = token ∙ ap (token_of r) (sym front);
-        follows = subst (λ (gs : List (List PlainChange)). Follows last (log_of h) (length (flat gs))) at.acked (subst (λ (l : List PlainChange). Follows last l (length (flat old.acked))) (log-at h old at) follows);
-        shows = subst (ShowsNoLess last) at.shown shows;
+        token = ap (λ (s : PlainReceipt). s.token) says ∙ ap (token_of r) (sym front);
+        follows = subst (λ (gs : List (List PlainChange)). Follows last (log_of h) (length (flat gs))) at.acked (subst (λ (l : List PlainChange). Follows last l (length (flat old.acked))) (log-at h old at) takes.follows);
+        shows = subst (ShowsNoLess last) at.shown takes.shows;
       }
 
 -- ---- what receipts come to
@@ -164,26 +162,12 @@ change-longer h c (Refused x) slip e xs change is p = absurd (cc (change, is))
 
 -- ---- what is acknowledged
 
-more-acked : (gs hs : List (List PlainChange)) → length (flat gs) ≤ length (flat (gs ++ hs))
-more-acked gs hs = omega (arith, ap length (flat-append gs hs), length-append (flat gs) (flat hs))
-
-unhalted-none : (may : Bool) (gs : List (List PlainChange)) (s : Result Step Refusal) (x : Step) → may ≡ true → cond (may && is_halted gs) (Err Halted) s ≡ Ok x → gs ≡ []
-unhalted-none true [] s x may is = refl
-unhalted-none true (g ∷ gs) s x may is = absurd (cc (is))
-unhalted-none false gs s x may is = absurd (cc (may))
-
 -- if a change is kept none was pending
 none-pending : (h : CurrentOpening) (c : Command) (slip : PlainReceipt) → IsLast h c slip → h.pending ≡ []
-none-pending h c slip last = by (kept-or-not h (step_in h c)) where
-  steps : Result Step Refusal
-  steps = step_by h.tickets (durable_of h) c
-
-  by : IsKept h (step_in h c) ⊎ IsNotKept h (step_in h c) → h.pending ≡ []
-  by (inl k) =
-      let x : Step = Wants k.change k.outcome in
-      let wants : steps ≡ Ok x = unhalted (may_change c && is_halted h.pending) steps x k.wanted in
-      unhalted-none (may_change c) h.pending steps x (wants-may h.tickets (durable_of h) c k.change k.outcome wants) k.wanted
-  by (inr none) = absurd (cc (last.due, none.group))
+none-pending h c slip last = by (either h c) where
+  by : (h.pending ≡ []) ⊎ (group_in h c ≡ []) → h.pending ≡ []
+  by (inl none) = none
+  by (inr nothing) = absurd (cc (last.due, nothing))
 
 last-acked : (h : CurrentOpening) (c : Command) (slip : PlainReceipt) (n : ℕ) → IsLast h c slip → slip.acked ≡ length (flat (h.acked ++ group_in h c)) → n ≡ length (log_of h) + 1 → n ≡ slip.acked
 last-acked h c slip n last acked is =
@@ -193,54 +177,18 @@ last-acked h c slip n last acked is =
 
 -- ---- numbers
 
-room-number : (room : Result (Unit {0}) Refusal) (n m : ℕ) (o p : Outcome) → Applied n o ≡ or_refused room (Applied m p) → n ≡ m
-room-number (Ok u) n m o p is = cc (is)
-room-number (Err e) n m o p is = absurd (cc (is))
-
-applied-number : (h : CurrentOpening) (step : Result Step Refusal) (n : ℕ) (o : Outcome) → Applied n o ≡ due_at h step → n ≡ length (log_of h) + 1
-applied-number h (Ok (Done a)) n o is = absurd (cc (is))
-applied-number h (Ok (Wants e p)) n o is = room-number (room_for h (e ∷ [])) n (length (log_of h) + 1) o p is
-applied-number h (Ok (OfHistory c)) n o is = absurd (cc (is))
-applied-number h (Err e) n o is = absurd (cc (is))
-
-room-unstored : (room : Result (Unit {0}) Refusal) (n m : ℕ) (o p : Outcome) → Stored n o ≡ or_refused room (Applied m p) → ⊥
-room-unstored (Ok u) n m o p is = absurd (cc (is))
-room-unstored (Err e) n m o p is = absurd (cc (is))
-
-never-stored : (h : CurrentOpening) (step : Result Step Refusal) (n : ℕ) (o : Outcome) → Stored n o ≡ due_at h step → ⊥
-never-stored h (Ok (Done a)) n o is = absurd (cc (is))
-never-stored h (Ok (Wants e p)) n o is = room-unstored (room_for h (e ∷ [])) n (length (log_of h) + 1) o p is
-never-stored h (Ok (OfHistory c)) n o is = absurd (cc (is))
-never-stored h (Err e) n o is = absurd (cc (is))
-
-no-stand-in : (h : CurrentOpening) (c : Command) (failed : Bool) (told : Reply) (n : ℕ) (o : Outcome) → StandsIn h c failed told (Applied n o) → ⊥
-no-stand-in h c failed (Answer a) n o stands = stands
-no-stand-in h c failed (Applied m p) n o stands = stands
-no-stand-in h c failed (Stored m p) n o stands = stands
-no-stand-in h c failed (Refused e) n o stands = stands
-
-stored-for : (h : CurrentOpening) (c : Command) (failed : Bool) (told : Reply) (n : ℕ) (o : Outcome) → told ≡ due h c → StandsIn h c failed told (Stored n o) → n ≡ length (log_of h) + 1
-stored-for h c failed (Answer a) n o is stands = absurd stands
-stored-for h c failed (Applied m p) n o is stands = stands.0 ∙ applied-number h (step_in h c) m p is
-stored-for h c failed (Stored m p) n o is stands = absurd stands
-stored-for h c failed (Refused e) n o is stands = absurd stands
-
 legal-applied : (h : CurrentOpening) (c : Command) (n : ℕ) (o : Outcome) (failed : Bool) → LegalReply h c (Applied n o) failed → n ≡ length (log_of h) + 1
-legal-applied h c n o failed (inl is) = applied-number h (step_in h c) n o is
-legal-applied h c n o failed (inr stands) = absurd (no-stand-in h c failed (due h c) n o stands)
-
-legal-stored : (h : CurrentOpening) (c : Command) (n : ℕ) (o : Outcome) (failed : Bool) → LegalReply h c (Stored n o) failed → n ≡ length (log_of h) + 1
-legal-stored h c n o failed (inl is) = absurd (never-stored h (step_in h c) n o is)
-legal-stored h c n o failed (inr stands) = stored-for h c failed (due h c) n o refl stands
+legal-applied h c n o failed (inl is) = (applied-step h (step_in h c) n o is).number
+legal-applied h c n o failed (inr none) = absurd none
 
 last-number : (h : CurrentOpening) (c : Command) (slip : PlainReceipt) (n : ℕ) → IsLast h c slip → n ≡ length (log_of h) + 1 → n ≡ length slip.front
 last-number h c slip n last is = omega (arith, is, ap length last.last, length-append (log_of h) (last.made ∷ []))
 
 -- ---- what is shown
 
-told-more : (h : CurrentOpening) (x : HistoryCommand) → h.shown ≤ length (flat h.acked) → h.shown ≤ shown_by_answer (told_of_history h x) h.shown
-told-more h Log within = omega arith
-told-more h Publish within = within
+reported-more : (h : CurrentOpening) (x : HistoryCommand) → h.shown ≤ length (flat h.acked) → h.shown ≤ shown_by_answer (history_answer h x) h.shown
+reported-more h Log within = omega arith
+reported-more h Publish within = within
 
 -- no call shows less
 shows-more : (h : CurrentOpening) (c : Command) (r : Reply) (failed : Bool) → LegalReply h c r failed → h.shown ≤ length (flat h.acked) → h.shown ≤ shown_by r h.shown
@@ -250,7 +198,7 @@ shows-more h c (Answer a) failed (inl is) within = by (answered-step h (step_in 
 
   by : (step_in h c ≡ Ok (Done a)) ⊎ IsOfHistory h (step_in h c) a → h.shown ≤ shown_by_answer a h.shown
   by (inl done) = omega (arith, shows-nothing h.tickets (durable_of h) c a (unhalted (may_change c && is_halted h.pending) steps (Done a) done) h.shown)
-  by (inr k) = subst (λ (x : ToldOf). h.shown ≤ shown_by_answer x h.shown) (sym k.answer) (told-more h k.command within)
+  by (inr k) = subst (λ (x : ReportedOf). h.shown ≤ shown_by_answer x h.shown) (sym k.answer) (reported-more h k.command within)
 shows-more h c (Answer a) failed (inr none) within = absurd none
 shows-more h c (Applied n o) failed legal within = omega (arith, legal-applied h c n o failed legal, within, more-acked h.acked h.pending)
 shows-more h c (Stored n o) failed legal within = omega arith
@@ -268,13 +216,13 @@ module _ (base : PlainDurable) (setting : Setting) (c : Command) (slip : PlainRe
   applied-is n o a = last-number a.before c slip n a.change (legal-applied a.before c n o a.came.failed (call-legal (Applied n o) a).reply)
 
   pub stored-is : (n : ℕ) (o : Outcome) → IsAnswered base setting c (Stored n o) slip last → n ≡ length slip.front
-  stored-is n o a = last-number a.before c slip n a.change (legal-stored a.before c n o a.came.failed (call-legal (Stored n o) a).reply)
+  stored-is n o a = last-number a.before c slip n a.change (stored-step a.before c n o a.came.failed (call-legal (Stored n o) a).reply).number
 
   pub applied-acked : (n : ℕ) (o : Outcome) → IsAnswered base setting c (Applied n o) slip last → n ≡ slip.acked
   applied-acked n o a = last-acked a.before c slip n a.change a.acked (legal-applied a.before c n o a.came.failed (call-legal (Applied n o) a).reply)
 
   pub stored-acked : (n : ℕ) (o : Outcome) → IsAnswered base setting c (Stored n o) slip last → n ≡ slip.acked
-  stored-acked n o a = last-acked a.before c slip n a.change a.acked (legal-stored a.before c n o a.came.failed (call-legal (Stored n o) a).reply)
+  stored-acked n o a = last-acked a.before c slip n a.change a.acked (stored-step a.before c n o a.came.failed (call-legal (Stored n o) a).reply).number
 
   -- what was acknowledged at the reply of the receipt that was handed in still is acknowledged
   pub still-acked : (r : Reply) (handed : PlainReceipt) → last ≡ Some handed → IsAnswered base setting c r slip last → handed.acked ≤ slip.acked
@@ -291,14 +239,14 @@ module _ (base : PlainDurable) (setting : Setting) (c : Command) (slip : PlainRe
 
 -- ---- one group under the lock
 
-module _ (base : PlainDurable) (setting : Setting) (old new : WorldBook) (commands : List Command) (answers : Result (List Told) Refusal) (t : Upshot) (reached : IsReached base setting old)
+module _ (base : PlainDurable) (setting : Setting) (old new : WorldBook) (commands : List Command) (answers : Result (List Reported) Refusal) (t : Upshot) (reached : IsReached base setting old)
     (leads : (h : CurrentOpening) → IsAt h old → LeadsGroup h new commands (replies_of answers) t) (folded : IsFolded new) where
   stands-then : StandsFor reached.first new (reached.world ++ called_group commands (replies_of answers) t ∷ [])
   stands-then = stands-on-group reached.first old new reached.world commands (replies_of answers) t reached.stands (leads reached.stands.held reached.stands.at) folded
 
   -- what a group leads to is reached as well
-  pub reached-behind : new.base ≡ old.base → new.setting ≡ old.setting → IsReached base setting new
-  reached-behind same_base same_setting = record {
+  pub reached-too : new.base ≡ old.base → new.setting ≡ old.setting → IsReached base setting new
+  reached-too same_base same_setting = record {
     base_is = same_base ∙ reached.base_is;
     setting_is = same_setting ∙ reached.setting_is;
     first = reached.first;
@@ -306,9 +254,8 @@ module _ (base : PlainDurable) (setting : Setting) (old new : WorldBook) (comman
     stands = stands-then;
   }
 
-  pub group-answered : (last : Option PlainReceipt) → ((h : CurrentOpening) → IsAt h old → HasReceipts h (log_in new) commands answers) → HaveShown t.shown answers → Follows last (log_in old) (length (flat old.acked)) → ShowsNoLess last old.shown
-      → IsGroupAnswered base setting commands answers last
-  group-answered last receipts shown follows shows =
+  pub group-answered : (last : Option PlainReceipt) → ((h : CurrentOpening) → IsAt h old → HasReceipts h (log_in new) commands answers) → HaveShown t.shown answers → TakesUp last old → IsGroupAnswered base setting commands answers last
+  group-answered last receipts shown takes =
       let h : CurrentOpening = reached.stands.held in
       let at : IsAt h old = reached.stands.at in
       record {
@@ -322,12 +269,12 @@ module _ (base : PlainDurable) (setting : Setting) (old new : WorldBook) (comman
         legal = stands-then.legal;
         receipts = subst (λ (l : List PlainChange). HasReceipts h l commands answers) (log-at (heard_group h commands (replies_of answers) t) new (leads h at).at) (receipts h at);
         shown = shown;
-        follows = subst (λ (gs : List (List PlainChange)). Follows last (log_of h) (length (flat gs))) at.acked (subst (λ (l : List PlainChange). Follows last l (length (flat old.acked))) (log-at h old at) follows);
-        shows = subst (ShowsNoLess last) at.shown shows;
+        follows = subst (λ (gs : List (List PlainChange)). Follows last (log_of h) (length (flat gs))) at.acked (subst (λ (l : List PlainChange). Follows last l (length (flat old.acked))) (log-at h old at) takes.follows);
+        shows = subst (ShowsNoLess last) at.shown takes.shows;
       }
 
   -- the same where its commands are due what they are due one by one
-  pub group-as-alone : (last : Option PlainReceipt) → ((h : CurrentOpening) → IsAt h old → HasReceipts h (log_in new) commands answers) → HaveShown t.shown answers → Follows last (log_in old) (length (flat old.acked)) → ShowsNoLess last old.shown
+  pub group-as-alone : (last : Option PlainReceipt) → ((h : CurrentOpening) → IsAt h old → HasReceipts h (log_in new) commands answers) → HaveShown t.shown answers → TakesUp last old
       → ((h : CurrentOpening) → IsAt h old → AreDueAsAlone h commands answers) → IsAnsweredAsAlone base setting commands answers last
   unfolding group-answered
-  group-as-alone last receipts shown follows shows alone = record { group = group-answered last receipts shown follows shows; in_turn = alone reached.stands.held reached.stands.at }
+  group-as-alone last receipts shown takes alone = record { group = group-answered last receipts shown takes; in_turn = alone reached.stands.held reached.stands.at }

@@ -44,8 +44,8 @@ module _ {D : Type 0} {device : Ghosts D} {old new : PlainBook D} where
   }
 
   -- whether a call of it failed, by what is known of that
-  pub uses-told : {failed was : Bool} {P : List ℕ → Type 0} → failed ≡ was → UsesDevice device was old new P → UsesDevice device failed old new P
-  uses-told {P = P} is uses = subst (λ (f : Bool). UsesDevice device f old new P) (sym is) uses
+  pub uses-reported : {failed was : Bool} {P : List ℕ → Type 0} → failed ≡ was → UsesDevice device was old new P → UsesDevice device failed old new P
+  uses-reported {P = P} is uses = subst (λ (f : Bool). UsesDevice device f old new P) (sym is) uses
 
   -- no call of it was made after all
   pub uses-still : {failed : Bool} {P Q : List ℕ → Type 0} → UsesDevice device failed old new P → new.disk ≡ old.disk → UsesDevice device false old old Q → UsesDevice device false old new Q

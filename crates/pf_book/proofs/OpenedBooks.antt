@@ -9,7 +9,7 @@ use Rattle.pf_store.specs.{Stores.{Holds, HoldsEither}, StoreKept.PlainStore}
 use Rattle.pf_view.specs.Past.Pasts.{PlainFront, Begins, front_of}
 use Rattle.pf_view.proofs.Prefixes.{prefix_trans}
 use Rattle.pf_book.specs.Receipts.{ShownFits, token_of}
-use Rattle.pf_book.specs.Books.{BookParts, PlainBook, cut, book_of, world_book, world_book_of, HasRoom, HoldsLeft, IsBook, IsLeft, IsOfCall, KeepsOpening, UsesDevice, left_together, log_in}
+use Rattle.pf_book.specs.Books.{BookParts, PlainBook, cut, book_of, world_book, world_book_of, BookHasRoom, HoldsLeft, IsBook, IsLeft, IsOfCall, UsesDevice, left_together, log_in}
 use Rattle.pf_book.proofs.{Calling.{front-all, front-left}, LockedCalls.token-is, HistoryGroups.{acked-is, all-acked, counted-acked, goes-on, take_begins, whole-log}}
 
 -- the parts of a Book with this invariant
@@ -33,20 +33,12 @@ module _ {D : Type 0} {seen : D → List ℕ} {unsynced : D → ℕ → Bool} {p
   pub core-of : (whole : PlainCore) → whole ≡ p.whole → book_of (record p { whole = whole }) ≡ now
   core-of whole same = ap (λ (w : PlainCore). book_of (record p { whole = w })) same ∙ is
 
-  -- which is of the same opening
-  pub opening-of : (whole : PlainCore) → KeepsOpening now (book_of (record p { whole = whole }))
-  opening-of whole = record { base = ap (λ (b : PlainBook D). b.base) is; setting = ap (λ (b : PlainBook D). (world_book b).setting) is }
-
   -- it begins with a front of its tip, of which no more is acknowledged
   pub begins-of : (past : PlainFront) → Begins past (front_of p.tip) → IsPrefix past.front (log_in (world_book now))
   begins-of past begins = subst (λ (l : List PlainChange). IsPrefix past.front l) (i.log_is ∙ sym log-of) begins.0
 
   pub within-of : (past : PlainFront) → Begins past (front_of p.tip) → past.acked ≤ length (flat now.acked)
   within-of past begins = omega (arith, begins.1, i.acked_is, acked-of)
-
-  -- and shows all that it notes as shown
-  pub noted-of : p.tip.shown ≡ now.shown
-  noted-of = i.noted ∙ ap (λ (b : PlainBook D). b.shown) is
 
   -- what is shown begins the history, so it is all of it if it is as long
   pub token-of : (r : Reply) → ShownFits r now.shown (length (log_in (world_book now))) → token_of r p.shower.shown ≡ token_of r (log_in (world_book now))
@@ -58,8 +50,8 @@ module _ {D : Type 0} {seen : D → List ℕ} {unsynced : D → ℕ → Bool} {p
   pub left-of : (next : PlainNext) (es : List PlainChange) → next ≡ left_together now.whole.durable es → next.durable ≡ after p.whole.durable es
   left-of next es made = ap (λ (n : PlainNext). n.durable) made ∙ ap (λ (b : PlainBook D). after b.whole.durable es) (sym is)
 
-  pub room-of : (es : List PlainChange) → HasRoom (world_book now) es → HasRoom (world_book_of p) es
-  room-of es = subst (λ (b : PlainBook D). HasRoom (world_book b) es) (sym is)
+  pub room-of : (es : List PlainChange) → BookHasRoom (world_book now) es → BookHasRoom (world_book_of p) es
+  room-of es = subst (λ (b : PlainBook D). BookHasRoom (world_book b) es) (sym is)
 
   -- all that a world sees is as before
   pub same-of : (store : PlainStore D) (log : List PlainChange) (sizes : List ℕ) → store ≡ p.store → log ≡ p.log → sizes ≡ p.sizes → world_book_of (record p { store = store; log = log; sizes = sizes }) ≡ world_book now

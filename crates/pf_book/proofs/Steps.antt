@@ -17,46 +17,31 @@ NoFault s = (e : Refusal) → s ≡ Err e → is_fault e ≡ false
 abbrev refused : Refusal → Result Step Refusal
 refused e = Err e
 
-told : (x e : Refusal) → is_fault x ≡ false → refused x ≡ refused e → is_fault e ≡ false
-told x e not is = let same : x ≡ e = cc (is) in ap is_fault (sym same) ∙ not
+not_a_fault : (x e : Refusal) → is_fault x ≡ false → refused x ≡ refused e → is_fault e ≡ false
+not_a_fault x e not is = let same : x ≡ e = cc (is) in ap is_fault (sym same) ∙ not
 
 ok-not : (s : Step) → NoFault (Ok s)
 ok-not s e is = absurd (cc (is))
 
 ticket-not : (x : TicketRefusal) → is_fault (refusal_of x) ≡ false
-ticket-not ticket.BadCount = refl
-ticket-not (ticket.Twice i) = refl
-ticket-not (ticket.Busy i) = refl
-ticket-not ticket.Absent = refl
-ticket-not (ticket.Conflict i) = refl
-ticket-not ticket.RulesetFull = refl
-ticket-not ticket.TooManyRulesets = refl
-ticket-not ticket.TableFull = refl
-ticket-not ticket.TooManyTables = refl
-ticket-not ticket.TicketsExhausted = refl
 ticket-not ticket.Memory = refl
+ticket-not x = refl
 
 change-not : (x : ChangeRefusal) → is_fault (change_refusal_of x) ≡ false
-change-not (by_change.Twice i) = refl
-change-not (by_change.Conflict i) = refl
-change-not by_change.TableFull = refl
-change-not by_change.TooManyRulesets = refl
-change-not by_change.TooManyTables = refl
-change-not by_change.StatesFull = refl
-change-not by_change.BadTick = refl
 change-not by_change.Memory = refl
+change-not x = refl
 
 unless-not : {A : Type 0} (r : Result A TicketRefusal) (f : A → Result Step Refusal) → ((a : A) → NoFault (f a)) → NoFault (unless_refused r f)
 unless-not (Ok a) f not = not a
-unless-not (Err x) f not = λ e is. told (refusal_of x) e (ticket-not x) is
+unless-not (Err x) f not = λ e is. not_a_fault (refusal_of x) e (ticket-not x) is
 
 unfit-not : (r : Result (Unit {0}) ChangeRefusal) (s : Result Step Refusal) → NoFault s → NoFault (unless_unfit r s)
 unfit-not (Ok u) s not = not
-unfit-not (Err x) s not = λ e is. told (change_refusal_of x) e (change-not x) is
+unfit-not (Err x) s not = λ e is. not_a_fault (change_refusal_of x) e (change-not x) is
 
 there-not : (b : Bool) (s : Result Step Refusal) → NoFault s → NoFault (if_there b s)
 there-not true s not = not
-there-not false s not = λ e is. told Absent e refl is
+there-not false s not = λ e is. not_a_fault Absent e refl is
 
 transact-not : (t : PlainTickets) (d : PlainDurable) (x : Transaction) → NoFault (transact_step t d x)
 transact-not t d (Begin names) = unless-not _ _ (λ range. ok-not _)
@@ -85,7 +70,7 @@ judge-not d name packet expiry (Stateful s) = ok-not _
 judge-not d name packet expiry (ByRules by) = tracked-not d name packet expiry by (makes_state d by)
 
 past-not : (past : Bool) (s : Result Step Refusal) → NoFault s → NoFault (if past then Err BadTick else s)
-past-not true s not = λ e is. told BadTick e refl is
+past-not true s not = λ e is. not_a_fault BadTick e refl is
 past-not false s not = not
 
 track-not : (d : PlainDurable) (name : StateName) (packet : PlainPacket) (until : Option ℕ) → NoFault (track_step d name packet until)

@@ -6,7 +6,7 @@ use Rattle.pf_ticket.specs.{declared.{entry.RulesetTicket.RulesetTicket, limits.
 use Rattle.pf_core.specs.declared.{command.Command.Command, command.Command.TheVariants.{Transact, Edit, States as OfStates, Ask, History}, command.TableEdit.TableEdit, command.TableEdit.TheVariants.{Add as AddTo, Delete, Set, Kill}, command.Transaction.TheVariants.{Begin, Add, Define, Extend, Commit, Rollback}, reply.Answer.Answer, reply.Outcome.Outcome, reply.Refusal.Refusal, reply.Refusal.TheVariants.Halted, reply.Reply.TheVariants.Answer as Answered, step.Step.Step, step.Step.TheVariants.{Done, Wants, OfHistory}}
 use Rattle.pf_core.specs.declared.reply.Answer.TheVariants as answer
 use Rattle.pf_core.specs.{Commands.{item_of, items, step_by, may_change, mentioned}, Durable.Changes.{PlainDurable, PlainChange, commits}, Laws.Wanted.{none-wanted, wants_commit, change_by, wants_edit, IsOfStates, of_steps, of_removal, of_tick, wants_states}, Refusals.OrMemory, Cores.answered, Worlds.{CurrentOpening, due_at}}
-use Rattle.pf_core.proofs.Limits.{legal-told}
+use Rattle.pf_core.proofs.Limits.{legal-reported}
 use Rattle.pf_store.specs.{Groups.{can_be_wanted, has_item_form, is_commit}, Rooms.on_device}
 
 -- ---- what is wanted
@@ -72,7 +72,7 @@ with_tickets t d = record { setting = on_device 0 0; base = d; tickets = t; acke
 answered-within : (t : PlainTickets) (d : PlainDurable) (c : Command) (a : Answer) → step_by t d c ≡ Ok (Done a) → IsWithin t → IsWithin (moved_by t (mentioned c))
 answered-within t d c a is =
     let h : CurrentOpening = with_tickets t d in
-    (legal-told h c (Answered a) false (inl (sym (ap (λ (b : Bool). due_at h (cond b (Err Halted) (step_by t d c))) (and-false (may_change c)) ∙ ap (due_at h) is)))).within
+    (legal-reported h c (Answered a) false (inl (sym (ap (λ (b : Bool). due_at h (cond b (Err Halted) (step_by t d c))) (and-false (may_change c)) ∙ ap (due_at h) is)))).within
 
 -- whatever the step's result is
 pub stepped-within : (t : PlainTickets) (d : PlainDurable) (c : Command) (takes : Bool) (r : Result Step Refusal) → OrMemory takes r (step_by t d c) → IsWithin t → IsWithin (answered t c r)

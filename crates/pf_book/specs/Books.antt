@@ -6,7 +6,7 @@ use Rattle.logbook.specs.Pages.{Book}
 use Rattle.pf_disk.specs.{Disk.IsImage, Runs.MayWrite, declared.disk.Disk.Ghosts}
 use Rattle.pf_rule.specs.Packets.{PlainPacket}
 use Rattle.pf_ticket.specs.{Laws.Tickets.IsWithin as AreTicketsWithin, Mentions.{after as moved_by, switches}}
-use Rattle.pf_core.specs.declared.{command.Command.Command, command.Command.TheVariants.{Ask}, command.HistoryCommand.HistoryCommand, command.HistoryCommand.TheVariants.{Log, Publish}, command.Question.TheVariants.Judge, durable.verdict.Verdict.Verdict, reply.Outcome.Outcome, reply.Refusal.Refusal, group.TheConstants.GROUP_LIMIT, reply.Refusal.TheVariants.{HistoryFull, Full, Fault, Memory}, reply.Reply.Reply, reply.Reply.TheVariants.{Answer, Applied, Stored, Refused}}
+use Rattle.pf_core.specs.declared.{command.Command.Command, command.Command.TheVariants.{Ask}, command.HistoryCommand.HistoryCommand, command.HistoryCommand.TheVariants.{Log, Publish}, command.Question.TheVariants.Judge, durable.verdict.Verdict.Verdict, reply.Refusal.Refusal, group.TheConstants.GROUP_LIMIT, reply.Refusal.TheVariants.{HistoryFull, Full, Fault, Memory}, reply.Reply.Reply, reply.Reply.TheVariants.{Answer, Applied, Stored, Refused}}
 use Rattle.pf_core.specs.declared.reply.Answer.TheVariants as answer
 use Rattle.pf_core.specs.{Calls.{Call, call}, Durable.Changes.{PlainDurable, PlainChange, after, voided_by, verdict}, Laws.{Durable.IsWithin, Openings.Leaves}, Nexts.{PlainNext, next_with}, WorldBooks.{WorldBook, IsAt, IsFolded}, Cores.PlainCore, Worlds.{Setting, CurrentOpening, Doing, flat, grouped, as_stored, is_fault, last_epoch, raised}}
 use Rattle.pf_store.specs.declared.{store.fault.OpenFault.OpenFault, store.fault.OpenFault.TheVariants.Memory as OutOfMemory, store.fault.OpenFault.TheVariants.Places as Places}
@@ -219,7 +219,7 @@ listed (Err e) = Err e
 
 -- the same where more comes with the replies
 abbrev pub replied : {X : Type 0} → Result (Vec Reply Global × X) Refusal → Result (List Reply) Refusal
-replied (Ok told) = Ok told.0.items
+replied (Ok reported) = Ok reported.0.items
 replied (Err e) = Err e
 
 -- what changes, one after the other, make of what is kept, and the tickets that all of them void
@@ -227,7 +227,7 @@ abbrev pub left_together : PlainDurable → List PlainChange → PlainNext
 left_together d es = next_with (after d es) (flat_map voided_by es)
 
 -- there is room for these changes together: the history doesn't get too many, and the device isn't full
-pub record HasRoom (b : WorldBook) (es : List PlainChange) : Type 0 where
+pub record BookHasRoom (b : WorldBook) (es : List PlainChange) : Type 0 where
   pub few : length (flat b.acked) + length es ≤ b.setting.limit
   pub device : b.setting.is_full b.base b.acked es ≡ false
 
@@ -239,7 +239,7 @@ HasNoRoom why b es = ⊥
 
 -- these changes were kept as one group
 pub record IsMore (old new : WorldBook) (es : List PlainChange) : Type 0 where
-  pub room : HasRoom old es
+  pub room : BookHasRoom old es
   pub base : new.base ≡ old.base
   pub tickets : new.whole.tickets ≡ moved_by old.whole.tickets (switches (flat_map voided_by es))
   pub acked : new.acked ≡ old.acked ++ grouped es
@@ -249,12 +249,12 @@ pub record IsMore (old new : WorldBook) (es : List PlainChange) : Type 0 where
 
 -- the device failed while these changes were being kept
 pub record IsPending (old new : WorldBook) (es : List PlainChange) : Type 0 where
-  pub room : HasRoom old es
+  pub room : BookHasRoom old es
   pub same : new ≡ record old { pending = grouped es }
 
 -- why changes that fit weren't kept, and what that leaves
 abbrev pub IsUnkept : Refusal → WorldBook → WorldBook → List PlainChange → Type 0
-IsUnkept Memory old new es = (new ≡ old) × HasRoom old es
+IsUnkept Memory old new es = (new ≡ old) × BookHasRoom old es
 IsUnkept Fault old new es = IsPending old new es
 IsUnkept why old new es = (new ≡ old) × HasNoRoom why old es
 
@@ -338,28 +338,27 @@ abbrev pub StaysUnlessAnyKept : {D : Type 0} → Result (List Reply) Refusal →
 StaysUnlessAnyKept (Ok replies) old new = new.acked ≡ old.acked → (world_book new ≡ world_book old) × (new.disk ≡ old.disk)
 StaysUnlessAnyKept (Err e) old new = Stays e old new
 
--- ---- what a change comes to, and what is asked of the history
+-- ---- what changes come to, and what is asked of the history
 
--- the change was kept by itself, with this number
-pub record IsKept (old new : WorldBook) (e : PlainChange) (n : ℕ) : Type 0 where
-  pub more : IsMore old new (e ∷ [])
-  pub number : n ≡ length (flat new.acked)
+-- Changes were kept as one group, and are shown with all before them or not; or why they weren't kept.
+abbrev pub AreKept : Result Bool Refusal → List PlainChange → WorldBook → WorldBook → Type 0
+AreKept (Ok true) es old new = (kept : WorldBook) × IsMore old kept es × (new ≡ shows_all kept)
+AreKept (Ok false) es old new = IsMore old new es
+AreKept (Err why) es old new = IsUnkept why old new es
 
--- the reply to a change that is wanted, with this outcome
-abbrev pub IsMade : Reply → Outcome → PlainChange → WorldBook → WorldBook → Type 0
-IsMade (Answer a) o e old new = ⊥
-IsMade (Applied n p) o e old new = (p ≡ o) × (kept : WorldBook) × IsKept old kept e n × (new ≡ shows_all kept)
-IsMade (Stored n p) o e old new = (p ≡ o) × IsKept old new e n
-IsMade (Refused why) o e old new = IsUnkept why old new (e ∷ [])
+-- the same where the changes come with it
+abbrev pub shown_with : {X : Type 0} → Result (X × Bool) Refusal → Result Bool Refusal
+shown_with (Ok r) = Ok r.1
+shown_with (Err e) = Err e
 
--- The changes of a group to which these replies are due: they were kept, and are shown or not; or why they weren't kept.
-abbrev pub AreMade : Result (List Reply) Refusal → List Reply → List PlainChange → WorldBook → WorldBook → Type 0
-AreMade (Ok replies) due es old new = (kept : WorldBook) × IsMore old kept es
-    × (((replies ≡ due) × (new ≡ shows_all kept)) ⊎ ((replies ≡ map as_stored due) × (new ≡ kept)))
-AreMade (Err why) due es old new = IsUnkept why old new es
+-- what is told of changes to which these replies are due
+abbrev pub reported_after : Result Bool Refusal → List Reply → Result (List Reply) Refusal
+reported_after (Ok true) due = Ok due
+reported_after (Ok false) due = Ok (map as_stored due)
+reported_after (Err e) due = Err e
 
 -- `log`: how many changes there are, were acknowledged and are shown. `publish`: all that was acknowledged is shown, unless out of memory.
-abbrev pub IsTold : HistoryCommand → Reply → WorldBook → WorldBook → Type 0
-IsTold Log r old new = (new ≡ old) × (r ≡ Answer (answer.Logged (length (log_in old)) (length (flat old.acked)) old.shown))
-IsTold Publish r old new =
+abbrev pub AnswersHistory : HistoryCommand → Reply → WorldBook → WorldBook → Type 0
+AnswersHistory Log r old new = (new ≡ old) × (r ≡ Answer (answer.Logged (length (log_in old)) (length (flat old.acked)) old.shown))
+AnswersHistory Publish r old new =
     ((r ≡ Answer (answer.Shown (length (flat old.acked)))) × (new ≡ shows_all old)) ⊎ ((r ≡ Refused Memory) × (new ≡ old))

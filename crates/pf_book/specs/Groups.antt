@@ -42,20 +42,24 @@ HaveShown n (Ok answers) = All (λ a. a.1.shown ≡ n) answers
 HaveShown n (Err e) = ⊤
 
 -- a group's result as a list
-abbrev pub told : {X : Type 0} → Result (Vec X Global) Refusal → Result (List X) Refusal
-told (Ok answers) = Ok answers.items
-told (Err e) = Err e
+abbrev pub result_list : {X : Type 0} → Result (Vec X Global) Refusal → Result (List X) Refusal
+result_list (Ok answers) = Ok answers.items
+result_list (Err e) = Err e
 
--- What a Book answers a group, each reply with its receipt, and what that leaves of the Book and of its device.
-pub record IsGroupOf {D : Type 0} (device : Ghosts D) (old new : PlainBook D) (commands : List Command) (result : Result (List Answered) Refusal) : Type 0 where
+-- What a Book answers a group, and what that leaves of the Book and of its device.
+pub record IsGroupCall {D : Type 0} (device : Ghosts D) (old new : PlainBook D) (commands : List Command) (result : Result (List Reply) Refusal) : Type 0 where
   pub leads : (h : CurrentOpening) → IsAt h (world_book old)
-      → LeadsGroup h (world_book new) commands (replies_of result) (upshot new.shown (nat_lt (device.fault_count old.disk) (device.fault_count new.disk)))
+      → LeadsGroup h (world_book new) commands result (upshot new.shown (nat_lt (device.fault_count old.disk) (device.fault_count new.disk)))
   -- at each moment of it an image holds what some crash within it leaves of the opening
   pub uses : UsesDevice device (is_fault_result result) old new (IsLeft (world_book old) (grouping commands))
+  pub stays : StaysUnlessAnyKept result old new
+  pub opening : KeepsOpening old new
+
+-- The same, each reply with its receipt.
+pub record IsGroupOf {D : Type 0} (device : Ghosts D) (old new : PlainBook D) (commands : List Command) (result : Result (List Answered) Refusal) : Type 0 where
+  pub call : IsGroupCall device old new commands (replies_of result)
   pub receipts : (h : CurrentOpening) → IsAt h (world_book old) → HasReceipts h (log_in (world_book new)) commands result
   pub shown : HaveShown new.shown result
-  pub stays : StaysUnlessAnyKept (replies_of result) old new
-  pub opening : KeepsOpening old new
 
 -- If the group was kept, its commands were due the replies that they would have been due one by one.
 abbrev pub AreDueAsAlone : CurrentOpening → List Command → Result (List Answered) Refusal → Type 0

@@ -16,15 +16,15 @@ kept_count [] = 0
 kept_count (r ∷ replies) = (if is_kept r then 1 else 0) + kept_count replies
 
 -- how many changes the history has after a reply, if it had `n` of them before it
-abbrev pub behind : Reply → ℕ → ℕ
-behind r n = n + (if is_kept r then 1 else 0)
+abbrev pub count_after : Reply → ℕ → ℕ
+count_after r n = n + (if is_kept r then 1 else 0)
 
 -- of changes that are given to replies in turn, the one that a reply gets, and what is left to the replies after it
 abbrev pub given_to : Reply → List PlainChange → Option PlainChange
 given_to r given = if is_kept r then slice_get given 0 else None
 
-abbrev pub left_behind : Reply → List PlainChange → List PlainChange
-left_behind r given = if is_kept r then drop 1 given else given
+abbrev pub given_after : Reply → List PlainChange → List PlainChange
+given_after r given = if is_kept r then drop 1 given else given
 
 -- the receipt of a reply after which the history has `n` changes, all of them acknowledged; so many of `log` are `shown`
 abbrev pub slip_at : ℕ → List PlainChange → ℕ → Option PlainChange → Reply → PlainReceipt
@@ -34,4 +34,4 @@ slip_at shown log n change r = record { front = take n log; acked = n; shown = s
 abbrev pub paired : ℕ → List PlainChange → ℕ → List Reply → List PlainChange → List Answered
 paired shown log n [] given = []
 paired shown log n (r ∷ replies) given =
-    (r, slip_at shown log (behind r n) (given_to r given) r) ∷ paired shown log (behind r n) replies (left_behind r given)
+    (r, slip_at shown log (count_after r n) (given_to r given) r) ∷ paired shown log (count_after r n) replies (given_after r given)

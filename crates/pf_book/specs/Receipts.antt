@@ -1,11 +1,12 @@
 -- What the receipt of a reply says, and what a call is answered under the lock.
-use Rattle.std.specs.{Prelude.{◌≡◌, ℕ, ◌<◌, ◌≤◌, List, [], ◌∷◌, ◌++◌, length, take, ⊤, Option, None, Some, IfSome}, Option.ForSome}
+use Rattle.std.specs.{Prelude.{◌≡◌, ℕ, ◌<◌, ◌≤◌, List, [], ◌∷◌, ◌++◌, length, min, nat_lt, take, ⊤, Option, None, Some, IfSome}, Option.ForSome}
 use mathlib.Core.List.{IsPrefix}
 use Rattle.pf_core.specs.declared.{command.Command.Command, reply.Reply.Reply, reply.Reply.TheVariants.{Answer, Applied, Stored, Refused}}
-use Rattle.pf_core.specs.{Calls.call, Durable.Changes.{PlainDurable, PlainChange}, WorldBooks.{WorldBook, StandsFor}, Worlds.{Setting, CurrentOpening, Upshot, Event, up, down, called, flat, log_of, group_in, heard, state_after, IsWorld}}
+use Rattle.pf_core.specs.{Calls.call, Durable.Changes.{PlainDurable, PlainChange}, WorldBooks.{WorldBook, IsAt, Leads, StandsFor}, Worlds.{Setting, CurrentOpening, Upshot, upshot, Event, up, down, called, calling, flat, log_of, group_in, heard, state_after, IsWorld}}
+use Rattle.pf_disk.specs.declared.disk.Disk.{Ghosts}
 use Rattle.pf_view.specs.Past.Pasts.{PlainFront}
 use Rattle.pf_view.specs.Seers.{PlainSeer, learns}
-use Rattle.pf_book.specs.Books.{change_in, log_in}
+use Rattle.pf_book.specs.Books.{IsJudged, IsLeft, IsNumbered, KeepsOpening, PlainBook, StaysUnlessKept, UsesDevice, change_in, is_fault_reply, log_in, world_book}
 
 -- ---- receipts
 
@@ -69,13 +70,21 @@ ShownFits (Applied seq outcome) shown all = shown ≡ all
 ShownFits (Stored seq outcome) shown all = ⊤
 ShownFits (Refused e) shown all = ⊤
 
--- what the receipt of a reply says of the Book after it
-pub record IsReceiptOf (r : Reply) (slip : PlainReceipt) (old new : WorldBook) : Type 0 where
-  pub front : slip.front ≡ log_in new
-  pub acked : slip.acked ≡ length (flat new.acked)
-  pub shown : slip.shown ≡ new.shown
-  pub given : IsGiven r slip.change old new
-  pub token : slip.token ≡ token_of r (log_in new)
+-- What a Book answers a call, with the change that it gives for the receipt, and what that leaves of the Book and of its device.
+pub record IsCall {D : Type 0} (device : Ghosts D) (old new : PlainBook D) (c : Command) (r : Reply) (change : Option PlainChange) : Type 0 where
+  pub leads : (h : CurrentOpening) → IsAt h (world_book old)
+      → Leads h (world_book new) (call c r) (upshot new.shown (nat_lt (device.fault_count old.disk) (device.fault_count new.disk)))
+  -- at each moment of it an image holds what some crash within it leaves of the opening
+  pub uses : UsesDevice device (is_fault_reply r) old new (IsLeft (world_book old) (calling c))
+  pub given : IsGiven r change (world_book old) (world_book new)
+  pub numbered : IsNumbered r (world_book new)
+  pub judged : IsJudged old.whole.durable c r
+  pub stays : StaysUnlessKept r old new
+  pub opening : KeepsOpening old new
+
+-- the receipt of a reply after which the history has `n` changes
+abbrev pub receipt_of : WorldBook → ℕ → Option PlainChange → Reply → PlainReceipt
+receipt_of b n change r = record { front = take n (log_in b); acked = min n (length (flat b.acked)); shown = b.shown; change = change; token = token_of r (log_in b) }
 
 -- The history begins with the front of the receipt that was handed in, if any. What was acknowledged at its reply still is, and so is the
 -- receipt's change, if it has one.

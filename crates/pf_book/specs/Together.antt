@@ -10,8 +10,8 @@ pub record PlainAsked : Type 0 where
   pub last : Option PlainReceipt
 
 -- what its caller is given: the reply with its receipt; or if the device failed in a group the receipt that was handed in
-abbrev pub Told : Type 0
-Told = Result Answered (Option PlainReceipt)
+abbrev pub PlainGiven : Type 0
+PlainGiven = Result Answered (Option PlainReceipt)
 
 -- The Book ran a group that had the command behind these earlier ones, and this is what it was answered at its place: the reply that it would
 -- have got by itself after them. The other commands are those of other callers. The receipt that the command's caller handed in is taken up where the group began.
@@ -19,11 +19,11 @@ pub record IsAnsweredAmong (base : PlainDurable) (setting : Setting) (c : Comman
   pub earlier : List Command
   pub later : List Command
   -- what the earlier ones and the later ones were answered
-  pub told : List Answered
+  pub reported : List Answered
   pub others : List Answered
-  pub group : IsGroupAnswered base setting (earlier ++ c ∷ later) (Ok (told ++ (r, slip) ∷ others)) last
+  pub group : IsGroupAnswered base setting (earlier ++ c ∷ later) (Ok (reported ++ (r, slip) ∷ others)) last
   pub in_turn : AreInTurn group.before (earlier ++ c ∷ later)
-  pub place : length told ≡ length earlier
+  pub place : length reported ≡ length earlier
 
 -- The device failed in a group that had the command. The changes of the group stand in the history, not acknowledged. It has no receipt.
 pub record HasFailedAmong (base : PlainDurable) (setting : Setting) (c : Command) (last : Option PlainReceipt) : Type 0 where
@@ -32,7 +32,7 @@ pub record HasFailedAmong (base : PlainDurable) (setting : Setting) (c : Command
   pub group : IsGroupAnswered base setting (earlier ++ c ∷ later) (Err Fault) last
 
 -- The command was answered by itself or in a group; or the device failed in its group, and the caller has its receipt back.
-abbrev pub IsAnsweredTogether : PlainDurable → Setting → PlainAsked → Told → Type 0
+abbrev pub IsAnsweredTogether : PlainDurable → Setting → PlainAsked → PlainGiven → Type 0
 IsAnsweredTogether base setting asked (Ok a) =
     IsAnswered base setting asked.command a.0 a.1 asked.last ⊎ IsAnsweredAmong base setting asked.command a.0 a.1 asked.last
 IsAnsweredTogether base setting asked (Err back) = (back ≡ asked.last) × HasFailedAmong base setting asked.command asked.last

@@ -3,13 +3,13 @@
 ghost use Rattle.std.specs.Prelude.{◌≡◌, ℕ, ◌+◌, ◌<◌, ◌≤◌, [], ◌∷◌, ◌++◌, List, All, Ok, true, false, IfOk, IfErr, IfSome, OnOk, OnErr, IsErrOf, MatchBool, MatchResult, length, map, take, slice_get, nat_lt, not, if◌then◌else◌};
 ghost use Rattle.std.specs.{Arc.arc_value, List.list_all, Option.option_map};
 ghost use Rattle.pf_disk.specs.Disk.{IsImage};
-ghost use Rattle.pf_core.specs.declared.reply.Refusal.TheVariants as told;
+ghost use Rattle.pf_core.specs.declared.reply.Refusal.TheVariants as refusals;
 ghost use Rattle.pf_core.specs.{Calls.call, Commands.may_change, Durable.Changes.{PlainDurable, applied, after, fits, verdict}, WorldBooks.{IsAt, IsFolded, StandsFor, Leads}, Cores.left_by, Worlds.{CurrentOpening, idle, calling, begun, upshot, Event, called, opened, is_fault, flat, raised, last_epoch, down, state_after, IsWorld, LegalReply, shown_by}};
 ghost use Rattle.pf_store.specs.declared.store.fault.OpenFault.TheVariants as open_fault;
 ghost use Rattle.pf_store.specs.{Groups.{can_be_wanted, is_group, made_all}, Stores.{FindsRoom, FollowInTurn, HoldsEither}};
 ghost use Rattle.pf_view.specs.Seers.{IsNewSeer, IsNewShower, JudgesBy};
-ghost use Rattle.pf_book.specs.Receipts.{IsGiven, IsReached};
-ghost use Rattle.pf_book.specs.Books.{world_book, HoldsLeft, HasRoom, HasNoRoom, left_together, IsMore, IsUnkept, IsUnshown, IsMade, IsTold, Stays, IsLeft, IsOpenable, KeepsOpening, StaysUnlessKept, UsesDevice, shows_all, change_in, log_in, is_fault_reply, is_fault_result, IsNumbered, IsJudged, IsNamed, setting_of, judging};
+ghost use Rattle.pf_book.specs.{Courses.{AreReady, KeepsTogether}, Receipts.{IsCall, IsReached}};
+ghost use Rattle.pf_book.specs.Books.{world_book, HoldsLeft, BookHasRoom, HasNoRoom, left_together, IsMore, IsUnkept, IsUnshown, AnswersHistory, Stays, IsLeft, IsOpenable, KeepsOpening, StaysUnlessKept, UsesDevice, shows_all, change_in, log_in, is_fault_reply, is_fault_result, IsNumbered, IsJudged, IsNamed, setting_of, shown_with, judging};
 
 mod closed;
 mod groups;
@@ -17,12 +17,12 @@ mod receipts;
 
 use crate::chapter::Chapter;
 use crate::opening::{NamedOpening, Opening};
-use crate::saving::{Copies, note_all, prepare, put_all, share};
+use crate::saving::{ChangeGroup, Copies, note_all, put_all, share_and_reserve};
 use crate::showing::{offer_rest, show_offered};
 pub use closed::Closed;
 use pf_core::{
-    Answer, Change, Command, Core, Durable, HistoryCommand, Next, Outcome, ReadyStep, Refusal,
-    Reply, Verdict,
+    Answer, Change, Command, Core, Durable, HistoryCommand, Next, ReadyStep, Refusal, Reply,
+    Verdict,
 };
 use pf_disk::Disk;
 use pf_rule::Packet;
@@ -31,7 +31,6 @@ use pf_view::past::{Front, Tip};
 use pf_view::{Publisher, Seer, Shower, ViewFault, views};
 use std::alloc::{AllocError, Global};
 use std::marker::Model;
-use std::slice::from_ref;
 use std::sync::{Arc, Wait};
 
 /// What an opening gave, and each change since: saved on the device before it is answered, and shown to the packet workers by the
@@ -189,12 +188,12 @@ impl<D: Disk + Drop, J: Chapter, S: Publisher<J> + Drop> Book<D, J, S> {
     }
 
     // Whether the history and the device have room for changes as one group, which leaves `next`. It makes no call of the device.
-    fn find_room(&self, changes: &[Change], next: &Next) -> Result<(), Refusal>
+    fn refuse_if_full(&self, changes: &[Change], next: &Next) -> Result<(), Refusal>
         requires left { next.now.durable ≡ after self.now.whole.durable changes.now }
         requires group { is_group changes.now ≡ true }
         requires wanted { list_all can_be_wanted changes.now ≡ true }
         requires free { self.now.pending ≡ [] }
-        ensures ok { OnOk result (HasRoom (world_book self.now) changes.now) }
+        ensures ok { OnOk result (BookHasRoom (world_book self.now) changes.now) }
         ensures found { OnOk result (FindsRoom self.now.size self.now.whole.durable next.now.durable changes.now) }
         ensures err { IfErr result (λ e. HasNoRoom e (world_book self.now) changes.now) }
         ensures device { UsesDevice D.Disk false self.now self.now
@@ -212,30 +211,11 @@ impl<D: Disk + Drop, J: Chapter, S: Publisher<J> + Drop> Book<D, J, S> {
         Ok(())
     }
 
-    // Keeps a change that the core wants and that leaves `next`, and returns it for a receipt. It isn't shown yet.
-    fn keep(&mut self, change: Change, next: Next) -> Result<Arc<Change>, Refusal>
-        requires made { next ≡ left_by self.old.whole.durable change }
-        requires fits { fits self.old.whole.durable change ≡ Ok tt }
-        requires wanted { can_be_wanted change ≡ true }
-        requires free { self.old.pending ≡ [] }
-        ensures ok { OnOk result (IsMore (world_book self.old) (world_book self.new) (change ∷ [])) }
-        ensures given { IfOk result (λ given. arc_value given ≡ change) }
-        ensures err { IfErr result (λ e. IsUnkept e (world_book self.old) (world_book self.new) (change ∷ [])) }
-        ensures device { UsesDevice D.Disk (is_fault_result result) self.old self.new
-            (HoldsEither self.old.whole.durable (applied self.old.whole.durable change)) }
-        ensures still { IfErr result (λ e. is_fault e ≡ false → self.new.disk ≡ self.old.disk) }
-    {
-        self.find_room(from_ref(&change), &next)?;
-        let change = share(self.alloc, change)?;
-        self.save(from_ref(&change), next)?;
-        Ok(change)
-    }
-
     // Saves changes as one group, for which the history and the device have room, and notes them in the history.
     fn save(&mut self, changes: &[Arc<Change>], next: Next) -> Result<(), Refusal>
         requires made { next ≡ left_together self.old.whole.durable (map arc_value changes.now) }
         requires fit { FollowInTurn self.old.whole.durable (made_all (map arc_value changes.now)) }
-        requires room { HasRoom (world_book self.old) (map arc_value changes.now) }
+        requires room { BookHasRoom (world_book self.old) (map arc_value changes.now) }
         requires found { FindsRoom self.old.size self.old.whole.durable next.durable (map arc_value changes.now) }
         requires free { self.old.pending ≡ [] }
         ensures ok { OnOk result (IsMore (world_book self.old) (world_book self.new) (map arc_value changes.now)) }
@@ -248,7 +228,7 @@ impl<D: Disk + Drop, J: Chapter, S: Publisher<J> + Drop> Book<D, J, S> {
             logged,
             noted,
             after,
-        } = prepare(self.alloc, &mut self.log, &mut self.sizes, changes, &next)?;
+        } = share_and_reserve(self.alloc, &mut self.log, &mut self.sizes, changes, &next)?;
         match self
             .store
             .save(self.alloc, self.core.durable(), changes, &after)
@@ -296,29 +276,18 @@ impl<D: Disk + Drop, J: Chapter, S: Publisher<J> + Drop> Book<D, J, S> {
         show_offered(&mut self.shower, &mut self.tip)
     }
 
-    // Keeps a change that the core wants, and shows it. If it was kept, it is returned for a receipt.
-    fn make(&mut self, change: Change, next: Next, outcome: Outcome) -> (Reply, Option<Arc<Change>>)
-        requires made { next ≡ left_by self.old.whole.durable change }
-        requires fits { fits self.old.whole.durable change ≡ Ok tt }
-        requires wanted { can_be_wanted change ≡ true }
-        requires free { self.old.pending ≡ [] }
-        ensures made { IsMade result.0 outcome change (world_book self.old) (world_book self.new) }
-        ensures given { IsGiven result.0 (option_map arc_value result.1) (world_book self.old) (world_book self.new) }
-        ensures device { UsesDevice D.Disk (is_fault_reply result.0) self.old self.new
-            (HoldsEither self.old.whole.durable (applied self.old.whole.durable change)) }
-        ensures still { (e : Refusal) → result.0 ≡ Reply.Refused e → is_fault e ≡ false → self.new.disk ≡ self.old.disk }
+    // Keeps changes that the core wants as one group, which leaves `next`, and shows them. Returns them for receipts, and whether they are
+    // shown.
+    fn make<C: ChangeGroup>(&mut self, changes: C, next: Next) -> Result<(C::Shared, bool), Refusal>
+        requires { AreReady (world_book self.old) (C.items changes) next }
+        ensures kept { KeepsTogether D.Disk self.old self.new (C.items changes) (shown_with result) }
+        ensures given { IfOk result (λ r. C.shared_items r.0 ≡ C.items changes) }
     {
-        match self.keep(change, next) {
-            Ok(given) => {
-                let seq = self.acked as u64;
-                if self.show_all() {
-                    (Reply::Applied { seq, outcome }, Some(given))
-                } else {
-                    (Reply::Stored { seq, outcome }, Some(given))
-                }
-            }
-            Err(refusal) => (Reply::Refused(refusal), None),
-        }
+        self.refuse_if_full(changes.changes(), &next)?;
+        let given = changes.share(self.alloc)?;
+        self.save(C::shared(&given), next)?;
+        let shown = self.show_all();
+        Ok((given, shown))
     }
 
     // Answers what is asked of the history itself.
@@ -326,7 +295,7 @@ impl<D: Disk + Drop, J: Chapter, S: Publisher<J> + Drop> Book<D, J, S> {
         ensures device { self.new.disk ≡ self.old.disk }
         ensures size { self.new.size ≡ self.old.size }
         ensures generation { self.new.generation ≡ self.old.generation }
-        ensures told { IsTold command result (world_book self.old) (world_book self.new) }
+        ensures reported { AnswersHistory command result (world_book self.old) (world_book self.new) }
     {
         let acked = self.acked as u64;
         match command {
@@ -345,23 +314,27 @@ impl<D: Disk + Drop, J: Chapter, S: Publisher<J> + Drop> Book<D, J, S> {
         }
     }
 
-    // One call, whatever came before it in the opening. Returns the change that it made, if it was kept.
+    // One call, whatever came before it in the opening. Returns the change that it made, if it was kept. What a command wants is made as a
+    // group of it alone.
     fn call(&mut self, command: &Command) -> (Reply, Option<Arc<Change>>)
-        ensures leads { (h : CurrentOpening) → IsAt h (world_book self.old) → Leads h (world_book self.new) (call command.now result.0)
-            (upshot self.new.shown (nat_lt (D.fault_count self.old.disk) (D.fault_count self.new.disk))) }
-        ensures given { IsGiven result.0 (option_map arc_value result.1) (world_book self.old) (world_book self.new) }
-        ensures numbered { IsNumbered result.0 (world_book self.new) }
-        ensures judged { IsJudged self.old.whole.durable command.now result.0 }
-        ensures device { UsesDevice D.Disk (is_fault_reply result.0) self.old self.new (IsLeft (world_book self.old) (calling command.now)) }
-        ensures opening { KeepsOpening self.old self.new }
-        ensures stays { StaysUnlessKept result.0 self.old self.new }
+        ensures { IsCall D.Disk self.old self.new command.now result.0 (option_map arc_value result.1) }
     {
         if self.acked < self.log.len() && may_change(command) {
             return (Reply::Refused(Refusal::Halted), None);
         }
+        let seq = (self.acked + 1) as u64;
         match self.core.step_ready(command) {
             Ok(ReadyStep::Done(answer)) => (Reply::Answer(answer), None),
-            Ok(ReadyStep::Wants(change, next, outcome)) => self.make(change, next, outcome),
+            Ok(ReadyStep::Wants(change, next, outcome)) => match self.make(change, next) {
+                Ok((given, shown)) => {
+                    if shown {
+                        (Reply::Applied { seq, outcome }, Some(given))
+                    } else {
+                        (Reply::Stored { seq, outcome }, Some(given))
+                    }
+                }
+                Err(refusal) => (Reply::Refused(refusal), None),
+            },
             Ok(ReadyStep::OfHistory(command)) => (self.answer_history(command), None),
             Err(refusal) => (Reply::Refused(refusal), None),
         }

@@ -1,7 +1,7 @@
 //! What the commands of a group come to, one after the other, before anything is kept.
 ghost use Rattle.std.specs.{Prelude.{◌≡◌, ◌≢◌, ◌<◌, ◌^◌, ◌↔◌, ◌&&◌, IfOk, IsTrue, OnOk, Ok, Err, true, false, length, map}, List.AllByRecursion};
 ghost use Rattle.pf_ticket.specs.{Laws.Tickets.IsWithin as AreTicketsWithin, Mentions.{after as moved_by, switches}};
-ghost use Rattle.pf_core.specs.declared.reply.Refusal.TheVariants as told;
+ghost use Rattle.pf_core.specs.declared.reply.Refusal.TheVariants as refusals;
 ghost use Rattle.pf_core.specs.declared.{command.HistoryCommand.HistoryCommand, step.Step.TheVariants.OfHistory};
 ghost use Rattle.pf_core.specs.{Commands.{may_be_grouped, step_by}, Cores.{plain, IsMadeFrom}, Worlds.as_stored};
 ghost use Rattle.pf_book.specs.Courses.{FindRoomEach, HasTaken, IsCourseOf, StepFindsRoom, found_by};
@@ -27,7 +27,7 @@ impl Course {
     // The step of the next command, after the changes so far.
     fn step(&self, core: &mut Core, command: &Command) -> Result<ReadyStep, Refusal>
         requires may { may_be_grouped command.now ≡ true }
-        ensures reply { (plain result ≢ Err told.Memory) → plain result ≡ step_by
+        ensures reply { (plain result ≢ Err refusals.Memory) → plain result ≡ step_by
             (moved_by core.old.tickets (switches (found_by core.old.durable self.now.next).voided))
             (found_by core.old.durable self.now.next).durable command.now }
         ensures made { IsMadeFrom (found_by core.old.durable self.now.next) result }
@@ -137,7 +137,7 @@ pub(crate) fn all_stored(replies: &mut [Reply])
     ensures { replies.new ≡ map as_stored replies.old }
 {
     for reply in replies.iter_mut() {
-        let told = mem::replace(reply, Reply::Refused(Refusal::Memory));
-        *reply = stored(told);
+        let reported = mem::replace(reply, Reply::Refused(Refusal::Memory));
+        *reply = stored(reported);
     }
 }

@@ -1,29 +1,77 @@
 //! What a save of changes needs in memory, and where the changes go afterwards.
-ghost use Rattle.std.specs.Prelude.{◌≡◌, ◌+◌, ◌<◌, ◌≤◌, ◌++◌, IfOk, OnOk, length, map, vec_len, vec_capacity, if◌then◌else◌};
+ghost use Rattle.std.specs.Prelude.{◌≡◌, ◌+◌, ◌<◌, ◌≤◌, ◌∷◌, ◌++◌, [], IfOk, List, OnOk, length, map, vec_len, vec_capacity, if◌then◌else◌};
 ghost use Rattle.std.specs.Arc.{arc_value};
+ghost use Rattle.pf_core.specs.Durable.Changes.{PlainChange};
 
 use crate::showing::shared;
 use pf_core::{Change, Durable, Next};
 use pf_view::past::{Naming, Tip};
 use std::alloc::{AllocError, Global};
+use std::slice::from_ref;
 use std::sync::Arc;
 
-/// A change that can have several owners. `AllocError`: out of memory.
-pub(crate) fn share(alloc: Global, change: Change) -> Result<Arc<Change>, AllocError>
-    ensures { IfOk result (λ c. arc_value c ≡ change) }
-{
-    Ok(Arc::new(alloc, change)?)
+/// Changes that are kept as one group: one, for which no list is made, or several.
+pub(crate) trait ChangeGroup: Drop {
+    /// The same changes, each of which can have several owners.
+    type Shared: Drop;
+
+    ghost items: { Self → List PlainChange };
+
+    ghost shared_items: { Self.Shared → List PlainChange };
+
+    fn changes(&self) -> &[Change]
+        ensures { result.now ≡ items self.now };
+
+    /// `AllocError`: out of memory.
+    fn share(self, alloc: Global) -> Result<Self::Shared, AllocError>
+        ensures { IfOk result (λ given. shared_items given ≡ items self) };
+
+    fn shared(given: &Self::Shared) -> &[Arc<Change>]
+        ensures { map arc_value result.now ≡ shared_items given.now };
 }
 
-/// Changes that can have several owners. `AllocError`: out of memory.
-pub(crate) fn share_all(alloc: Global, changes: Vec<Change>) -> Result<Vec<Arc<Change>>, AllocError>
-    ensures { IfOk result (λ v. map arc_value v.items ≡ changes.items) }
-{
-    let mut all = Vec::with_capacity(alloc, changes.len())?;
-    for change in changes {
-        all.push(share(alloc, change)?)?;
+impl ChangeGroup for Change {
+    type Shared = Arc<Change>;
+
+    ghost items = { λ change. change ∷ [] };
+
+    ghost shared_items = { λ given. arc_value given ∷ [] };
+
+    fn changes(&self) -> &[Change] {
+        from_ref(self)
     }
-    Ok(all)
+
+    fn share(self, alloc: Global) -> Result<Arc<Change>, AllocError> {
+        Ok(Arc::new(alloc, self)?)
+    }
+
+    fn shared(given: &Arc<Change>) -> &[Arc<Change>] {
+        from_ref(given)
+    }
+}
+
+impl ChangeGroup for Vec<Change> {
+    type Shared = Vec<Arc<Change>>;
+
+    ghost items = { λ changes. changes.items };
+
+    ghost shared_items = { λ given. map arc_value given.items };
+
+    fn changes(&self) -> &[Change] {
+        self.as_slice()
+    }
+
+    fn share(self, alloc: Global) -> Result<Vec<Arc<Change>>, AllocError> {
+        let mut given = Vec::with_capacity(alloc, self.len())?;
+        for change in self {
+            given.push(Arc::new(alloc, change)?)?;
+        }
+        Ok(given)
+    }
+
+    fn shared(given: &Vec<Arc<Change>>) -> &[Arc<Change>] {
+        given.as_slice()
+    }
 }
 
 /// Changes for the log and for the history, and what all of them leave.
@@ -36,7 +84,7 @@ pub(crate) struct Copies {
 
 /// Shares changes, which leave `next`, and makes room for them in the log and for their number among the groups' sizes. After `AllocError`
 /// the log and the sizes are as before.
-pub(crate) fn prepare(
+pub(crate) fn share_and_reserve(
     alloc: Global,
     log: &mut Vec<Arc<Change>>,
     sizes: &mut Vec<usize>,

@@ -1,8 +1,8 @@
 //! A Book that threads share.
-ghost use Rattle.std.specs.{Option.option_copied, Prelude.{◌≡◌, ℕ, IfSome, List, None, Option, nat_lt}};
+ghost use Rattle.std.specs.{Option.option_copied, Prelude.{◌≡◌, ℕ, IfSome, List, None, Option}};
 ghost use Rattle.pf_disk.specs.Disk.{IsImage};
-ghost use Rattle.pf_core.specs.{Calls.call, WorldBooks.{IsAt, Leads}, Worlds.{CurrentOpening, idle, calling, upshot}};
-ghost use Rattle.pf_book.specs.{Anchors.{SaysAnchors, listed_in}, Books.{HoldsLeft, IsLeft, IsOpenable, StaysUnlessKept, UsesDevice, is_fault_reply, world_book}, Groups.{IsAnsweredAsAlone, IsGroupAnswered, IsGroupAsAlone, IsGroupOf, told}, Receipts.{IsReached, IsAnswered, TakesUp, PlainReceipt}, Statuses.SaysStatus, Together.IsAnsweredTogether};
+ghost use Rattle.pf_core.specs.{WorldBooks.IsAt, Worlds.{CurrentOpening, idle}};
+ghost use Rattle.pf_book.specs.{Anchors.{SaysAnchors, listed_in}, Books.{HoldsLeft, IsOpenable, world_book}, Groups.{IsAnsweredAsAlone, IsGroupAnswered, IsGroupAsAlone, IsGroupOf, result_list}, Receipts.{IsCall, IsReached, IsAnswered, TakesUp, PlainReceipt}, Statuses.SaysStatus, Together.IsAnsweredTogether};
 
 mod together;
 
@@ -41,10 +41,7 @@ impl<D: Disk + Drop, J: Chapter, S: Publisher<J> + Drop> Locked<D, J, S> {
     // One call. At each moment of it an image of the device holds what some crash within it leaves of the opening.
     fn run(&mut self, command: &Command, last: Option<&Receipt<J>>) -> (Reply, Receipt<J>)
         ensures answered { IsAnswered J.base J.setting command.now result.0 result.1 (option_copied last.entry) }
-        ensures leads { (h : CurrentOpening) → IsAt h (world_book self.old) → Leads h (world_book self.new) (call command.now result.0)
-            (upshot self.new.shown (nat_lt (D.fault_count self.old.disk) (D.fault_count self.new.disk))) }
-        ensures device { UsesDevice D.Disk (is_fault_reply result.0) self.old self.new (IsLeft (world_book self.old) (calling command.now)) }
-        ensures stays { StaysUnlessKept result.0 self.old self.new }
+        ensures call { IsCall D.Disk self.old self.new command.now result.0 result.1.change }
     {
         let answer = self.book.answer(command, last);
         self.book.between_calls();
@@ -57,8 +54,8 @@ impl<D: Disk + Drop, J: Chapter, S: Publisher<J> + Drop> Locked<D, J, S> {
         commands: &[Command],
         last: Option<&Receipt<J>>,
     ) -> Result<Vec<(Reply, Receipt<J>)>, Refusal>
-        ensures answered { IsGroupAnswered J.base J.setting commands.now (told result) (option_copied last.entry) }
-        ensures group { IsGroupOf D.Disk self.old self.new commands.now (told result) }
+        ensures answered { IsGroupAnswered J.base J.setting commands.now (result_list result) (option_copied last.entry) }
+        ensures group { IsGroupOf D.Disk self.old self.new commands.now (result_list result) }
     {
         let answers = self.book.answer_all(commands, last);
         self.book.between_calls();
@@ -72,8 +69,8 @@ impl<D: Disk + Drop, J: Chapter, S: Publisher<J> + Drop> Locked<D, J, S> {
         commands: &[Command],
     ) -> Option<Result<Vec<(Reply, Receipt<J>)>, Refusal>>
         ensures answered { IfSome result (λ r. (last : Option PlainReceipt) → TakesUp last (world_book self.old)
-            → IsAnsweredAsAlone J.base J.setting commands.now (told r) last) }
-        ensures group { IfSome result (λ r. IsGroupAsAlone D.Disk self.old self.new commands.now (told r)) }
+            → IsAnsweredAsAlone J.base J.setting commands.now (result_list r) last) }
+        ensures group { IfSome result (λ r. IsGroupAsAlone D.Disk self.old self.new commands.now (result_list r)) }
         ensures none { (result ≡ None) → self.new ≡ self.old }
     {
         let Some(answers) = self.book.answer_as_alone(commands) else {
@@ -89,7 +86,7 @@ impl<D: Disk + Drop, J: Chapter, S: Publisher<J> + Drop> Locked<D, J, S> {
         commands: &[Command],
         last: Option<&Receipt<J>>,
     ) -> Option<Result<Vec<(Reply, Receipt<J>)>, Refusal>>
-        ensures { IfSome result (λ r. IsAnsweredAsAlone J.base J.setting commands.now (told r) (option_copied last.entry)) }
+        ensures { IfSome result (λ r. IsAnsweredAsAlone J.base J.setting commands.now (result_list r) (option_copied last.entry)) }
     {
         self.book.look_at(last);
         self.group_as_alone(commands)
@@ -192,7 +189,7 @@ impl<D: Disk + Drop, J: Chapter + Numbering, S: Publisher<J> + Drop> Shared<D, J
         commands: &[Command],
         last: Option<&Receipt<J>>,
     ) -> Result<Vec<(Reply, Receipt<J>)>, Refusal>
-        ensures { IsGroupAnswered J.base J.setting commands.now (told result) (option_copied last.entry) }
+        ensures { IsGroupAnswered J.base J.setting commands.now (result_list result) (option_copied last.entry) }
     {
         let turn = self.queue.come(rt);
         let answers = self.queue.value(rt).group(commands, last);
@@ -209,7 +206,7 @@ impl<D: Disk + Drop, J: Chapter + Numbering, S: Publisher<J> + Drop> Shared<D, J
         commands: &[Command],
         last: Option<&Receipt<J>>,
     ) -> Option<Result<Vec<(Reply, Receipt<J>)>, Refusal>>
-        ensures { IfSome result (λ r. IsAnsweredAsAlone J.base J.setting commands.now (told r) (option_copied last.entry)) }
+        ensures { IfSome result (λ r. IsAnsweredAsAlone J.base J.setting commands.now (result_list r) (option_copied last.entry)) }
     {
         let turn = self.queue.come(rt);
         let answers = self.queue.value(rt).group_as_alone_after(commands, last);

@@ -13,7 +13,7 @@ use pf_view::{Gone, Seer};
 /// Learns what a receipt says: if it is of an `Applied`, each later verdict is by a front that begins with the receipt's.
 pub fn learn_from<J: Chapter>(seer: &mut Seer<J>, receipt: &Receipt<J>)
     ensures learnt { seer.new ≡ learns_from receipt.now.token seer.old }
-    ensures told { ForSome receipt.now.token (λ t. IsPrefix t seer.new.learnt) }
+    ensures reported { ForSome receipt.now.token (λ t. IsPrefix t seer.new.learnt) }
     ensures kept { IsPrefix seer.old.learnt seer.new.learnt }
 {
     if let Some(token) = receipt.token() {
@@ -33,7 +33,7 @@ pub fn judge_after<J: Chapter>(
     packet: &Packet,
 ) -> Result<Verdict, Gone>
     ensures verdict { IfOk result (λ v. v ≡ verdict (after J.base seer.new.seen) packet.now) }
-    ensures told { IfOk result (λ _. ForSome receipt.now.token (λ t. IsPrefix t seer.new.seen)) }
+    ensures reported { IfOk result (λ _. ForSome receipt.now.token (λ t. IsPrefix t seer.new.seen)) }
     ensures learnt { IfOk result (λ _. IsPrefix seer.old.learnt seer.new.seen) }
     ensures seen { IsPrefix seer.old.seen seer.new.seen }
     ensures knows { seer.new.learnt ≡ (learns_from receipt.now.token seer.old).learnt }

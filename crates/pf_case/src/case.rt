@@ -2,11 +2,11 @@
 ghost use Rattle.std.specs.Prelude.{◌≡◌, ◌-◌, List, Result};
 ghost use Rattle.pf_form.specs.{Form.Forms.Reader, Form.Readers.{Moves, MovesBy}, Form.Words.{Word, texts}};
 ghost use denote.Ref.{Bor};
-ghost use Rattle.pf_rule.specs.{PacketGrammar.packet, Refusals.{reading, fault_at, fault_for, told_by}};
+ghost use Rattle.pf_rule.specs.{PacketGrammar.packet, Refusals.{reading, fault_at, fault_for, text_result_by}};
 ghost use Rattle.pf_case.specs.Cases.{case, cased};
 
 use crate::wanted::{Wanted, read_wanted};
-use pf_form::form::{Kind, Stop, Words, end, expect};
+use pf_form::form::{Kind, WordFault, Words, end, expect};
 use pf_rule::{Mistake, Packet, TextFault};
 
 /// A packet, and what is wanted of its verdict.
@@ -23,7 +23,7 @@ pub fn read_packet<'a>(words: Words<'a>) -> Result<Packet, TextFault>
 {
     let mut rest = words;
     let read = Packet::read(&mut rest);
-    told(read, rest, words.len())
+    text_result(read, rest, words.len())
 }
 
 /// Reads a case from its words: a packet's ([`read_packet`]), `->`, and what is wanted ([`read_wanted`]). A refusal says at which word, from
@@ -33,11 +33,11 @@ pub fn read_case<'a>(words: Words<'a>) -> Result<Case, TextFault>
 {
     let mut rest = words;
     let read = case_words(&mut rest);
-    told(read, rest, words.len())
+    text_result(read, rest, words.len())
 }
 
 #[tactic(auto, unfolding(crate::specs::Cases::case))]
-fn case_words<'a>(words: &mut Words<'a>) -> Result<Result<Case, Mistake>, Stop>
+fn case_words<'a>(words: &mut Words<'a>) -> Result<Result<Case, Mistake>, WordFault>
     ensures { Moves case result words.old.now words.new.now }
 {
     let packet = Packet::read(words)?;
@@ -56,7 +56,7 @@ fn cased(packet: Result<Packet, Mistake>, wanted: Wanted) -> Result<Case, Mistak
 }
 
 // The fault of a text of so many words whose reading stopped there.
-fn fault_of(stop: Stop, count: usize) -> TextFault
+fn fault_of(stop: WordFault, count: usize) -> TextFault
     ensures { result ≡ fault_at stop.kind (count - stop.left) }
 {
     let at = count.saturating_sub(stop.left);
@@ -77,12 +77,12 @@ fn fault_for(mistake: Mistake) -> TextFault
 }
 
 // What a text of so many words gives, from what was read of it and the words that are left.
-fn told<T: Drop>(
-    read: Result<Result<T, Mistake>, Stop>,
+fn text_result<T: Drop>(
+    read: Result<Result<T, Mistake>, WordFault>,
     rest: Words<'_>,
     count: usize,
 ) -> Result<T, TextFault>
-    ensures { (at : Reader (Result T Mistake)) (ws : List (Bor Word)) → MovesBy at read ws rest.now → result ≡ told_by count at (texts ws) }
+    ensures { (at : Reader (Result T Mistake)) (ws : List (Bor Word)) → MovesBy at read ws rest.now → result ≡ text_result_by count at (texts ws) }
 {
     match (read, end(rest)) {
         (Err(stop), _) | (Ok(_), Err(stop)) => Err(fault_of(stop, count)),

@@ -6,7 +6,7 @@ ghost use Rattle.pf_case.specs.Cases.{a_number, number_of_rule, a_path, place, b
 use crate::verdict::passes;
 use pf_addr::path::Path;
 use pf_anchor::RuleVerdict;
-use pf_form::form::{Kind, Stop, Words, expect, read_number, takes};
+use pf_form::form::{Kind, WordFault, Words, expect, read_number, takes};
 use pf_rule::take_word;
 
 /// Which rule is wanted to decide.
@@ -40,20 +40,20 @@ fn number_of(word: &[u8]) -> Result<u32, Kind>
     }
 }
 
-fn number_word<'a>(words: &mut Words<'a>) -> Result<u32, Stop>
+fn number_word<'a>(words: &mut Words<'a>) -> Result<u32, WordFault>
     ensures { Moves a_number result words.old.now words.new.now }
 {
     take_word!(words, word => number_of(word))
 }
 
-fn path_word<'a>(words: &mut Words<'a>) -> Result<Path, Stop>
+fn path_word<'a>(words: &mut Words<'a>) -> Result<Path, WordFault>
     ensures { Moves a_path result words.old.now words.new.now }
 {
     take_word!(words, word => Path::from_ascii(word))
 }
 
 /// Where a rule is: in the main ruleset unless a path is named.
-fn read_place<'a>(words: &mut Words<'a>) -> Result<Path, Stop>
+fn read_place<'a>(words: &mut Words<'a>) -> Result<Path, WordFault>
     ensures { Moves place result words.old.now words.new.now }
 {
     if takes(words, b"at") {
@@ -63,7 +63,7 @@ fn read_place<'a>(words: &mut Words<'a>) -> Result<Path, Stop>
 }
 
 #[tactic(auto, unfolding(crate::specs::Cases::by_rule))]
-fn read_rule<'a>(words: &mut Words<'a>) -> Result<Decider, Stop>
+fn read_rule<'a>(words: &mut Words<'a>) -> Result<Decider, WordFault>
     ensures { Moves by_rule result words.old.now words.new.now }
 {
     if !takes(words, b"rule") {
@@ -75,7 +75,7 @@ fn read_rule<'a>(words: &mut Words<'a>) -> Result<Decider, Stop>
 }
 
 #[tactic(auto, unfolding(crate::specs::Cases::by_any))]
-fn read_passing<'a>(words: &mut Words<'a>) -> Result<Decider, Stop>
+fn read_passing<'a>(words: &mut Words<'a>) -> Result<Decider, WordFault>
     ensures { Moves by_any result words.old.now words.new.now }
 {
     if takes(words, b"default") {
@@ -87,7 +87,7 @@ fn read_passing<'a>(words: &mut Words<'a>) -> Result<Decider, Stop>
 /// Reads what is wanted from the front of the remaining words: `pass` or `block`, which may be followed by `rule N` or `rule N at PATH`;
 /// or `pass default`. A refusal is at the first word at which no such text can continue.
 #[tactic(auto, unfolding(crate::specs::Cases::wanted))]
-pub fn read_wanted<'a>(words: &mut Words<'a>) -> Result<Wanted, Stop>
+pub fn read_wanted<'a>(words: &mut Words<'a>) -> Result<Wanted, WordFault>
     ensures { Moves wanted result words.old.now words.new.now }
 {
     if takes(words, b"pass") {

@@ -38,10 +38,10 @@ went_through (Ok u) c names begun old mid new are named good begin rest =
 went_through (Err f) c names begun old mid new are named good begin rest = absurd (cc (good))
 
 -- it stopped, and what was begun was dropped
-pub stopped_behind_begin : {A : Type 0} (r : Result A Fault) (c : Conf) (names : List RulesetName) (begun : List Begun) (old mid last new : Option (List ℕ)) → names ≡ ruleset_names c → map name_of begun ≡ names → is_err r ≡ true
+pub stopped_after_begin : {A : Type 0} (r : Result A Fault) (c : Conf) (names : List RulesetName) (begun : List Begun) (old mid last new : Option (List ℕ)) → names ≡ ruleset_names c → map name_of begun ≡ names → is_err r ≡ true
     → Appends old mid (begin_line names) → Writes r mid last (load_lines begun c ++ commit_line begun) → WritesFront last new (rollback_line begun) → Attempts c r old new
-stopped_behind_begin (Ok u) c names begun old mid last new are named failed begin rest dropped = absurd (cc (failed))
-stopped_behind_begin (Err f) c names begun old mid last new are named failed begin rest dropped =
+stopped_after_begin (Ok u) c names begun old mid last new are named failed begin rest dropped = absurd (cc (failed))
+stopped_after_begin (Err f) c names begun old mid last new are named failed begin rest dropped =
     let begin_too : Appends old mid (begin_line (ruleset_names c)) = subst (λ (ns : List RulesetName). Appends old mid (begin_line ns)) are begin in
     let part : WritesFront old last (whole_load begun c) =
     subst (WritesFront old last) (in_order begun c) (WritesFront-then old mid last (begin_line (ruleset_names c)) (load_lines begun c ++ commit_line begun) begin_too rest) in (

@@ -2,7 +2,7 @@
 use Rattle.std.proofs.Common.{◌≡◌, ℕ, zero, suc, ◌+◌, ◌-◌, ◌<◌, ◌≤◌, List, [], ◌∷◌, ◌++◌, length, take, drop, get_or, Option, Some, Result, Ok, Err, refl, sym, ap, ◌∙◌, subst, arith, append_assoc, append-nil, length-drop, take-append-drop}
 use Rattle.std.proofs.{lemmas.List.take_all, lemmas.Grind.flat_map-append}
 use Rattle.std.specs.{List.flat_map, Io.KnownBytes.{Appends, Consumes}, Option.option_to_list, Result.IsErrAnd, declared.io.Error.Error}
-use Rattle.pf_addr.specs.Writing.{Wrote, Writes, WritesFront, WritesFront-longer, WritesFront-then, Continues, Continues-then, behind_nothing, Appends-none, Appends-then}
+use Rattle.pf_addr.specs.Writing.{Wrote, Writes, WritesFront, WritesFront-longer, WritesFront-then, Continues, Continues-then, after_nothing, Appends-none, Appends-then}
 use Rattle.pf_form.specs.Form.Words.{Word}
 use Rattle.pf_table.specs.Entries.{PlainEntry}
 use Rattle.pf_commit.specs.declared.lines.TheConstants.{PART}
@@ -11,7 +11,7 @@ use Rattle.pf_commit.specs.Lines.{parts_within, parts, extend_line, extend_lines
 
 -- with nothing to write, what was written stays
 pub still : (q : Result (Unit {0}) Error) (old : Option (List ℕ)) → Continues {B = Unit {0}} q old q old []
-still q old = record { behind = λ at front w. subst (λ (t : List ℕ). Wrote q at old t) (sym (append-nil front)) w }
+still q old = record { following = λ at front w. subst (λ (t : List ℕ). Wrote q at old t) (sym (append-nil front)) w }
 
 -- a text for each of those before this one
 abbrev pub Before : {X : Type 0} → (X → List ℕ) → Result (Unit {0}) Error → Option (List ℕ) → Result (Unit {0}) Error → Option (List ℕ) → List X → ℕ → Type 0
@@ -26,12 +26,19 @@ one_more {X} text p q r old mid new xs i x within here so_far next =
 -- what is written to memory is there behind what was there
 pub grown : (r : Result (Unit {0}) Error) (done : Unit {0}) (old new text : List ℕ) → Continues {A = Unit {0}} (Ok tt) (Some old) r (Some new) text → r ≡ Ok done → new ≡ old ++ text
 grown r done old new text written is =
-    let w : Wrote r (Some old) (Some new) text = behind_nothing tt written in
+    let w : Wrote r (Some old) (Some new) text = after_nothing tt written in
     let all : Wrote {A = Unit {0}} (Ok done) (Some old) (Some new) text = subst (λ (q : Result (Unit {0}) Error). Wrote q (Some old) (Some new) text) is w in
     all.0
 
 pub made : (r : Result (Unit {0}) Error) (done : Unit {0}) (old new text : List ℕ) → old ≡ [] → Continues {A = Unit {0}} (Ok tt) (Some old) r (Some new) text → r ≡ Ok done → new ≡ text
 made r done old new text none written is = grown r done old new text written is ∙ ap (λ (l : List ℕ). l ++ text) none
+
+-- one more text, behind what was there
+pub one_more_after : {X : Type 0} (text : X → List ℕ) (before old new : List ℕ) (xs : List X) (i : ℕ) (x : X) → i < length xs → x ≡ get_or xs i x → old ≡ before ++ flat_map text (take i xs) → new ≡ old ++ text x → new ≡ before ++ flat_map text (take (i + 1) xs)
+one_more_after {X} text before old new xs i x within here so_far next =
+    let more : flat_map text (take (i + 1) xs) ≡ flat_map text (take i xs) ++ text x =
+    ap (flat_map text) (take_item xs i x within here) ∙ flat_map-append text (take i xs) (x ∷ []) ∙ ap (λ (l : List ℕ). flat_map text (take i xs) ++ l) (append-nil (text x)) in
+    next ∙ ap (λ (l : List ℕ). l ++ text x) so_far ∙ append_assoc before (flat_map text (take i xs)) (text x) ∙ ap (λ (l : List ℕ). before ++ l) (sym more)
 
 -- ---- parts
 
@@ -172,6 +179,6 @@ stopped_at_text {X} text old mid new xs i x within here so_far front =
 -- a line that was read into nothing, and its newline
 pub a_line_read : (old new : Option (List ℕ)) (before all line : List ℕ) (last : Option ℕ) → before ≡ [] → all ≡ line ++ option_to_list last → last ≡ Some 10 → Consumes old new (drop (length before) all) → Consumes old new (line ++ 10 ∷ [])
 a_line_read old new before all line last none parts is read =
-    let behind : drop (length before) all ≡ line ++ 10 ∷ [] =
+    let following : drop (length before) all ≡ line ++ 10 ∷ [] =
     ap (λ (l : List ℕ). drop (length l) all) none ∙ parts ∙ ap (λ (o : Option ℕ). line ++ option_to_list o) is in
-    subst (Consumes old new) behind read
+    subst (Consumes old new) following read

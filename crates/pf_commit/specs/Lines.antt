@@ -79,11 +79,15 @@ table_text t = place_text t.path.now t.ticket.now ++ t.name.now
 abbrev pub table_place : List Begun → FilledTable → Word
 table_place begun t = place_text t.path (ticket_of begun (table_ruleset_at t.path)) ++ t.name
 
+-- COMMAND PATH T NAME ENTRY ..
+abbrev pub line_of_table : Word → Word → List PlainEntry → Word
+line_of_table command table es = command ++ table ++ entries_text es ++ newline
+
 abbrev pub define_line : Word → List PlainEntry → Word
-define_line table es = codes "define " ++ table ++ entries_text es ++ newline
+define_line table es = line_of_table (codes "define ") table es
 
 abbrev pub extend_line : Word → List PlainEntry → Word
-extend_line table es = codes "extend " ++ table ++ entries_text es ++ newline
+extend_line table es = line_of_table (codes "extend ") table es
 
 abbrev pub extend_lines : Word → List PlainEntry → Word
 extend_lines table es = flat_map (extend_line table) (parts es)

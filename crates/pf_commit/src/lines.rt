@@ -4,7 +4,7 @@ ghost use Rattle.pf_addr.specs.Writing.{Continues};
 ghost use Rattle.pf_addr.specs.Path.Paths.{path_text};
 ghost use Rattle.pf_rule.specs.RuleText.{rule_text};
 ghost use Rattle.pf_conf.specs.Tables.{entry_text, entries_text};
-ghost use Rattle.pf_commit.specs.Lines.{kind_text, name_text, names_text, begun_text, all_begun_text, begin_line, commit_line, rollback_line, place_text, add_line, added_lines, add_lines, rules_lines, table_text, define_line, extend_line, extend_lines, lines_of_table, table_lines, tables_lines, load_lines};
+ghost use Rattle.pf_commit.specs.Lines.{kind_text, name_text, names_text, begun_text, all_begun_text, begin_line, commit_line, rollback_line, place_text, add_line, added_lines, add_lines, rules_lines, table_text, line_of_table, define_line, extend_line, extend_lines, lines_of_table, table_lines, tables_lines, load_lines};
 
 use crate::naming::{Begun, ticket_of};
 use pf_addr::path::Path;
@@ -250,6 +250,22 @@ fn write_table_name<W: Write>(
     write_more(out, so_far, table.name)
 }
 
+/// Writes a line that begins with this command.
+fn write_line_of_table<W: Write>(
+    out: &mut W,
+    so_far: io::Result<()>,
+    command: &[u8],
+    table: &OfferedTable<'_>,
+    entries: &[Entry],
+) -> io::Result<()>
+    ensures { Continues so_far (W.contents out.old) result (W.contents out.new) (line_of_table command.now (table_text table.now) entries.now) }
+{
+    let so_far = write_more(out, so_far, command);
+    let so_far = write_table_name(out, so_far, table);
+    let so_far = write_entries(out, so_far, entries);
+    write_more(out, so_far, b"\n")
+}
+
 fn write_define<W: Write>(
     out: &mut W,
     so_far: io::Result<()>,
@@ -258,10 +274,7 @@ fn write_define<W: Write>(
 ) -> io::Result<()>
     ensures { Continues so_far (W.contents out.old) result (W.contents out.new) (define_line (table_text table.now) entries.now) }
 {
-    let so_far = write_more(out, so_far, b"define ");
-    let so_far = write_table_name(out, so_far, table);
-    let so_far = write_entries(out, so_far, entries);
-    write_more(out, so_far, b"\n")
+    write_line_of_table(out, so_far, b"define ", table, entries)
 }
 
 fn write_extend<W: Write>(
@@ -272,10 +285,7 @@ fn write_extend<W: Write>(
 ) -> io::Result<()>
     ensures { Continues so_far (W.contents out.old) result (W.contents out.new) (extend_line (table_text table.now) entries.now) }
 {
-    let so_far = write_more(out, so_far, b"extend ");
-    let so_far = write_table_name(out, so_far, table);
-    let so_far = write_entries(out, so_far, entries);
-    write_more(out, so_far, b"\n")
+    write_line_of_table(out, so_far, b"extend ", table, entries)
 }
 
 /// The first entries, as many as a line takes, and the others.

@@ -10,7 +10,7 @@ use Rattle.pf_parse.specs.declared.fault.Mistake.TheVariants as mistakes
 use Rattle.pf_parse.specs.{Stops.fault_at, Reading.Word}
 use Rattle.pf_conf.specs.declared.found.Found.{Found}
 use Rattle.pf_sources.specs.Steps.{each, Leaves}
-use Rattle.pf_conf.specs.Filling.{with_sources, is_defined, with_definition, once_behind, with_tables}
+use Rattle.pf_conf.specs.Filling.{with_sources, is_defined, with_definition, once_after, with_tables}
 use Rattle.pf_conf.proofs.Steps.{drop_item, take_item}
 
 -- ---- how many come before that
@@ -49,29 +49,29 @@ was_new false added is new = refl
 
 -- the tables from this one on, given those before it
 abbrev pub From : List Table → ℕ → Type 0
-From ts i = once_behind [] ts ≡ i + once_behind (take i ts) (drop i ts)
+From ts i = once_after [] ts ≡ i + once_after (take i ts) (drop i ts)
 
-here_first : (ts : List Table) (i : ℕ) (t : Table) (b : Bool) → i < length ts → t ≡ get_or ts i t → is_defined t.name (take i ts) ≡ b → From ts i → once_behind [] ts ≡ i + (if b then 0 else suc (once_behind (take i ts ++ t ∷ []) (drop (i + 1) ts)))
-unfolding once_behind
+here_first : (ts : List Table) (i : ℕ) (t : Table) (b : Bool) → i < length ts → t ≡ get_or ts i t → is_defined t.name (take i ts) ≡ b → From ts i → once_after [] ts ≡ i + (if b then 0 else suc (once_after (take i ts ++ t ∷ []) (drop (i + 1) ts)))
+unfolding once_after
 here_first ts i t b within item is known =
-    known ∙ ap (λ (us : List Table). i + once_behind (take i ts) us) (drop_item ts i t within item)
-    ∙ ap (λ (c : Bool). i + (if c then 0 else suc (once_behind (take i ts ++ t ∷ []) (drop (i + 1) ts)))) is
+    known ∙ ap (λ (us : List Table). i + once_after (take i ts) us) (drop_item ts i t within item)
+    ∙ ap (λ (c : Bool). i + (if c then 0 else suc (once_after (take i ts ++ t ∷ []) (drop (i + 1) ts)))) is
 
 pub from_next : (ts : List Table) (i : ℕ) (t : Table) → i < length ts → t ≡ get_or ts i t → is_defined t.name (take i ts) ≡ false → From ts i → From ts (i + 1)
 from_next ts i t within item is known =
-    let here : once_behind [] ts ≡ i + suc (once_behind (take i ts ++ t ∷ []) (drop (i + 1) ts)) = here_first ts i t false within item is known in
-    let more : once_behind (take i ts ++ t ∷ []) (drop (i + 1) ts) ≡ once_behind (take (i + 1) ts) (drop (i + 1) ts) = ap (λ (us : List Table). once_behind us (drop (i + 1) ts)) (sym (take_item ts i t within item)) in
+    let here : once_after [] ts ≡ i + suc (once_after (take i ts ++ t ∷ []) (drop (i + 1) ts)) = here_first ts i t false within item is known in
+    let more : once_after (take i ts ++ t ∷ []) (drop (i + 1) ts) ≡ once_after (take (i + 1) ts) (drop (i + 1) ts) = ap (λ (us : List Table). once_after us (drop (i + 1) ts)) (sym (take_item ts i t within item)) in
     omega (arith, here, more)
 
-pub from_here : (ts : List Table) (i : ℕ) (t : Table) → i < length ts → t ≡ get_or ts i t → is_defined t.name (take i ts) ≡ true → From ts i → i ≡ once_behind [] ts
+pub from_here : (ts : List Table) (i : ℕ) (t : Table) → i < length ts → t ≡ get_or ts i t → is_defined t.name (take i ts) ≡ true → From ts i → i ≡ once_after [] ts
 from_here ts i t within item is known =
-    let here : once_behind [] ts ≡ i + 0 = here_first ts i t true within item is known in
+    let here : once_after [] ts ≡ i + 0 = here_first ts i t true within item is known in
     omega (arith, here)
 
-pub from_end : (ts : List Table) (i : ℕ) → length ts ≤ i → From ts i → i ≡ once_behind [] ts
-unfolding once_behind
+pub from_end : (ts : List Table) (i : ℕ) → length ts ≤ i → From ts i → i ≡ once_after [] ts
+unfolding once_after
 from_end ts i past known =
-    let none : once_behind [] ts ≡ i + 0 = known ∙ ap (λ (us : List Table). i + once_behind (take i ts) us) (drop_all i ts past) in
+    let none : once_after [] ts ≡ i + 0 = known ∙ ap (λ (us : List Table). i + once_after (take i ts) us) (drop_all i ts past) in
     omega (arith, none)
 
 -- ---- what they come to
@@ -89,35 +89,35 @@ abbrev in_turn : List File → Word → List Table → List Table → Found → 
 in_turn files path before ts s = each (with_definition files path) ts (before, s) >>= λ x. Ok x.1
 
 first_table : (files : List File) (path : Word) (before ts : List Table) (t : Table) (s : Found) (b : Bool) → is_defined t.name before ≡ b
-    → ((u : Found) → in_turn files path (before ++ t ∷ []) ts u ≡ up_to files path ts (once_behind (before ++ t ∷ []) ts) u)
-    → in_turn files path before (t ∷ ts) s ≡ up_to files path (t ∷ ts) (once_behind before (t ∷ ts)) s
-unfolding each with_definition once_behind
+    → ((u : Found) → in_turn files path (before ++ t ∷ []) ts u ≡ up_to files path ts (once_after (before ++ t ∷ []) ts) u)
+    → in_turn files path before (t ∷ ts) s ≡ up_to files path (t ∷ ts) (once_after before (t ∷ ts)) s
+unfolding each with_definition once_after
 first_table files path before ts t s true is more = rw is refl
 first_table files path before ts t s false is more =
-    let n : ℕ = once_behind (before ++ t ∷ []) ts in
+    let n : ℕ = once_after (before ++ t ∷ []) ts in
     rw is (elim (with_sources files path t s) as (λ r. (((r >>= λ u. Ok (before ++ t ∷ [], u)) >>= each (with_definition files path) ts) >>= λ x. Ok x.1) ≡ ((r >>= each (with_sources files path) (take n ts)) >>= again (slice_get ts n))) [
       | Ok u ↦ more u
       | Err e ↦ refl
     ])
 
-tables_in_turn : (files : List File) (path : Word) (before ts : List Table) (s : Found) → in_turn files path before ts s ≡ up_to files path ts (once_behind before ts) s
-unfolding each once_behind
+tables_in_turn : (files : List File) (path : Word) (before ts : List Table) (s : Found) → in_turn files path before ts s ≡ up_to files path ts (once_after before ts) s
+unfolding each once_after
 tables_in_turn files path before [] s = refl
 tables_in_turn files path before (t ∷ ts) s =
     first_table files path before ts t s (is_defined t.name before) refl (λ u. tables_in_turn files path (before ++ t ∷ []) ts u)
 
-tables_are : (files : List File) (path : Word) (ts : List Table) (s : Found) (n : ℕ) → n ≡ once_behind [] ts → with_tables files path ts s ≡ up_to files path ts n s
+tables_are : (files : List File) (path : Word) (ts : List Table) (s : Found) (n : ℕ) → n ≡ once_after [] ts → with_tables files path ts s ≡ up_to files path ts n s
 unfolding with_tables
 tables_are files path ts s n is = tables_in_turn files path [] ts s ∙ ap (λ (m : ℕ). up_to files path ts m s) (sym is)
 
-one_fails : (files : List File) (path : Word) (ts : List Table) (s : Found) (n : ℕ) (e : Stop) → n ≡ once_behind [] ts → each (with_sources files path) (take n ts) s ≡ Err e → with_tables files path ts s ≡ Err e
+one_fails : (files : List File) (path : Word) (ts : List Table) (s : Found) (n : ℕ) (e : Stop) → n ≡ once_after [] ts → each (with_sources files path) (take n ts) s ≡ Err e → with_tables files path ts s ≡ Err e
 one_fails files path ts s n e is fails = tables_are files path ts s n is ∙ ap (λ (r : Result Found Stop). r >>= again (slice_get ts n)) fails
 
-pub one_stops : (files : List File) (path : Word) (ts : List Table) (s u v : Found) (n : ℕ) (e : Stop) → n ≡ once_behind [] ts → Leaves {A = Found} (Err e) u (each (with_sources files path) (take n ts) s) → Leaves {A = Found} (Err e) v (with_tables files path ts s)
+pub one_stops : (files : List File) (path : Word) (ts : List Table) (s u v : Found) (n : ℕ) (e : Stop) → n ≡ once_after [] ts → Leaves {A = Found} (Err e) u (each (with_sources files path) (take n ts) s) → Leaves {A = Found} (Err e) v (with_tables files path ts s)
 one_stops files path ts s u v n (Faulty f) is stops = one_fails files path ts s n (Faulty f) is stops
 one_stops files path ts s u v n (Needs name) is stops = one_fails files path ts s n (Needs name) is stops
 one_stops files path ts s u v n Memory is stops = tt
 
-pub then_again : (files : List File) (path : Word) (ts : List Table) (s u : Found) (n : ℕ) (t : Option Table) → n ≡ once_behind [] ts → each (with_sources files path) (take n ts) s ≡ Ok u → slice_get ts n ≡ t → with_tables files path ts s ≡ again t u
+pub then_again : (files : List File) (path : Word) (ts : List Table) (s u : Found) (n : ℕ) (t : Option Table) → n ≡ once_after [] ts → each (with_sources files path) (take n ts) s ≡ Ok u → slice_get ts n ≡ t → with_tables files path ts s ≡ again t u
 then_again files path ts s u n t is done there =
     tables_are files path ts s n is ∙ ap (λ (r : Result Found Stop). r >>= again (slice_get ts n)) done ∙ ap (λ (o : Option Table). again o u) there

@@ -22,7 +22,7 @@ use Rattle.pf_conf.specs.{Found.{nothing_found, is_full, has_rules, has_tables},
 use Rattle.pf_conf.specs.Rulesets.{PlacedRule, rule_at, rules_at, with_more, with_product, written_in, skips_in, rules_in, with_ruleset, with_rules, free_path, path_of_braces, Opened, with_braces, with_rulesets}
 use Rattle.pf_sources.specs.Sources.{gathered}
 use Rattle.pf_conf.specs.Filling.{Defined, with_filled, is_defined, with_table_path, with_table, with_sources, with_definition, with_tables}
-use Rattle.pf_conf.specs.Telling.{telling, told_at, first_spot}
+use Rattle.pf_conf.specs.Telling.{telling, unread_at, first_spot}
 use Rattle.pf_conf.specs.Resolving.{is_main, room_for, free_for, with_notes, with_loads, with_tree, flat_of, after_flat, main_file, commit_length, with_flat, with_file, with_load, with_waiting, load_numbered, loads_from, committed, resolved}
 use Rattle.pf_conf.proofs.Kept.{both, each_keeps, if_not, if_room, if_free, if_fits, telling_so}
 
@@ -216,7 +216,7 @@ flat_fits files interfaces mode path spot flat s t known free from =
     let noted : Found = with_notes files flat.macros p.notes s in
     let b = both (room_for spot noted) (λ (u : Found). telling files flat.macros (with_tree files flat.macros path p.tree u)) t a.2 in
     let same : noted ≡ b.0 = if_room spot noted b.0 (is_full noted) b.1 in
-    let room : is_full noted ≡ false = if_none noted b.0 (is_full noted) (told_at spot mistakes.ManyRulesets) b.1 in
+    let room : is_full noted ≡ false = if_none noted b.0 (is_full noted) (unread_at spot mistakes.ManyRulesets) b.1 in
     let here : Fits noted = record { paths = known.paths; rulesets = known.rulesets; rules = known.rules; tables = known.tables } in
     tree_fits files flat.macros path p.tree b.0 t (subst Fits same here) (subst (λ (u : Found). has_rules path u ≡ false) same free) (subst (λ (u : Found). is_full u ≡ false) same room)
     (telling_so files flat.macros (with_tree files flat.macros path p.tree b.0) t b.2)
@@ -230,8 +230,8 @@ file_fits files interfaces mode path m s t known from =
     let u : Found = a.0 in
     let b = both (flat_of files m u.files_read)
     (λ (flat : Flat). with_flat files interfaces mode path m.at flat (after_flat flat u)) t a.2 in
-    let same : s ≡ u = if_free s u (has_rules path s) (told_at m.at (mistakes.RulesTwice (path_text path))) a.1 in
-    let free : has_rules path s ≡ false = if_none s u (has_rules path s) (told_at m.at (mistakes.RulesTwice (path_text path))) a.1 in
+    let same : s ≡ u = if_free s u (has_rules path s) (unread_at m.at (mistakes.RulesTwice (path_text path))) a.1 in
+    let free : has_rules path s ≡ false = if_none s u (has_rules path s) (unread_at m.at (mistakes.RulesTwice (path_text path))) a.1 in
     let here : Fits u = subst Fits same known in
     flat_fits files interfaces mode path m.at b.0 (after_flat b.0 u) t
     (record { paths = here.paths; rulesets = here.rulesets; rules = here.rules; tables = here.tables })
@@ -270,6 +270,6 @@ fits_commit files interfaces mode base name c from =
     (loads_from files interfaces mode 0 READING_LIMIT) u a.1 in
     let all : Fits u = loads_fit files interfaces mode 0 READING_LIMIT b.0 u
     (file_fits files interfaces mode base (main_file name) nothing_found b.0 nothing_fits b.1) b.2 in
-    let same : record { rulesets = u.rulesets; tables = u.tables; notes = u.notes } ≡ c = if_fits u c (nat_le (commit_length u) LINE_LIMIT) (told_at (first_spot name) mistakes.LongCommit) a.2 in
+    let same : record { rulesets = u.rulesets; tables = u.tables; notes = u.notes } ≡ c = if_fits u c (nat_le (commit_length u) LINE_LIMIT) (unread_at (first_spot name) mistakes.LongCommit) a.2 in
     let few : length u.rulesets ≤ RULESET_LIMIT = omega (arith, all.rulesets) in
     subst FitsCommit same (record { paths = all.paths; rulesets = few; rules = all.rules; tables = all.tables })

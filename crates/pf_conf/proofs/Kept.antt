@@ -28,7 +28,7 @@ use Rattle.pf_sources.specs.Sources.{gathered}
 use Rattle.pf_conf.specs.Filling.{Defined, with_filled, is_defined, with_table_path, with_table, with_sources, with_definition, with_tables}
 use Rattle.pf_parse.specs.declared.fault.Mistake.TheVariants as mistakes
 use Rattle.pf_tokens.specs.declared.flat.Macro.{Macro}
-use Rattle.pf_conf.specs.Telling.{telling, told_at, first_spot}
+use Rattle.pf_conf.specs.Telling.{telling, unread_at, first_spot}
 use Rattle.pf_conf.specs.Resolving.{is_main, room_for, free_for, with_notes, with_loads, with_tree, flat_of, after_flat, main_file, commit_length, with_flat, with_file, with_load, with_waiting, load_numbered, loads_from, committed, resolved}
 
 -- ---- steps
@@ -202,7 +202,7 @@ tables_so P files path ts s t known from =
 
 -- ---- files
 
-pub if_room : (spot : Spot) (s t : Found) (full : Bool) → (if full then Err (told_at spot mistakes.ManyRulesets) else Ok s) ≡ Ok t → s ≡ t
+pub if_room : (spot : Spot) (s t : Found) (full : Bool) → (if full then Err (unread_at spot mistakes.ManyRulesets) else Ok s) ≡ Ok t → s ≡ t
 if_room spot s t true is = absurd (cc)
 if_room spot s t false is = cc
 
@@ -257,7 +257,7 @@ file_so P files interfaces so mode path m s t known from =
     let u : Found = a.0 in
     let b = both (flat_of files m u.files_read)
     (λ (flat : Flat). with_flat files interfaces mode path m.at flat (after_flat flat u)) t a.2 in
-    let same : s ≡ u = if_free s u (has_rules path s) (told_at m.at (mistakes.RulesTwice (path_text path))) a.1 in
+    let same : s ≡ u = if_free s u (has_rules path s) (unread_at m.at (mistakes.RulesTwice (path_text path))) a.1 in
     flat_so P files interfaces mode path m.at b.0 (λ p one. so m u.files_read b.0 mode (is_main path) p b.1 one) (after_flat b.0 u) t
     (subst (Ruled P) same known) b.2
 
@@ -294,7 +294,7 @@ rules_so P files interfaces so mode base name c from =
     (loads_from files interfaces mode 0 READING_LIMIT) u a.1 in
     let all = loads_so P files interfaces so mode 0 READING_LIMIT b.0 u
     (file_so P files interfaces so mode base (main_file name) nothing_found b.0 (All-nil (λ (q : Ruleset). All P q.rules)) b.1) b.2 in
-    let same : record { rulesets = u.rulesets; tables = u.tables; notes = u.notes } ≡ c = if_fits u c (nat_le (commit_length u) LINE_LIMIT) (told_at (first_spot name) mistakes.LongCommit) a.2 in
+    let same : record { rulesets = u.rulesets; tables = u.tables; notes = u.notes } ≡ c = if_fits u c (nat_le (commit_length u) LINE_LIMIT) (unread_at (first_spot name) mistakes.LongCommit) a.2 in
     subst (λ (d : Conf). All (λ (q : Ruleset). All P q.rules) d.rulesets) same all
 
 -- each is one that was read of words

@@ -29,9 +29,9 @@ lines_so so interfaces ts is_main p is =
     (λ _. parsed (with_addresses interfaces ts) Lenient is_main)
     p (λ u one. one) (λ u one. so (with_addresses interfaces ts) is_main p one) is
 
-told_so : (files : List File) (flat : Flat) (q r : Result Parsed Stop) → ((p : Parsed) → q ≡ Ok p → r ≡ Ok p) → (p : Parsed) → telling files flat.macros q ≡ Ok p → telling files flat.macros r ≡ Ok p
-told_so files flat (Ok a) r same p is = rw (same a refl) is
-told_so files flat (Err e) r same p is = absurd (cc)
+unread_so : (files : List File) (flat : Flat) (q r : Result Parsed Stop) → ((p : Parsed) → q ≡ Ok p → r ≡ Ok p) → (p : Parsed) → telling files flat.macros q ≡ Ok p → telling files flat.macros r ≡ Ok p
+unread_so files flat (Ok a) r same p is = rw (same a refl) is
+unread_so files flat (Err e) r same p is = absurd (cc)
 
 flat_so : LinesSo → (files : List File) (interfaces : List Interface) (path : Word) (spot : Spot) (flat : Flat) (s t : Found)
     → with_flat files interfaces Strict path spot flat s ≡ Ok t → with_flat files interfaces Lenient path spot flat s ≡ Ok t
@@ -42,7 +42,7 @@ flat_so so files interfaces path spot flat s t is =
     then_so (telling files flat.macros strictly) (telling files flat.macros leniently)
     (λ (p : Parsed). room_for spot (with_notes files flat.macros p.notes s) >>= λ u. telling files flat.macros (with_tree files flat.macros path p.tree u))
     (λ (p : Parsed). room_for spot (with_notes files flat.macros p.notes s) >>= λ u. telling files flat.macros (with_tree files flat.macros path p.tree u))
-    t (λ p one. told_so files flat strictly leniently (λ q lines. lines_so so interfaces flat.tokens (is_main path) q lines) p one)
+    t (λ p one. unread_so files flat strictly leniently (λ q lines. lines_so so interfaces flat.tokens (is_main path) q lines) p one)
     (λ p one. one) is
 
 file_so : LinesSo → (files : List File) (interfaces : List Interface) (path : Word) (m : Mention) (s t : Found)

@@ -4,7 +4,7 @@ use Rattle.pf_tokens.specs.declared.files.File.{File}
 use Rattle.pf_parse.specs.declared.parser.Mode.{Mode}
 use Rattle.pf_interfaces.specs.declared.interface.Interface.{Interface}
 use Rattle.pf_conf.specs.declared.{found.Found.Found, fault.Unread.Unread, fault.Unread.TheVariants.{Faulty, Needs, Memory}}
-use Rattle.pf_conf.specs.{Telling.LeavesTold, Resolving.{load_numbered, loads_from}}
+use Rattle.pf_conf.specs.{Telling.LeavesWanted, Resolving.{load_numbered, loads_from}}
 
 pub loads_on : (files : List File) (interfaces : List Interface) (mode : Mode) (all i : ℕ) (s t : Found) (whole : Result Found Unread)
     → whole ≡ loads_from files interfaces mode i (all - i) s → i < all → load_numbered files interfaces mode i s ≡ Ok t
@@ -24,7 +24,7 @@ load_fails files interfaces mode all i s e whole known within is =
 
 pub loads_stop : (files : List File) (interfaces : List Interface) (mode : Mode) (all i : ℕ) (s t u : Found) (e : Unread)
     (whole : Result Found Unread) → whole ≡ loads_from files interfaces mode i (all - i) s → i < all
-    → LeavesTold (Err e) t (load_numbered files interfaces mode i s) → LeavesTold (Err e) u whole
+    → LeavesWanted (Err e) t (load_numbered files interfaces mode i s) → LeavesWanted (Err e) u whole
 loads_stop files interfaces mode all i s t u (Faulty f) whole known within is = load_fails files interfaces mode all i s
     (Faulty f) whole known within is
 loads_stop files interfaces mode all i s t u (Needs n) whole known within is = load_fails files interfaces mode all i s

@@ -10,7 +10,7 @@ use Rattle.pf_conf.proofs.Steps.{take_item}
 
 -- with nothing to write, what was written stays
 pub still : (q : Result (Unit {0}) Error) (old : Option (List ℕ)) → Continues {B = Unit {0}} q old q old []
-still q old = record { behind = λ at front w. subst (λ (t : List ℕ). Wrote q at old t) (sym (append-nil front)) w }
+still q old = record { following = λ at front w. subst (λ (t : List ℕ). Wrote q at old t) (sym (append-nil front)) w }
 
 -- ---- a text for each of a list
 

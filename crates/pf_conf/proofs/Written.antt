@@ -8,15 +8,15 @@ use Rattle.pf_conf.specs.Rulesets.{PlacedRule, with_product, written_in, skips_i
 use Rattle.pf_sources.proofs.Steps.{each_none, each_one, each_append}
 use Rattle.pf_conf.proofs.Steps.{drop_item}
 
-first_behind : (found : Bool) (w : Written) (ps : List Product) (rules : List PlacedRule) → each with_product (if found then w.product ∷ ps else ps) rules ≡ (each with_product (if found then w.product ∷ [] else []) rules >>= λ more. each with_product ps more)
-first_behind true w ps rules = each_append with_product (w.product ∷ []) ps rules
-first_behind false w ps rules = let none = each_none with_product rules in rw none refl
+first_after : (found : Bool) (w : Written) (ps : List Product) (rules : List PlacedRule) → each with_product (if found then w.product ∷ ps else ps) rules ≡ (each with_product (if found then w.product ∷ [] else []) rules >>= λ more. each with_product ps more)
+first_after true w ps rules = each_append with_product (w.product ∷ []) ps rules
+first_after false w ps rules = let none = each_none with_product rules in rw none refl
 
 split : (number : ℕ) (w : Written) (ws : List Written) (rules : List PlacedRule) → each with_product (written_in number (w ∷ ws)) rules ≡ (each with_product (written_in number (w ∷ [])) rules >>= λ more. each with_product (written_in number ws) more)
 split number w ws rules =
     elim (w.within == number) as (λ b. each with_product (map (λ (v : Written). v.product) (cond b (w ∷ filter (λ (v : Written). v.within == number) ws) (filter (λ (v : Written). v.within == number) ws))) rules ≡ (each with_product (map (λ (v : Written). v.product) (cond b (w ∷ []) [])) rules >>= λ more. each with_product (written_in number ws) more)) [
-      | true ↦ first_behind true w (written_in number ws) rules
-      | false ↦ first_behind false w (written_in number ws) rules
+      | true ↦ first_after true w (written_in number ws) rules
+      | false ↦ first_after false w (written_in number ws) rules
     ]
 
 pub written_on : (number : ℕ) (all : List Written) (i : ℕ) (w : Written) (rules more : List PlacedRule) (whole : Result (List PlacedRule) Stop) → whole ≡ each with_product (written_in number (drop i all)) rules → i < length all → w ≡ get_or all i w → each with_product (written_in number (w ∷ [])) rules ≡ Ok more → whole ≡ each with_product (written_in number (drop (i + 1) all)) more

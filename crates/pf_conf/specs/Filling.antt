@@ -44,9 +44,9 @@ with_definition files path t x =
     else (with_sources files path t x.1 >>= λ s. Ok (x.0 ++ t ∷ [], s))
 
 -- How many tables come before the first whose name one before it has, given those before all of them.
-unfoldable pub once_behind : List Table → List Table → ℕ
-once_behind before [] = 0
-once_behind before (t ∷ ts) = if is_defined t.name before then 0 else suc (once_behind (before ++ t ∷ []) ts)
+unfoldable pub once_after : List Table → List Table → ℕ
+once_after before [] = 0
+once_after before (t ∷ ts) = if is_defined t.name before then 0 else suc (once_after (before ++ t ∷ []) ts)
 
 unfoldable pub with_tables : List File → Word → List Table → Found → Result Found Stop
 with_tables files path ts s = each (with_definition files path) ts ([], s) >>= λ x. Ok x.1

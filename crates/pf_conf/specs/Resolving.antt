@@ -12,7 +12,7 @@ use Rattle.pf_parse.specs.Reading.{Word}
 use Rattle.pf_interfaces.specs.declared.interface.Interface.{Interface}
 use Rattle.pf_conf.specs.declared.{fault.Spot.Spot, fault.Note.Note, fault.Unread.Unread, found.Conf.Conf, found.Found.Found, found.Ruleset.Ruleset, found.Mention.Mention, found.Waiting.Waiting, found.TheConstants.{LINE_LIMIT, TICKET_BYTES}}
 use Rattle.pf_conf.specs.{Lines.parsed_with, Found.{nothing_found, is_full, has_rules}, Rulesets.with_rulesets, Filling.with_tables}
-use Rattle.pf_conf.specs.Telling.{spot_of, first_spot, told_at, telling, telling_with, telling_at}
+use Rattle.pf_conf.specs.Telling.{spot_of, first_spot, unread_at, telling, telling_with, telling_at}
 
 -- ---- a file's tree
 
@@ -43,7 +43,7 @@ is_main path = length path == 0
 -- ---- a file
 
 abbrev pub room_for : Spot → Found → Result Found Unread
-room_for spot s = if is_full s then Err (told_at spot mistakes.ManyRulesets) else Ok s
+room_for spot s = if is_full s then Err (unread_at spot mistakes.ManyRulesets) else Ok s
 
 -- what the tokens of a file stand for, whose rulesets are mentioned at this spot
 unfoldable pub with_flat : List File → List Interface → Mode → Word → Spot → Flat → Found → Result Found Unread
@@ -66,7 +66,7 @@ after_flat flat s = record s { files_read = flat.files_read }
 
 -- a path that is mentioned at this spot has no rules yet
 abbrev pub free_for : Word → Spot → Found → Result Found Unread
-free_for path spot s = if has_rules path s then Err (told_at spot (mistakes.RulesTwice (path_text path))) else Ok s
+free_for path spot s = if has_rules path s then Err (unread_at spot (mistakes.RulesTwice (path_text path))) else Ok s
 
 -- a file, for the rulesets from this path on
 unfoldable pub with_file : List File → List Interface → Mode → Word → Mention → Found → Result Found Unread
@@ -77,7 +77,7 @@ with_file files interfaces mode path m s =
 -- ---- loads
 
 abbrev pub with_load : List File → List Interface → Mode → Mention → Option Word → Found → Result Found Unread
-with_load files interfaces mode m None s = Err (told_at m.at mistakes.LongPath)
+with_load files interfaces mode m None s = Err (unread_at m.at mistakes.LongPath)
 with_load files interfaces mode m (Some path) s = with_file files interfaces mode path m s
 
 abbrev pub with_waiting : List File → List Interface → Mode → Option Waiting → Found → Result Found Unread
@@ -108,7 +108,7 @@ commit_length s =
 abbrev pub committed : Spot → Found → Result Conf Unread
 committed spot s =
     if nat_le (commit_length s) LINE_LIMIT then Ok (record { rulesets = s.rulesets; tables = s.tables; notes = s.notes })
-    else Err (told_at spot mistakes.LongCommit)
+    else Err (unread_at spot mistakes.LongCommit)
 
 abbrev pub main_file : Word → Mention
 main_file name = record { at = first_spot name; named = first_spot name; name = name }

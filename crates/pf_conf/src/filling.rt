@@ -1,7 +1,7 @@
 //! The tables of a file that are filled.
 ghost use Rattle.std.specs.Prelude.{◌≡◌, ◌≤◌, [], length, IfOk, OnOk};
 ghost use Rattle.pf_sources.specs.Steps.{each, Leaves};
-ghost use Rattle.pf_conf.specs.Filling.{with_table_path, with_filled, with_table, with_sources, once_behind, with_tables};
+ghost use Rattle.pf_conf.specs.Filling.{with_table_path, with_filled, with_table, with_sources, once_after, with_tables};
 
 use crate::found::{FilledTable, Found};
 use pf_addr::path::Path;
@@ -14,7 +14,7 @@ use std::collections::BTreeSet;
 
 /// How many tables come before the first whose name one before it has.
 fn defined_once(alloc: Global, tables: &[TableLine]) -> Result<usize, AllocError>
-    ensures once { IfOk result (λ n. n ≡ once_behind [] tables.now) }
+    ensures once { IfOk result (λ n. n ≡ once_after [] tables.now) }
     ensures within { IfOk result (λ n. n ≤ length tables.now) }
 {
     let mut names = BTreeSet::new(alloc);

@@ -3,19 +3,18 @@ ghost use Rattle.std.specs.Prelude.{◌≡◌, ◌≤◌, ◌<◌, ◌^◌, ◌+
 ghost use Rattle.pf_tokens.specs.declared.files.TheConstants.{FILE_LIMIT, READING_LIMIT};
 ghost use Rattle.pf_tokens.specs.{Places.start_of, Files.text_of_file};
 ghost use Rattle.pf_sources.specs.Steps.{Leaves};
-ghost use Rattle.pf_conf.specs.{Lines.parsed_with, Telling.{telling, telling_at, GivesTold, FindsTold, LeavesTold}};
+ghost use Rattle.pf_conf.specs.{Lines.parsed_with, Telling.{telling, telling_at, GivesWanted, FindsWanted, LeavesWanted}};
 ghost use Rattle.pf_conf.specs.Resolving.{note_of, waiting_of, with_notes, with_loads, with_tree, is_main, room_for, free_for, with_load, with_flat, flat_of, with_file, load_numbered, loads_from, part_length, commit_length, committed, main_file, resolved};
 
 use crate::fault::{Note, Spot, Unread};
 use crate::found::{Conf, Found, LINE_LIMIT, Mention, Ruleset, TICKET_BYTES, Waiting, path_text};
 use crate::lines::parse_with;
-use crate::telling::{told, told_at};
+use crate::telling::{unread_at, unread_of};
 use pf_addr::path::Path;
 use pf_interfaces::Interface;
 use pf_parse::{At, Load, Mistake, Mode, Parsed, Remark, Stop, Tree};
 use pf_tokens::{
-    Files, Flat, INCLUDE_LIMIT, Items, Macros, Place, READING_LIMIT, Stop as TokenStop,
-    text_of_file,
+    Files, Flat, INCLUDE_LIMIT, Items, Macros, Place, READING_LIMIT, TokenStop, text_of_file,
 };
 use std::alloc::{AllocError, Global};
 
@@ -61,14 +60,14 @@ fn text_of<'a>(
     mention: &Mention,
     files_read: usize,
 ) -> Result<(usize, &'a [u8]), Unread>
-    ensures found { FindsTold result (telling_at mention.now.named (text_of_file files.now files_read (start_of 0) mention.now.name)) }
+    ensures found { FindsWanted result (telling_at mention.now.named (text_of_file files.now files_read (start_of 0) mention.now.name)) }
     ensures short { IfOk result (λ found. length found.1.now ≤ FILE_LIMIT) }
     ensures room { IfOk result (λ found. files_read < READING_LIMIT) }
 {
     let name = mention.name.as_slice();
     match text_of_file(alloc, files, files_read, Place::start(0), name) {
         Ok(found) => Ok(found),
-        Err(TokenStop::Faulty(fault)) => Err(told_at(
+        Err(TokenStop::Faulty(fault)) => Err(unread_at(
             alloc,
             &mention.named,
             Mistake::Token(fault.mistake),
@@ -86,13 +85,13 @@ fn flat_of(
     mention: &Mention,
     files_read: usize,
 ) -> Result<Flat, Unread>
-    ensures { GivesTold result (flat_of files.now mention.now files_read) }
+    ensures { GivesWanted result (flat_of files.now mention.now files_read) }
 {
     let (number, text) = text_of(alloc, files, mention, files_read)?;
     let mut flat = Flat::new(alloc, files_read);
     match flat.read(alloc, files, INCLUDE_LIMIT, number, text) {
         Ok(()) => Ok(flat),
-        Err(stop) => Err(told(alloc, files, &flat.macros, Stop::from(stop))),
+        Err(stop) => Err(unread_of(alloc, files, &flat.macros, Stop::from(stop))),
     }
 }
 
@@ -105,12 +104,12 @@ fn parsed(
     path: &Path,
     flat: &Flat,
 ) -> Result<Parsed, Unread>
-    ensures { GivesTold result (telling files.now flat.now.macros (parsed_with interfaces.now flat.now.tokens mode (is_main path.now))) }
+    ensures { GivesWanted result (telling files.now flat.now.macros (parsed_with interfaces.now flat.now.tokens mode (is_main path.now))) }
 {
     let (tokens, is_main) = (flat.tokens.as_slice(), path.as_bytes().is_empty());
     match parse_with(alloc, interfaces, tokens, mode, is_main) {
         Ok(parsed) => Ok(parsed),
-        Err(stop) => Err(told(alloc, files, &flat.macros, stop)),
+        Err(stop) => Err(unread_of(alloc, files, &flat.macros, stop)),
     }
 }
 
@@ -168,7 +167,7 @@ impl Found {
     }
 
     /// The same, where a user is told of a stop.
-    fn add_told(
+    fn add_or_unread(
         &mut self,
         alloc: Global,
         files: &Files,
@@ -176,20 +175,20 @@ impl Found {
         path: &Path,
         tree: &Tree,
     ) -> Result<(), Unread>
-        ensures { LeavesTold result self.new (telling files.now macros.now (with_tree files.now macros.now path.now tree.now self.old)) }
+        ensures { LeavesWanted result self.new (telling files.now macros.now (with_tree files.now macros.now path.now tree.now self.old)) }
     {
         match self.add_tree(alloc, files, macros, path, tree) {
             Ok(()) => Ok(()),
-            Err(stop) => Err(told(alloc, files, macros, stop)),
+            Err(stop) => Err(unread_of(alloc, files, macros, stop)),
         }
     }
 
     /// Checks that the commit has room for the ruleset that is mentioned at this spot.
     fn check_room(&self, alloc: Global, at: &Spot) -> Result<(), Unread>
-        ensures { LeavesTold result self.now (room_for at.now self.now) }
+        ensures { LeavesWanted result self.now (room_for at.now self.now) }
     {
         if self.is_full() {
-            return Err(told_at(alloc, at, Mistake::ManyRulesets));
+            return Err(unread_at(alloc, at, Mistake::ManyRulesets));
         }
         Ok(())
     }
@@ -206,21 +205,21 @@ impl Found {
         at: &Spot,
         flat: &Flat,
     ) -> Result<(), Unread>
-        ensures { LeavesTold result self.new (with_flat files.now interfaces.now mode path.now at.now flat.now self.old) }
+        ensures { LeavesWanted result self.new (with_flat files.now interfaces.now mode path.now at.now flat.now self.old) }
     {
         let Parsed { tree, notes } = parsed(alloc, files, interfaces, mode, path, flat)?;
         self.add_notes(alloc, files, &flat.macros, notes)?;
         self.check_room(alloc, at)?;
-        self.add_told(alloc, files, &flat.macros, path, &tree)
+        self.add_or_unread(alloc, files, &flat.macros, path, &tree)
     }
 
     /// Checks that a path, which is mentioned at this spot, has no rules yet.
     fn check_free(&self, alloc: Global, path: &Path, at: &Spot) -> Result<(), Unread>
-        ensures { LeavesTold result self.now (free_for path.now at.now self.now) }
+        ensures { LeavesWanted result self.now (free_for path.now at.now self.now) }
     {
         if self.has_rules(path) {
             let path = Items::copied(alloc, path_text(path))?;
-            return Err(told_at(alloc, at, Mistake::RulesTwice(path)));
+            return Err(unread_at(alloc, at, Mistake::RulesTwice(path)));
         }
         Ok(())
     }
@@ -236,7 +235,7 @@ impl Found {
         path: &Path,
         mention: &Mention,
     ) -> Result<(), Unread>
-        ensures { LeavesTold result self.new (with_file files.now interfaces.now mode path.now mention.now self.old) }
+        ensures { LeavesWanted result self.new (with_file files.now interfaces.now mode path.now mention.now self.old) }
     {
         self.check_free(alloc, path, &mention.at)?;
         let flat = flat_of(alloc, files, mention, self.files_read)?;
@@ -254,11 +253,11 @@ impl Found {
         path: Option<Path>,
         mention: &Mention,
     ) -> Result<(), Unread>
-        ensures { LeavesTold result self.new (with_load files.now interfaces.now mode mention.now path self.old) }
+        ensures { LeavesWanted result self.new (with_load files.now interfaces.now mode mention.now path self.old) }
     {
         match path {
             Some(path) => self.add_file(alloc, files, interfaces, mode, &path, mention),
-            None => Err(told_at(alloc, &mention.at, Mistake::LongPath)),
+            None => Err(unread_at(alloc, &mention.at, Mistake::LongPath)),
         }
     }
 
@@ -271,7 +270,7 @@ impl Found {
         mode: Mode,
         number: usize,
     ) -> Result<(), Unread>
-        ensures { LeavesTold result self.new (load_numbered files.now interfaces.now mode number self.old) }
+        ensures { LeavesWanted result self.new (load_numbered files.now interfaces.now mode number self.old) }
     {
         match self.load_numbered(alloc, number)? {
             Some(Waiting { path, mention }) => self.add_load(
@@ -289,7 +288,7 @@ impl Found {
         interfaces: &[Interface],
         mode: Mode,
     ) -> Result<(), Unread>
-        ensures { LeavesTold result self.new (loads_from files.now interfaces.now mode 0 READING_LIMIT self.old) }
+        ensures { LeavesWanted result self.new (loads_from files.now interfaces.now mode 0 READING_LIMIT self.old) }
     {
         for number in 0..READING_LIMIT {
             self.add_load_numbered(alloc, files, interfaces, mode, number)?;
@@ -329,10 +328,10 @@ impl Found {
 
     /// What was found, if the commit's line isn't too long. A fault is at this spot.
     fn committed(self, alloc: Global, at: &Spot) -> Result<Conf, Unread>
-        ensures { GivesTold result (committed at.now self) }
+        ensures { GivesWanted result (committed at.now self) }
     {
         if self.commit_length() > LINE_LIMIT {
-            return Err(told_at(alloc, at, Mistake::LongCommit));
+            return Err(unread_at(alloc, at, Mistake::LongCommit));
         }
         let Found {
             rulesets,
@@ -382,7 +381,7 @@ pub fn resolve(
     base: &Path,
     name: &[u8],
 ) -> Result<Conf, Unread>
-    ensures { GivesTold result (resolved files.now interfaces.now mode base.now name.now) }
+    ensures { GivesWanted result (resolved files.now interfaces.now mode base.now name.now) }
 {
     let file = main_file(alloc, name)?;
     let mut found = Found::new(alloc);

@@ -7,7 +7,7 @@ ghost use Rattle.pf_conf.specs.Rulesets.{rule_at, rules_at, with_product, writte
 
 use crate::found::{Found, RULE_LIMIT, Ruleset, path_text};
 use pf_addr::path::Path;
-use pf_lists::{Stop as ListStop, multiply};
+use pf_lists::{ListStop, multiply};
 use pf_parse::{At, Braces, Mistake, Product, Stop, Tree, Written, refusal};
 use pf_rule::Rule;
 use pf_tokens::{Items, Place};

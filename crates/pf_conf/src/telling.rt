@@ -1,6 +1,6 @@
 //! Places as a user finds them.
 ghost use Rattle.std.specs.{Prelude.{◌≡◌, IfOk}, List.slice_get};
-ghost use Rattle.pf_conf.specs.Telling.{name_of_file, name_of_macro, spot_of, first_spot, told_at, told_of, Tells};
+ghost use Rattle.pf_conf.specs.Telling.{name_of_file, name_of_macro, spot_of, first_spot, unread_at, unread_of, Tells};
 
 use crate::fault::{Fault, Spot, Unread};
 use pf_parse::{Cause, Mistake, Stop};
@@ -69,8 +69,8 @@ impl Spot {
 }
 
 /// A fault at this spot.
-pub(crate) fn told_at(alloc: Global, spot: &Spot, mistake: Mistake) -> Unread
-    ensures { Tells result (told_at spot.now mistake) }
+pub(crate) fn unread_at(alloc: Global, spot: &Spot, mistake: Mistake) -> Unread
+    ensures { Tells result (unread_at spot.now mistake) }
 {
     let mistake = Cause::from(mistake);
     match spot.copied(alloc) {
@@ -84,8 +84,8 @@ pub(crate) fn told_at(alloc: Global, spot: &Spot, mistake: Mistake) -> Unread
 }
 
 /// What a user is told of a stop, given the macros of its file's reading.
-pub(crate) fn told(alloc: Global, files: &Files, macros: &Macros, stop: Stop) -> Unread
-    ensures { Tells result (told_of files.now macros.now stop) }
+pub(crate) fn unread_of(alloc: Global, files: &Files, macros: &Macros, stop: Stop) -> Unread
+    ensures { Tells result (unread_of files.now macros.now stop) }
 {
     match stop {
         Stop::Needs(name) => Unread::Needs(name),

@@ -6,8 +6,8 @@ use Rattle.pf_form.specs.Form.Forms.{◌>>=◌}
 use Rattle.pf_addr.specs.Path.Paths.{path_text}
 use Rattle.pf_table.specs.Entries.{PlainEntry}
 use Rattle.pf_tokens.specs.declared.{place.Place.Place, token.Token.Token, files.File.File, files.TheConstants.READING_LIMIT, flat.Flat.Flat, flat.Macro.Macro, flat.TheConstants.INCLUDE_LIMIT}
-use Rattle.pf_tokens.specs.declared.fault.Stop.{Stop as TokenStop}
-use Rattle.pf_tokens.specs.declared.fault.Stop.TheVariants as token_stops
+use Rattle.pf_tokens.specs.declared.fault.TokenStop.{TokenStop}
+use Rattle.pf_tokens.specs.declared.fault.TokenStop.TheVariants as token_stops
 use Rattle.pf_tokens.specs.{Places.{start_of, text_of}, Files.text_of_file, Flat.read_file}
 use Rattle.pf_parse.specs.declared.{parser.Mode.Mode, statements.Parsed.Parsed, tree.Braces.Braces, tree.Entry.Entry, tree.Entries.Entries, tree.Entries.TheVariants.{Listed, File as FromFile}, tree.Table.Table, tree.Tree.Tree}
 use Rattle.pf_parse.specs.declared.fault.Mistake.TheVariants as mistakes
@@ -21,12 +21,12 @@ use Rattle.pf_sources.specs.Sources.{of_tokens, with_file_entries, with_filled_e
 use Rattle.pf_conf.specs.Filling.{Defined, with_filled, is_defined, with_table_path, with_table, with_sources, with_definition, with_tables}
 use Rattle.pf_interfaces.specs.declared.interface.Interface.{Interface}
 use Rattle.pf_conf.specs.Lines.{parsed_with}
-use Rattle.pf_conf.specs.Telling.{telling, telling_at, telling_with, told_at}
+use Rattle.pf_conf.specs.Telling.{telling, telling_at, telling_with, unread_at}
 use Rattle.pf_conf.specs.Resolving.{is_main, room_for, free_for, with_notes, with_loads, with_tree, no_flat, flat_of, after_flat, main_file, with_flat, with_file, with_load, with_waiting, load_numbered, loads_from}
 use Rattle.pf_conf.proofs.Kept.{both, each_keeps, if_not, if_room, if_free, telling_so}
 use Rattle.pf_conf_laws.specs.Types.{Found, Mention, Waiting}
 use Rattle.pf_conf_laws.specs.Loads.{IsOfMain}
-use Rattle.pf_conf_laws.proofs.Readings.{Within, has_room, file_within}
+use Rattle.pf_conf_laws.proofs.Readings.{Within, file_counts, file_within}
 
 abbrev FoundWithin : ℕ → Found → Type 0
 FoundWithin low s = Within low s.files_read
@@ -73,7 +73,7 @@ file_entries_within low files t g h known from =
     let a = both (of_tokens text) (λ (found : ℕ × List ℕ). onto g.entries (file_entries found.0 found.1) >>= λ es. Ok (record { files_read = g.files_read + 1; entries = es })) h from in
     let found : ℕ × List ℕ = a.0 in
     let b = both (onto g.entries (file_entries found.0 found.1)) (λ (es : List Entry). Ok (record { files_read = g.files_read + 1; entries = es })) h a.2 in
-    let room : g.files_read < READING_LIMIT = has_room files g.files_read t.place (text_of t.text) found (of_tokens_ok text found a.1) in
+    let room : g.files_read < READING_LIMIT = file_counts files g.files_read t.place (text_of t.text) found (of_tokens_ok text found a.1) in
     let same : record { files_read = g.files_read + 1; entries = b.0 } ≡ h = cc in
     subst (GatheredWithin low) same (omega (arith, known.0), omega (arith, room))
 
@@ -155,7 +155,7 @@ flat_of_within files m read flat from =
     let text : Result (ℕ × List ℕ) TokenStop = text_of_file files read (start_of 0) m.name in
     let a = both (telling_at m.named text) (λ (found : ℕ × List ℕ). telling_with files (read_file files INCLUDE_LIMIT found.0 found.1 (no_flat read))) flat from in
     let found : ℕ × List ℕ = a.0 in
-    let room : read < READING_LIMIT = has_room files read (start_of 0) m.name found (telling_at_ok m.named text found a.1) in
+    let room : read < READING_LIMIT = file_counts files read (start_of 0) m.name found (telling_at_ok m.named text found a.1) in
     let one : Within (read + 1) (read + 1) = (omega arith, omega (arith, room)) in
     file_within (read + 1) files INCLUDE_LIMIT found.0 found.1 (no_flat read) flat one (telling_with_ok files (read_file files INCLUDE_LIMIT found.0 found.1 (no_flat read)) flat a.2)
 
@@ -168,7 +168,7 @@ one_more_read files interfaces mode path m s t from =
     let u : Found = a.0 in
     let b = both (flat_of files m u.files_read)
     (λ (flat : Flat). with_flat files interfaces mode path m.at flat (after_flat flat u)) t a.2 in
-    let same : s ≡ u = if_free s u (has_rules path s) (told_at m.at (mistakes.RulesTwice (path_text path))) a.1 in
+    let same : s ≡ u = if_free s u (has_rules path s) (unread_at m.at (mistakes.RulesTwice (path_text path))) a.1 in
     let more : FoundWithin (u.files_read + 1) t = flat_within (u.files_read + 1) files interfaces mode path m.at b.0 (after_flat b.0 u) t
     (flat_of_within files m u.files_read b.0 b.1) b.2 in
     subst (λ (v : Found). FoundWithin (v.files_read + 1) t) (sym same) more
@@ -210,9 +210,9 @@ next_turn files interfaces mode n s t turn within from =
     let more : FoundWithin (s.files_read + 1) t = waiting_reads files interfaces mode n s t (slice_get s.waiting n) within refl from in
     record { read = omega (arith, more.0, turn.read); room = more.1 }
 
-same_behind : (r : Result Found Unread) (f g : Found → Result Found Unread) → ((t : Found) → r ≡ Ok t → f t ≡ g t) → (r >>= f) ≡ (r >>= g)
-same_behind (Ok t) f g same = same t refl
-same_behind (Err e) f g same = refl
+same_after : (r : Result Found Unread) (f g : Found → Result Found Unread) → ((t : Found) → r ≡ Ok t → f t ≡ g t) → (r >>= f) ≡ (r >>= g)
+same_after (Ok t) f g same = same t refl
+same_after (Err e) f g same = refl
 
 more_turns : (files : List File) (interfaces : List Interface) (mode : Mode) (n k extra : ℕ) (s : Found) → InTurn n s
     → READING_LIMIT ≤ n + k → loads_from files interfaces mode n (k + extra) s ≡ loads_from files interfaces mode n k s
@@ -222,7 +222,7 @@ more_turns files interfaces mode n (suc k) extra s turn enough =
     let longer : suc k + extra ≡ suc (k + extra) = omega arith in
     ap (λ (m : ℕ). loads_from files interfaces mode n m s) longer
     ∙ elim (cases_lt n (length s.waiting)) [
-      | inl within ↦ same_behind (load_numbered files interfaces mode n s)
+      | inl within ↦ same_after (load_numbered files interfaces mode n s)
           (λ (t : Found). loads_from files interfaces mode (n + 1) (k + extra) t)
           (λ (t : Found). loads_from files interfaces mode (n + 1) k t)
           (λ t from. more_turns files interfaces mode (n + 1) k extra t (next_turn files interfaces mode n s t turn within from)

@@ -19,13 +19,13 @@ use Rattle.pf_sources.specs.Sources.{gathered}
 use Rattle.pf_conf.specs.Filling.{Defined, with_filled, is_defined, with_table_path, with_table, with_sources, with_definition, with_tables}
 use Rattle.pf_interfaces.specs.declared.interface.Interface.{Interface}
 use Rattle.pf_conf.specs.Lines.{parsed_with}
-use Rattle.pf_conf.specs.Telling.{telling, told_at, first_spot}
+use Rattle.pf_conf.specs.Telling.{telling, unread_at, first_spot}
 use Rattle.pf_conf.specs.Resolving.{is_main, room_for, free_for, with_notes, with_loads, with_tree, flat_of, after_flat, main_file, commit_length, with_flat, with_file, with_load, with_waiting, load_numbered, loads_from, committed, resolved}
 use Rattle.pf_conf.proofs.Kept.{both, each_keeps, if_not, if_room, if_free, telling_so}
 use Rattle.pf_conf_laws.specs.Types.{Found, Mention, Waiting}
 use Rattle.pf_commit.specs.Naming.{with_path, table_paths}
 use Rattle.pf_load.specs.Laws.{is_table_at, AreOnce}
-use Rattle.pf_conf_laws.specs.Commits.{HasRoom}
+use Rattle.pf_conf_laws.specs.Commits.{CommitHasRoom}
 
 -- ---- names and paths
 
@@ -90,9 +90,9 @@ room_by p path free s true full room from = absurd (cc)
 room_by p path free s false true room from = absurd (cc)
 room_by p path free s false false room from = room
 
-has_room : (p : Place) (path : Option Word) (free : Word) (s : Found) → free_path p path s ≡ Ok free → is_full s ≡ false
-has_room p None free s from = absurd (cc)
-has_room p (Some path) free s from = room_by p path free s (has_rules path s) (is_full s) refl from
+path_is_free : (p : Place) (path : Option Word) (free : Word) (s : Found) → free_path p path s ≡ Ok free → is_full s ≡ false
+path_is_free p None free s from = absurd (cc)
+path_is_free p (Some path) free s from = room_by p path free s (has_rules path s) (is_full s) refl from
 
 braces_grow : (path : Word) (s : Found) (tree : Tree) (b : Braces) (x y : Opened) → GrowsAt path s x.1 → with_braces tree b x ≡ Ok y → GrowsAt path s y.1
 unfolding with_braces
@@ -100,7 +100,7 @@ braces_grow path s tree b x y known from =
     let first = both (free_path b.place (path_of_braces x.0 b) x.1) (λ (free : Word). with_rules free (length x.0) tree x.1 >>= λ t. Ok (x.0 ++ free ∷ [], t)) y from in
     let next = both (with_rules first.0 (length x.0) tree x.1) (λ (t : Found). Ok (x.0 ++ first.0 ∷ [], t)) y first.2 in
     let same : (x.0 ++ first.0 ∷ [], next.0) ≡ y = cc in
-    let grown = with_rules_grow first.0 (length x.0) tree x.1 next.0 (has_room b.place (path_of_braces x.0 b) first.0 x.1 first.1) next.1 in
+    let grown = with_rules_grow first.0 (length x.0) tree x.1 next.0 (path_is_free b.place (path_of_braces x.0 b) first.0 x.1 first.1) next.1 in
     subst (λ (z : Opened). GrowsAt path s z.1) same (grows_on s x.1 next.0 known.0 grown.0, grown.0.rules path known.1)
 
 rulesets_grow : (path : Word) (tree : Tree) (s t : Found) → is_full s ≡ false → with_rulesets path tree s ≡ Ok t → GrowsAt path s t
@@ -259,7 +259,7 @@ tree_once files ms path tree s t known free room from =
     let same : with_loads files ms path tree.loads a.0 ≡ t = cc in
     subst Once same (record { once = all.once; ruled = all.ruled; paths = all.paths; room = all.room })
 
-not_full : (spot : Spot) (s t : Found) (full : Bool) → (if full then Err (told_at spot mistakes.ManyRulesets) else Ok s) ≡ Ok t → full ≡ false
+not_full : (spot : Spot) (s t : Found) (full : Bool) → (if full then Err (unread_at spot mistakes.ManyRulesets) else Ok s) ≡ Ok t → full ≡ false
 not_full spot s t true from = absurd (cc)
 not_full spot s t false from = refl
 
@@ -292,7 +292,7 @@ file_once files interfaces mode path m s t known from =
     let u : Found = a.0 in
     let b = both (flat_of files m u.files_read)
     (λ (flat : Flat). with_flat files interfaces mode path m.at flat (after_flat flat u)) t a.2 in
-    let e : Unread = told_at m.at (mistakes.RulesTwice (path_text path)) in
+    let e : Unread = unread_at m.at (mistakes.RulesTwice (path_text path)) in
     let same : s ≡ u = if_free s u (has_rules path s) e a.1 in
     let free : has_rules path s ≡ false = free_one s u (has_rules path s) e a.1 in
     let here : Once u = subst Once same known in
@@ -346,7 +346,7 @@ found_once files interfaces mode base name c from =
     (loads_from files interfaces mode 0 READING_LIMIT) u a.1 in
     let all : Once u = loads_once files interfaces mode 0 READING_LIMIT b.0 u
     (file_once files interfaces mode base (main_file name) nothing_found b.0 nothing_once b.1) b.2 in
-    (u, all, committed_by u c (nat_le (commit_length u) LINE_LIMIT) (told_at (first_spot name) mistakes.LongCommit) refl a.2)
+    (u, all, committed_by u c (nat_le (commit_length u) LINE_LIMIT) (unread_at (first_spot name) mistakes.LongCommit) refl a.2)
 
 pub tables_once : (files : List File) (interfaces : List Interface) (mode : Mode) (base name : Word) (c : Conf)
     → resolved files interfaces mode base name ≡ Ok c → AreOnce c.tables
@@ -355,10 +355,10 @@ tables_once files interfaces mode base name c from =
     subst (λ (d : Conf). AreOnce d.tables) f.2.same f.1.once
 
 pub room_for_all : (files : List File) (interfaces : List Interface) (mode : Mode) (base name : Word) (c : Conf)
-    → resolved files interfaces mode base name ≡ Ok c → HasRoom c
+    → resolved files interfaces mode base name ≡ Ok c → CommitHasRoom c
 room_for_all files interfaces mode base name c from =
     let f = found_once files interfaces mode base name c from in
     let s : Found = f.0 in
     let all : List Word → Type 0 = λ ps. length s.rulesets + length ps ≤ RULESET_LIMIT in
     let line : List Word → Type 0 = λ ps. commit_length (record s { table_paths = ps }) ≤ LINE_LIMIT in
-    subst HasRoom f.2.same (record { rulesets = subst all (sym f.1.paths) f.1.room; line = subst line (sym f.1.paths) f.2.line })
+    subst CommitHasRoom f.2.same (record { rulesets = subst all (sym f.1.paths) f.1.room; line = subst line (sym f.1.paths) f.2.line })

@@ -3,7 +3,7 @@ use Rattle.std.proofs.Common.{◌≡◌, ℕ, zero, suc, ◌+◌, ◌==◌, ◌|
 use Rattle.std.specs.{Prelude.All, List.{flat_map, list_all, prefix_len, take_while}, Option.option_to_list}
 use Rattle.std.proofs.lemmas.{Bool.{eqb-true, or_left, or_right}, List.take-append-drop, List.Concat.flat_map-append, List.Folds.length-prefix_len, List.Elements.{All-nil, All-append, All-push}}
 use Rattle.pf_form.specs.Form.Forms.{◌>>=◌}
-use Rattle.pf_tokens.specs.declared.{place.Placed.Placed, token.Token.Token, token.Kind.Kind, token.Kind.TheVariants.{Word, Quoted, Symbol, Macro, Newline}, lexing.Source.Source, fault.Stop.Stop}
+use Rattle.pf_tokens.specs.declared.{place.Placed.Placed, token.Token.Token, token.Kind.Kind, token.Kind.TheVariants.{Word, Quoted, Symbol, Macro, Newline}, lexing.Source.Source, fault.TokenStop.TokenStop}
 use Rattle.pf_tokens.specs.declared.fault.Mistake.TheVariants.{CommentInValue, MacroInValue, NoMacroName}
 use Rattle.pf_tokens.specs.declared.lexing.Source.TheVariants as sources
 use Rattle.pf_tokens.specs.{Stops.faulty, Counting.counted_some, Laws.bytes_of}
@@ -66,7 +66,7 @@ InFront c cs f = IsCut (c ∷ take f.more cs) (bytes_of (option_to_list f.token)
 one_token : (k : Kind) (c : Placed) (cs text : List Placed) (more : ℕ) → IsCut (c ∷ take more cs) text → InFront c cs (token_of k c text more)
 one_token k c cs text more has = subst (IsCut (c ∷ take more cs)) (sym (append-nil text)) has
 
-if_case : {A : Type 0} (P : A → Type 0) (b : Bool) (r s : Result A Stop) (y : A) → (b ≡ true → r ≡ Ok y → P y) → (s ≡ Ok y → P y) → (if b then r else s) ≡ Ok y → P y
+if_case : {A : Type 0} (P : A → Type 0) (b : Bool) (r s : Result A TokenStop) (y : A) → (b ≡ true → r ≡ Ok y → P y) → (s ≡ Ok y → P y) → (if b then r else s) ≡ Ok y → P y
 if_case P true r s y first other is = first refl is
 if_case P false r s y first other is = other is
 
@@ -149,10 +149,10 @@ quoted_cut c cs f quote is =
 
 word_cut : (c : Placed) (cs : List Placed) (f : Front) → word c cs ≡ Ok f → InFront c cs f
 word_cut c cs f is =
-    let behind : List Placed = run is_word_byte cs in
-    let made : Front = token_of Word c (c ∷ behind) (length behind) in
-    let cut : IsCut (c ∷ take (length behind) cs) (c ∷ behind) = subst (λ (t : List Placed). IsCut (c ∷ t) (c ∷ behind)) (sym (take_run is_word_byte cs)) (taken (c ∷ behind)) in
-    then_all (InFront c cs) (word_checked (c ∷ behind)) (λ _. Ok made) f (λ u checked last. ok_all (InFront c cs) made f (one_token Word c cs (c ∷ behind) (length behind) cut) last) is
+    let following : List Placed = run is_word_byte cs in
+    let made : Front = token_of Word c (c ∷ following) (length following) in
+    let cut : IsCut (c ∷ take (length following) cs) (c ∷ following) = subst (λ (t : List Placed). IsCut (c ∷ t) (c ∷ following)) (sym (take_run is_word_byte cs)) (taken (c ∷ following)) in
+    then_all (InFront c cs) (word_checked (c ∷ following)) (λ _. Ok made) f (λ u checked last. ok_all (InFront c cs) made f (one_token Word c cs (c ∷ following) (length following) cut) last) is
 
 symbol_cut : (c : Placed) (cs : List Placed) (f : Front) → a_symbol c cs ≡ Ok f → InFront c cs f
 symbol_cut c cs f is =
@@ -203,8 +203,8 @@ lex_cut s n zero (c ∷ cs) ts is =
     let P : List Token → Type 0 = λ us. IsCut (c ∷ cs) (bytes_of us) in
     then_all P (front s c cs) (λ f. counted_some n f.token >>= λ m. lex s m f.more cs >>= λ us. Ok (option_to_list f.token ++ us)) ts
     (λ f at_front counts. then_all P (counted_some n f.token) (λ m. lex s m f.more cs >>= λ us. Ok (option_to_list f.token ++ us)) ts
-    (λ m fits behind. then_all P (lex s m f.more cs) (λ us. Ok (option_to_list f.token ++ us)) ts
-    (λ us others last. ok_all P (option_to_list f.token ++ us) ts (joined c cs f us (front_cut s c cs f at_front) (lex_cut s m f.more cs us others)) last) behind) counts) is
+    (λ m fits following. then_all P (lex s m f.more cs) (λ us. Ok (option_to_list f.token ++ us)) ts
+    (λ us others last. ok_all P (option_to_list f.token ++ us) ts (joined c cs f us (front_cut s c cs f at_front) (lex_cut s m f.more cs us others)) last) following) counts) is
 
 pub nothing_is_lost : (s : Source) (n : ℕ) (text : List Placed) (ts : List Token) → lex s n 0 text ≡ Ok ts → IsCut text (bytes_of ts)
 nothing_is_lost s n text ts is = lex_cut s n 0 text ts is

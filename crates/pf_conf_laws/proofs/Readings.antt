@@ -2,7 +2,7 @@
 use Rattle.std.proofs.Common.{◌≡◌, ℕ, zero, suc, ◌+◌, ◌<◌, ◌≤◌, ◌&&◌, Bool, true, false, nat_lt, List, [], ◌∷◌, Result, Ok, Err, refl, ap, arith, if◌then◌else◌}
 use Rattle.std.proofs.lemmas.Bool.Decides.{Decides-ltb}
 use Rattle.pf_form.specs.Form.Forms.{◌>>=◌}
-use Rattle.pf_tokens.specs.declared.{place.Place.Place, token.Token.Token, files.File.File, files.TheConstants.READING_LIMIT, flat.Macro.Macro, flat.Flat.Flat, fault.Stop.Stop}
+use Rattle.pf_tokens.specs.declared.{place.Place.Place, token.Token.Token, files.File.File, files.TheConstants.READING_LIMIT, flat.Macro.Macro, flat.Flat.Flat, fault.TokenStop.TokenStop}
 use Rattle.pf_tokens.specs.declared.fault.Mistake.TheVariants as mistakes
 use Rattle.pf_tokens.specs.declared.lexing.Source.TheVariants as sources
 use Rattle.pf_tokens.specs.{Places.{start_of, text_of}, Stops.faulty, Placed.placed, Lexing.lex, Files.{contents_at, file_from, text_of_file}}
@@ -15,16 +15,16 @@ Within low n = (low ≤ n) × (n ≤ READING_LIMIT)
 
 -- ---- one file
 
-room_by : {A : Type 0} (n : ℕ) (b : Bool) (q : Result A Stop) (e : Stop) (x : A) → nat_lt n READING_LIMIT ≡ b → (if b then q else Err e) ≡ Ok x → n < READING_LIMIT
+room_by : {A : Type 0} (n : ℕ) (b : Bool) (q : Result A TokenStop) (e : TokenStop) (x : A) → nat_lt n READING_LIMIT ≡ b → (if b then q else Err e) ≡ Ok x → n < READING_LIMIT
 room_by n true q e x is from = (Decides-ltb n READING_LIMIT).0 is
 room_by n false q e x is from = absurd (cc)
 
-pub has_room : (files : List File) (n : ℕ) (p : Place) (name : List ℕ) (found : ℕ × List ℕ) → text_of_file files n p name ≡ Ok found → n < READING_LIMIT
+pub file_counts : (files : List File) (n : ℕ) (p : Place) (name : List ℕ) (found : ℕ × List ℕ) → text_of_file files n p name ≡ Ok found → n < READING_LIMIT
 unfolding text_of_file
-has_room files n p name found from =
+file_counts files n p name found from =
     room_by n (nat_lt n READING_LIMIT) (contents_at p name (file_from 0 name files)) (faulty p mistakes.ManyFiles) found refl from
 
-left_ok : {A : Type 0} (ms : List Macro) (r : Result A Stop) (x : A) → leaving ms r ≡ Ok x → r ≡ Ok x
+left_ok : {A : Type 0} (ms : List Macro) (r : Result A TokenStop) (x : A) → leaving ms r ≡ Ok x → r ≡ Ok x
 left_ok ms (Ok y) x is = let same : y ≡ x = cc in ap (λ z. Ok z) same
 left_ok ms (Err e) x is = absurd (cc)
 
@@ -77,12 +77,12 @@ lines_within low include raises [] x t known is =
     then_all (FlatWithin low) (leaving x.1.macros (all_closed x.0)) (λ _. Ok x.1) t (λ u closes here. ok_all (FlatWithin low) x.1 t known here) is
 lines_within low include raises (l ∷ ls) x t known is =
     then_all (FlatWithin low) (read_line include l.0 l.1 x) (read_lines include ls) t
-    (λ y here behind. lines_within low include raises ls y t (line_within low include raises l.0 l.1 x y known here) behind) is
+    (λ y here following. lines_within low include raises ls y t (line_within low include raises l.0 l.1 x y known here) following) is
 
 text_within : (low : ℕ) (include : Including) → Raises low include → (number : ℕ) (text : List ℕ) (s t : Flat) → Within low (s.files_read + 1) → read_text include number text s ≡ Ok t → FlatWithin low t
 text_within low include raises number text s t known is =
     then_all (FlatWithin low) (leaving s.macros (lex sources.File s.words_read 0 (placed (start_of number) text))) (λ (ts : List Token). read_lines include (lines ts) ([], begun s ts)) t
-    (λ ts tokens behind. lines_within low include raises (lines ts) ([], begun s ts) t known behind) is
+    (λ ts tokens following. lines_within low include raises (lines ts) ([], begun s ts) t known following) is
 
 -- ---- files that are included
 
@@ -94,8 +94,8 @@ unfolding including
 including_raises low files zero name s t known is = err_all (FlatWithin low) (faulty name.place mistakes.DeepInclude, s.macros) t is
 including_raises low files (suc deep) name s t known is =
     then_all (FlatWithin low) (leaving s.macros (text_of_file files s.files_read name.place (text_of name.text))) (λ (found : ℕ × List ℕ). read_text (including files deep) found.0 found.1 s) t
-    (λ found named behind. text_within low (including files deep) (including_raises low files deep) found.0 found.1 s t
-    (raised low s.files_read known (has_room files s.files_read name.place (text_of name.text) found (left_ok s.macros (text_of_file files s.files_read name.place (text_of name.text)) found named))) behind) is
+    (λ found named following. text_within low (including files deep) (including_raises low files deep) found.0 found.1 s t
+    (raised low s.files_read known (file_counts files s.files_read name.place (text_of name.text) found (left_ok s.macros (text_of_file files s.files_read name.place (text_of name.text)) found named))) following) is
 
 pub file_within : (low : ℕ) (files : List File) (deep number : ℕ) (text : List ℕ) (s t : Flat) → Within low (s.files_read + 1) → read_file files deep number text s ≡ Ok t → FlatWithin low t
 file_within low files deep number text s t known is = text_within low (including files deep) (including_raises low files deep) number text s t known is

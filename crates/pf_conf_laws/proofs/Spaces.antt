@@ -98,7 +98,7 @@ record First (w r : List ℕ) (ts : List Token) : Type 0 where
 
 first_by : (b : ℕ) (bs r : List ℕ) (c : Placed) (cs : List Placed) (f : Front) (m : ℕ) (us ts : List Token) → c.byte ≡ b → text_of cs ≡ bs ++ r → list_all is_word_byte bs ≡ true → Ends r
     → word c cs ≡ Ok f → lex sources.File m f.more cs ≡ Ok us → option_to_list f.token ++ us ≡ ts → First (b ∷ bs) r ts
-first_by b bs r c cs f m us ts byte text all ends at_front behind joined =
+first_by b bs r c cs f m us ts byte text all ends at_front following joined =
     let run : List Placed = take (prefix_len goes cs) cs in
     let long : prefix_len goes cs ≡ length bs = run_long bs r cs text all ends in
     let size : length run ≡ length bs = length-prefix_len goes cs ∙ long in
@@ -115,7 +115,7 @@ first_by b bs r c cs f m us ts byte text all ends at_front behind joined =
       are = sym joined ∙ ap (λ (g : Front). option_to_list g.token ++ us) (sym is);
       read = ap (λ (k : ℕ). as_word (k ∷ text_of run)) byte ∙ ap (λ (t : List ℕ). as_word (b ∷ t)) cut;
       left = back_text bs r cs text;
-      lexed = sym (lex-more sources.File m (length bs) cs) ∙ ap (λ (k : ℕ). lex sources.File m k cs) (sym size ∙ ap (λ (g : Front). g.more) is) ∙ behind;
+      lexed = sym (lex-more sources.File m (length bs) cs) ∙ ap (λ (k : ℕ). lex sources.File m k cs) (sym size ∙ ap (λ (g : Front). g.more) is) ∙ following;
     }
 
 first_word : (b : ℕ) (bs r : List ℕ) (n : ℕ) (text : List Placed) (ts : List Token) → is_plain_word (b ∷ bs) ≡ true → Ends r → text_of text ≡ (b ∷ bs) ++ r → lex sources.File n 0 text ≡ Ok ts → First (b ∷ bs) r ts
@@ -133,9 +133,9 @@ first_word b bs r n (c ∷ cs) ts plain ends is lexed =
     first_by b bs r c cs f y.0 z.0 ts byte rest parts.1 ends (sym (is_a_word c cs (ap is_first byte ∙ parts.0)) ∙ x.1) z.1 joined
 
 -- a space
-behind_space : (n : ℕ) (c : Placed) (cs : List Placed) (ts : List Token) → c.byte ≡ 32 → lex sources.File n 0 (c ∷ cs) ≡ Ok ts → lex sources.File n 0 cs ≡ Ok ts
+after_space : (n : ℕ) (c : Placed) (cs : List Placed) (ts : List Token) → c.byte ≡ 32 → lex sources.File n 0 (c ∷ cs) ≡ Ok ts → lex sources.File n 0 cs ≡ Ok ts
 unfolding lex front
-behind_space n c cs ts blank lexed =
+after_space n c cs ts blank lexed =
     let test : (c.byte == 32) ≡ true = ap (λ (k : ℕ). k == 32) blank in
     let x : (us : List Token) × (lex sources.File n 0 cs ≡ Ok us) × (Ok ([] ++ us) ≡ Ok ts) = both (lex sources.File n 0 cs) (λ (us : List Token). Ok ([] ++ us)) ts (rw test at lexed) in
     let same : x.0 ≡ ts = cc (x.2) in
@@ -155,12 +155,12 @@ one_more : (w r : List ℕ) (ws : List (List ℕ)) (ts : List Token) (f : First 
 one_more w r ws ts f are =
     ap (map read_as) f.are ∙ ap (λ x. x ∷ map read_as f.others) f.read ∙ ap (λ xs. as_word w ∷ xs) are
 
-behind_by : (n : ℕ) (text : List Placed) (r : List ℕ) (ts : List Token) → text_of text ≡ 32 ∷ r → lex sources.File n 0 text ≡ Ok ts → (cs : List Placed) × (text_of cs ≡ r) × (lex sources.File n 0 cs ≡ Ok ts)
-behind_by n [] r ts is lexed = absurd (cc (is))
-behind_by n (c ∷ cs) r ts is lexed =
+after_by : (n : ℕ) (text : List Placed) (r : List ℕ) (ts : List Token) → text_of text ≡ 32 ∷ r → lex sources.File n 0 text ≡ Ok ts → (cs : List Placed) × (text_of cs ≡ r) × (lex sources.File n 0 cs ≡ Ok ts)
+after_by n [] r ts is lexed = absurd (cc (is))
+after_by n (c ∷ cs) r ts is lexed =
     let byte : c.byte ≡ 32 = cc (is) in
     let rest : text_of cs ≡ r = cc (is) in
-    (cs, rest, behind_space n c cs ts byte lexed)
+    (cs, rest, after_space n c cs ts byte lexed)
 
 pub words_are_read : (n : ℕ) (ws : List (List ℕ)) (text : List Placed) (ts : List Token) → list_all is_plain_word ws ≡ true → text_of text ≡ join_with_byte 32 ws → lex sources.File n 0 text ≡ Ok ts → AreWords ws ts
 words_are_read n [] text ts plain is lexed = ap (map read_as) (none_lexed n text ts is lexed)
@@ -173,5 +173,5 @@ words_are_read n ((b ∷ bs) ∷ v ∷ vs) text ts plain is lexed =
     let parts = and_parts (is_plain_word (b ∷ bs)) (list_all is_plain_word (v ∷ vs)) plain in
     let more : List ℕ = join_with_byte 32 (v ∷ vs) in
     let f : First (b ∷ bs) (32 ∷ more) ts = first_word b bs (32 ∷ more) n text ts parts.0 refl is lexed in
-    let x = behind_by f.words f.text more f.others f.left f.lexed in
+    let x = after_by f.words f.text more f.others f.left f.lexed in
     one_more (b ∷ bs) (32 ∷ more) (v ∷ vs) ts f (words_are_read f.words (v ∷ vs) x.0 f.others parts.1 x.1 x.2)

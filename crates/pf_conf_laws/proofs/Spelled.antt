@@ -257,19 +257,19 @@ lists_are_rules law lists all is = few_is (nat_le (length (spelled lists)) COMBI
 -- ---- products
 
 -- one word list more in front
-abbrev Behind : (List Word → Type 0) → (List Word → Type 0) → List Word → Type 0
-Behind P Q ws = (a b : List Word) × P a × Q b × (ws ≡ a ++ b)
+abbrev Joins : (List Word → Type 0) → (List Word → Type 0) → List Word → Type 0
+Joins P Q ws = (a b : List Word) × P a × Q b × (ws ≡ a ++ b)
 
-one_item : (P Q : List Word → Type 0) (a : List Word) → P a → (bs : List (List Word)) → All Q bs → All (Behind P Q) (map (λ (ws : List Word). a ++ ws) bs)
-one_item P Q a is bs all = All-map (Behind P Q) (λ (ws : List Word). a ++ ws) bs (λ k d within. (a, _, is, all k d within, refl))
+one_item : (P Q : List Word → Type 0) (a : List Word) → P a → (bs : List (List Word)) → All Q bs → All (Joins P Q) (map (λ (ws : List Word). a ++ ws) bs)
+one_item P Q a is bs all = All-map (Joins P Q) (λ (ws : List Word). a ++ ws) bs (λ k d within. (a, _, is, all k d within, refl))
 
-each_item : (P Q : List Word → Type 0) (items bs : List (List Word)) → All P items → All Q bs → All (Behind P Q) (flat_map (λ (a : List Word). map (λ (ws : List Word). a ++ ws) bs) items)
-each_item P Q [] bs all others = All-nil (Behind P Q)
+each_item : (P Q : List Word → Type 0) (items bs : List (List Word)) → All P items → All Q bs → All (Joins P Q) (flat_map (λ (a : List Word). map (λ (ws : List Word). a ++ ws) bs) items)
+each_item P Q [] bs all others = All-nil (Joins P Q)
 each_item P Q (a ∷ items) bs all others =
-    All-append (Behind P Q) (map (λ (ws : List Word). a ++ ws) bs) _ (one_item P Q a (all 0 a (omega arith)) bs others)
+    All-append (Joins P Q) (map (λ (ws : List Word). a ++ ws) bs) _ (one_item P Q a (all 0 a (omega arith)) bs others)
     (each_item P Q items bs (λ k d within. all (suc k) d (omega (arith, within))) others)
 
-pub in_front : (P Q : List Word → Type 0) (items : List (List Word)) (lists : List (List (List Word))) → All P items → All Q (spelled lists) → All (Behind P Q) (spelled (items ∷ lists))
+pub in_front : (P Q : List Word → Type 0) (items : List (List Word)) (lists : List (List (List Word))) → All P items → All Q (spelled lists) → All (Joins P Q) (spelled (items ∷ lists))
 unfolding spelled
 in_front P Q items lists all others = each_item P Q items (spelled lists) all others
 

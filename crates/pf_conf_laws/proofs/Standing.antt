@@ -6,7 +6,7 @@ use Rattle.pf_tokens.specs.declared.{place.Place.Place, token.Token.Token}
 use Rattle.pf_tokens.specs.Words.{is_word, is_newline, is_symbol}
 use Rattle.pf_parse.specs.declared.{fault.Stop.Stop, parser.Mode.Mode, statements.Parsed.Parsed, tree.Product.Product, tree.Written.Written}
 use Rattle.pf_parse.specs.{States.State, Beginning.beginning, Laws.begins_rule, Product.product_of}
-use Rattle.pf_parse.specs.Reading.{Word, Reads, ◌>=>◌, looking, first_or, newline_at, next, behind, rest_of, token, takes_word, end_line, without_newlines, newlines, note, behind_line, to_parenthesis, unexpected}
+use Rattle.pf_parse.specs.Reading.{Word, Reads, ◌>=>◌, looking, first_or, newline_at, next, after_token, rest_of, token, takes_word, end_line, without_newlines, newlines, note, after_line, to_parenthesis, unexpected}
 use Rattle.pf_parse.specs.Options.{tests_and_options}
 use Rattle.pf_parse.specs.Openings.{block_policy, direction, log_and_quick}
 use Rattle.pf_parse.specs.Anchors.{enter, shallow, own_name, keep_rule, anchor_opening, braces_or_line, named_anchor, anchor}
@@ -51,8 +51,8 @@ end_if : (all ts us : List Token) (b : Bool) → EndOf all ts → EndOf all us �
 end_if all ts us true first other = first
 end_if all ts us false first other = other
 
-end_behind : (t : Token) (ts us : List Token) → EndOf ts us → EndOf (t ∷ ts) us
-end_behind t ts us (front, is) = (t ∷ front, ap (λ (vs : List Token). t ∷ vs) is)
+end_after : (t : Token) (ts us : List Token) → EndOf ts us → EndOf (t ∷ ts) us
+end_after t ts us (front, is) = (t ∷ front, ap (λ (vs : List Token). t ∷ vs) is)
 
 end_on : (ts us vs : List Token) → EndOf ts us → EndOf us vs → EndOf ts vs
 end_on ts us vs (a, is) (b, too) = (a ++ b, is ∙ ap (λ (ws : List Token). a ++ ws) too ∙ sym (append_assoc a b vs))
@@ -64,22 +64,22 @@ rest_end (t ∷ ts) = (t ∷ [], refl)
 newlines_end : (ts : List Token) → EndOf ts (without_newlines ts)
 unfolding without_newlines
 newlines_end [] = ([], refl)
-newlines_end (t ∷ ts) = end_if (t ∷ ts) _ _ (is_newline t) (end_behind t ts _ (newlines_end ts)) (whole (t ∷ ts))
+newlines_end (t ∷ ts) = end_if (t ∷ ts) _ _ (is_newline t) (end_after t ts _ (newlines_end ts)) (whole (t ∷ ts))
 
 parenthesis_end : (ts : List Token) → EndOf ts (to_parenthesis ts)
 unfolding to_parenthesis
 parenthesis_end [] = ([], refl)
 parenthesis_end (t ∷ ts) =
-    end_if (t ∷ ts) _ _ (is_newline t || is_symbol (codes ")") t) (whole (t ∷ ts)) (end_behind t ts _ (parenthesis_end ts))
+    end_if (t ∷ ts) _ _ (is_newline t || is_symbol (codes ")") t) (whole (t ∷ ts)) (end_after t ts _ (parenthesis_end ts))
 
-line_end : (deep : ℕ) (ts : List Token) → EndOf ts (behind_line deep ts)
-unfolding behind_line
+line_end : (deep : ℕ) (ts : List Token) → EndOf ts (after_line deep ts)
+unfolding after_line
 line_end deep [] = ([], refl)
 line_end deep (t ∷ ts) =
     end_if (t ∷ ts) _ _ (is_newline t && (deep == 0)) (whole (t ∷ ts))
     (end_if (t ∷ ts) _ _ (is_symbol (codes "}") t)
-    (end_if (t ∷ ts) _ _ (deep == 0) (whole (t ∷ ts)) (end_behind t ts _ (line_end (deep - 1) ts)))
-    (end_if (t ∷ ts) _ _ (is_symbol (codes "{") t) (end_behind t ts _ (line_end (deep + 1) ts)) (end_behind t ts _ (line_end deep ts))))
+    (end_if (t ∷ ts) _ _ (deep == 0) (whole (t ∷ ts)) (end_after t ts _ (line_end (deep - 1) ts)))
+    (end_if (t ∷ ts) _ _ (is_symbol (codes "{") t) (end_after t ts _ (line_end (deep + 1) ts)) (end_after t ts _ (line_end deep ts))))
 
 -- ---- what keeps no rule
 
@@ -90,7 +90,7 @@ at : (s : State) → quiet.Leads s s
 at s = (whole s.left, refl)
 
 silent : Basics quiet
-unfolding behind newlines note enter keep_table keep_load order_matters
+unfolding after_token newlines note enter keep_table keep_load order_matters
 silent = record {
   stays = at;
   joins = λ s t u a b. (end_on s.left t.left u.left a.0 b.0, b.1 ∙ a.1);
@@ -176,17 +176,17 @@ named_one p depth name =
     (λ within. record { keeps = λ s. anchor_by p s (braces_or_line p depth name s) within (λ n. product_of p (anchor_opening n d q) x.0 x.1) (λ n. refl) ((walks_braces_or_line quiet silent p depth name).walks s) }))))
 
 -- what follows the first word of a rule
-rule_behind : (s : State) → One (next s).place (behind s) (rule s)
+rule_after : (s : State) → One (next s).place (after_token s) (rule s)
 unfolding rule token
-rule_behind s =
+rule_after s =
     (one_if (next s).place (is_word (codes "block") (next s)) _ _
-    (then_one (next s).place block_policy _ (walks_block_policy quiet silent) (λ _. rule_of_one _ (codes "block") (next s).place)) (rule_of_one _ (codes "pass") (next s).place)).keeps (behind s)
+    (then_one (next s).place block_policy _ (walks_block_policy quiet silent) (λ _. rule_of_one _ (codes "block") (next s).place)) (rule_of_one _ (codes "pass") (next s).place)).keeps (after_token s)
 
-anchor_behind : (s : State) → One (next s).place (behind s) (anchor s)
+anchor_after : (s : State) → One (next s).place (after_token s) (anchor s)
 unfolding anchor token
-anchor_behind s =
+anchor_after s =
     (then_one (next s).place (shallow (next s).place) _ (walks_shallow quiet silent (next s).place)
-    (λ depth. then_one (next s).place own_name _ (walks_own_name quiet silent) (named_one (next s).place depth))).keeps (behind s)
+    (λ depth. then_one (next s).place own_name _ (walks_own_name quiet silent) (named_one (next s).place depth))).keeps (after_token s)
 
 -- ---- rules in order
 
@@ -225,7 +225,7 @@ basics : Basics orderly
 basics = record {
   stays = λ s. quietly s s (silent.stays s);
   joins = comes_on;
-  taken = λ s. quietly s (behind s) (silent.taken s);
+  taken = λ s. quietly s (after_token s) (silent.taken s);
   newlines_taken = from_quiet _ silent.newlines_taken;
   noted = λ p r. from_quiet _ (silent.noted p r);
   line_passed = λ s. quietly s _ (silent.line_passed s);
@@ -246,7 +246,7 @@ first_begins : (u : Token) (us : List Token) → begins_rule u ≡ true → begi
 first_begins u us begins = first_by u us (begins_rule u) refl begins
 
 -- the first word of a rule, and then its rule
-begun_by : {A : Type 0} → (p : Place) (s : State) (ts : List Token) (r : Result (A × State) Stop) → s.left ≡ ts → begins_rule (first_or (newline_at p) ts) ≡ true → (behind s).left ≡ rest_of ts → (behind s).tree.rules ≡ s.tree.rules → One (first_or (newline_at p) ts).place (behind s) r → After orderly s r
+begun_by : {A : Type 0} → (p : Place) (s : State) (ts : List Token) (r : Result (A × State) Stop) → s.left ≡ ts → begins_rule (first_or (newline_at p) ts) ≡ true → (after_token s).left ≡ rest_of ts → (after_token s).tree.rules ≡ s.tree.rules → One (first_or (newline_at p) ts).place (after_token s) r → After orderly s r
 begun_by p s [] (Ok (x, t)) is begins rest rules one = absurd (cc)
 begun_by p s (u ∷ us) (Ok (x, t)) is begins rest rules ((front, end), w, here, kept) = record {
   front = u ∷ front;
@@ -257,13 +257,13 @@ begun_by p s (u ∷ us) (Ok (x, t)) is begins rest rules ((front, end), w, here,
 }
 begun_by p s ts (Err e) is begins rest rules one = tt
 
-begun : {A : Type 0} → (s : State) (r : Result (A × State) Stop) → begins_rule (next s) ≡ true → One (next s).place (behind s) r → After orderly s r
-unfolding next behind
+begun : {A : Type 0} → (s : State) (r : Result (A × State) Stop) → begins_rule (next s) ≡ true → One (next s).place (after_token s) r → After orderly s r
+unfolding next after_token
 begun s r begins one = begun_by s.end_place s s.left r refl begins refl refl one
 
 start_by : (s : State) (is_pass is_anchor : Bool) → is_rule (next s) ≡ is_pass → is_word (codes "anchor") (next s) ≡ is_anchor → After {A = Unit {0}} orderly s (cond is_pass rule (cond is_anchor anchor unexpected) s)
-start_by s true is_anchor pass other = begun s (rule s) (ap (λ (b : Bool). b || is_word (codes "anchor") (next s)) pass) (rule_behind s)
-start_by s false true pass is = begun s (anchor s) (ap (λ (b : Bool). b || is_word (codes "anchor") (next s)) pass ∙ is) (anchor_behind s)
+start_by s true is_anchor pass other = begun s (rule s) (ap (λ (b : Bool). b || is_word (codes "anchor") (next s)) pass) (rule_after s)
+start_by s false true pass is = begun s (anchor s) (ap (λ (b : Bool). b || is_word (codes "anchor") (next s)) pass ∙ is) (anchor_after s)
 start_by s false false pass other = tt
 
 rules : Rules orderly

@@ -12,7 +12,7 @@ use Rattle.pf_parse.specs.declared.fault.Reason.TheVariants.{InterfaceAddress}
 use Rattle.pf_parse.specs.declared.fault.LeftOut.TheVariants as left_out
 use Rattle.pf_parse.specs.declared.fault.Mistake.TheVariants as mistakes
 use Rattle.pf_parse.specs.States.{State}
-use Rattle.pf_parse.specs.Reading.{Word, Reads, giving, ◌>=>◌, refusing, looking, first_or, newline_at, rest_of, next, second, behind, is_at_end, token, unexpected, refused_at, expect, string, value, end_line, is_empty_list, without_newlines, newlines, note, leave_out, leave_out_in, leave_out_next, behind_line, skip_line, to_parenthesis, in_order, repeating}
+use Rattle.pf_parse.specs.Reading.{Word, Reads, giving, ◌>=>◌, refusing, looking, first_or, newline_at, rest_of, next, second, after_token, is_at_end, token, unexpected, refused_at, expect, string, value, end_line, is_empty_list, without_newlines, newlines, note, leave_out, leave_out_in, leave_out_next, after_line, skip_line, to_parenthesis, in_order, repeating}
 use Rattle.pf_parse.specs.Lists.{looking_at, begin_list, list_goes_on, item_more, list, one, no_list, listed_item, table_name, not_negated, interface, protocol, operator, compared, ranged, port_by, port, named_host, net_host, other_host, host, not_any, listed_hosts, hosts_in, host_list}
 use Rattle.pf_parse.specs.Options.{is_anchor, state, label, flags, queue, tag, priority, unexpected_option, left_out_option, option, is_state, ends_options, options_more}
 use Rattle.pf_parse.specs.Openings.{block_policy}
@@ -42,8 +42,8 @@ unfolding without_newlines
 newlines_shorter [] = omega arith
 newlines_shorter (t ∷ ts) = shorter_if (is_newline t) (length (t ∷ ts)) (without_newlines ts) (t ∷ ts) (omega (arith, newlines_shorter ts)) (same_left (length (t ∷ ts)))
 
-line_shorter : (deep : ℕ) (ts : List Token) → length (behind_line deep ts) ≤ length ts
-unfolding behind_line
+line_shorter : (deep : ℕ) (ts : List Token) → length (after_line deep ts) ≤ length ts
+unfolding after_line
 line_shorter deep [] = omega arith
 line_shorter deep (t ∷ ts) =
     let n : ℕ = length (t ∷ ts) in
@@ -59,7 +59,7 @@ parenthesis_shorter (t ∷ ts) =
     shorter_if (is_newline t || is_symbol (codes ")") t) (length (t ∷ ts)) _ _ (same_left (length (t ∷ ts))) (omega (arith, parenthesis_shorter ts))
 
 basics : Basics shorter
-unfolding behind newlines note enter keep_table keep_load order_matters
+unfolding after_token newlines note enter keep_table keep_load order_matters
 basics = record {
   stays = λ s. same_left (length s.left);
   joins = λ s t u first then. omega (arith, first, then);
@@ -103,12 +103,12 @@ unfolding rule
 rule_shorter = on token _ (walks_token shorter basics) (λ t. walks_if shorter basics (is_word (codes "block") t) _ _
     (on block_policy _ (walks_block_policy shorter basics) (λ _. rule_of_shorter _ _ t.place)) (rule_of_shorter _ _ t.place))
 
-behind_anchor : (t : Token) → Walks shorter (shallow t.place >=> λ depth. own_name >=> named_anchor t.place depth)
-behind_anchor t = on _ _ (walks_shallow shorter basics t.place) (λ depth. on own_name _ (walks_own_name shorter basics) (named_anchor_shorter t.place depth))
+after_anchor : (t : Token) → Walks shorter (shallow t.place >=> λ depth. own_name >=> named_anchor t.place depth)
+after_anchor t = on _ _ (walks_shallow shorter basics t.place) (λ depth. on own_name _ (walks_own_name shorter basics) (named_anchor_shorter t.place depth))
 
 anchor_shorter : Walks shorter anchor
 unfolding anchor
-anchor_shorter = on token _ (walks_token shorter basics) behind_anchor
+anchor_shorter = on token _ (walks_token shorter basics) after_anchor
 
 skip_one_shorter : (t : Token) → Walks shorter (skip_one t)
 unfolding skip_one
@@ -233,13 +233,13 @@ still_giving x = record { still = λ s. (refl, refl) }
 -- ---- tokens
 
 -- a token that isn't the newline behind all tokens is one of those that are left
-fewer_behind : (test : Token → Bool) (p : Place) (ts : List Token) → test (newline_at p) ≡ false → test (first_or (newline_at p) ts) ≡ true → length (rest_of ts) < length ts
-fewer_behind test p [] none passes = cc (none, passes)
-fewer_behind test p (t ∷ ts) none passes = omega arith
+fewer_after : (test : Token → Bool) (p : Place) (ts : List Token) → test (newline_at p) ≡ false → test (first_or (newline_at p) ts) ≡ true → length (rest_of ts) < length ts
+fewer_after test p [] none passes = cc (none, passes)
+fewer_after test p (t ∷ ts) none passes = omega arith
 
-one_taken : (test : Token → Bool) (s : State) → test (newline_at s.end_place) ≡ false → test (next s) ≡ true → length (behind s).left < length s.left
-unfolding next behind
-one_taken test s none passes = fewer_behind test s.end_place s.left none passes
+one_taken : (test : Token → Bool) (s : State) → test (newline_at s.end_place) ≡ false → test (next s) ≡ true → length (after_token s).left < length s.left
+unfolding next after_token
+one_taken test s none passes = fewer_after test s.end_place s.left none passes
 
 expected : (test : Token → Bool) (s : State) (b : Bool) → test (newline_at s.end_place) ≡ false → test (next s) ≡ b → Fewer {A = Token} (length s.left) (cond b (token s) (unexpected s))
 unfolding token
@@ -284,18 +284,18 @@ eats_repeating again all (suc n) x =
 abbrev Progress : {A : Type 0} → (A → Reads (A × Bool)) → Type 0
 Progress {A} again = (x : A) (s : State) (y : A) (t : State) → again x s ≡ Ok ((y, true), t) → length t.left < length s.left
 
-same_behind : {A : Type 0} → (again : A → Reads (A × Bool)) (n m : ℕ) (r : Result ((A × Bool) × State) Stop) → ((y : A) (t : State) → r ≡ Ok ((y, true), t) → repeating again n y t ≡ repeating again m y t)
+same_after : {A : Type 0} → (again : A → Reads (A × Bool)) (n m : ℕ) (r : Result ((A × Bool) × State) Stop) → ((y : A) (t : State) → r ≡ Ok ((y, true), t) → repeating again n y t ≡ repeating again m y t)
     → (r >>= λ (z, t). cond z.1 (repeating again n z.0) (giving z.0) t) ≡ (r >>= λ (z, t). cond z.1 (repeating again m z.0) (giving z.0) t)
-same_behind again n m (Ok ((y, true), t)) same = same y t refl
-same_behind again n m (Ok ((y, false), t)) same = refl
-same_behind again n m (Err e) same = refl
+same_after again n m (Ok ((y, true), t)) same = same y t refl
+same_after again n m (Ok ((y, false), t)) same = refl
+same_after again n m (Err e) same = refl
 
 same_turns : {A : Type 0} → (again : A → Reads (A × Bool)) → Progress again → (n m : ℕ) (x : A) (s : State) → length s.left < n → length s.left < m → repeating again n x s ≡ repeating again m x s
 unfolding repeating
 same_turns again less zero m x s few other = absurd (omega (arith, few))
 same_turns again less (suc n) zero x s few other = absurd (omega (arith, other))
 same_turns again less (suc n) (suc m) x s few other =
-    same_behind again n m (again x s) (λ y t is. let step : length t.left < length s.left = less x s y t is in same_turns again less n m y t (omega (arith, step, few)) (omega (arith, step, other)))
+    same_after again n m (again x s) (λ y t is. let step : length t.left < length s.left = less x s y t is in same_turns again less n m y t (omega (arith, step, few)) (omega (arith, step, other)))
 
 suffice : {A : Type 0} → (again : A → Reads (A × Bool)) → Progress again → TurnsSuffice again
 suffice again less x s turns few = same_turns again less turns (length s.left + 1) x s few (omega arith)
@@ -510,8 +510,8 @@ no_end kinds.Symbol a b c is = absurd (cc)
 no_end kinds.Macro a b c is = absurd (cc)
 no_end kinds.Newline a b c is = absurd (cc)
 
-word_skipped : (ts : List Token) (p : Place) → is_left_out_line (first_or (newline_at p) ts) ≡ true → length (behind_line 0 ts) < length ts
-unfolding behind_line
+word_skipped : (ts : List Token) (p : Place) → is_left_out_line (first_or (newline_at p) ts) ≡ true → length (after_line 0 ts) < length ts
+unfolding after_line
 word_skipped [] p is = absurd (cc)
 word_skipped (t ∷ ts) p is =
     let none = no_end t.kind _ _ _ is in
@@ -520,7 +520,7 @@ word_skipped (t ∷ ts) p is =
 takes_skip_line : Takes is_left_out_line skip_line
 unfolding skip_line next
 takes_skip_line = record {
-  takes = λ s passes. fewer_on (length s.left) (record s { left = behind_line 0 s.left }) (end_line (record s { left = behind_line 0 s.left })) (word_skipped s.left s.end_place passes) ((walks_end_line shorter basics).walks (record s { left = behind_line 0 s.left }));
+  takes = λ s passes. fewer_on (length s.left) (record s { left = after_line 0 s.left }) (end_line (record s { left = after_line 0 s.left })) (word_skipped s.left s.end_place passes) ((walks_end_line shorter basics).walks (record s { left = after_line 0 s.left }));
 }
 
 takes_left_out_line : Takes is_left_out_line left_out_line
@@ -559,7 +559,7 @@ takes_rule = takes_first _ (λ t. walks_if shorter basics (is_word (codes "block
 
 takes_anchor : Takes goes_on anchor
 unfolding anchor
-takes_anchor = takes_first _ behind_anchor
+takes_anchor = takes_first _ after_anchor
 
 takes_rule_or_anchor : Takes goes_on rule_or_anchor
 unfolding rule_or_anchor
@@ -594,7 +594,7 @@ some_left [] is = absurd (cc)
 some_left (t ∷ ts) is = omega arith
 
 newline_taken : (s : State) → is_at_end s ≡ false → Fewer {A = Unit {0}} (length s.left) ((token >=> λ _. giving tt) s)
-unfolding token behind
+unfolding token after_token
 newline_taken s more = some_left s.left more
 
 any_line_by : (s : State) (b : Bool) → is_at_end s ≡ false → is_newline (next s) ≡ b

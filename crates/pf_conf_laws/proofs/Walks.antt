@@ -6,12 +6,12 @@ use Rattle.pf_tokens.specs.Words.{is_word, is_symbol, is_newline, is_number, is_
 use Rattle.pf_lists.specs.declared.hosts.Host.{Host}
 use Rattle.pf_parse.specs.declared.{fault.LeftOut.LeftOut, fault.Mistake.Mistake, fault.Remark.Remark, fault.Stop.Stop, parser.Mode.Mode, parser.Mode.TheVariants.{Strict, Lenient}, tree.Entries.Entries, tree.Load.Load, tree.Table.Table}
 use Rattle.pf_parse.specs.States.{State}
-use Rattle.pf_parse.specs.Reading.{Word, Reads, giving, ◌>=>◌, refusing, looking, next, second, behind, is_at_end, token, takes_word, takes_symbol, unexpected, expect, passing, expect_word, expect_symbol, string, value, end_line, is_empty_list, newlines, note, leave_out, leave_out_in, leave_out_next, behind_line, skip_line, to_parenthesis, end_parentheses, skip_parentheses, in_order, repeating, repeated}
-use Rattle.pf_parse.specs.Lists.{looking_at, from, begin_list, behind_comma, behind_item, list_goes_on, item_more, list, one, no_list, listed_item, one_or_items, one_or_list, table_name, noted_group, not_negated, interface, interfaces, protocol, or_same, operator, compared, between, ranged, port_by, port, tested, all_tested, named_host, with_length, address, no_range, net_host, other_host, host, not_any, listed_hosts, hosts_in, host_list, hosts}
-use Rattle.pf_parse.specs.Criteria.{behind_word, tested_interfaces, family, protocols, side_hosts, side, sides, tests}
+use Rattle.pf_parse.specs.Reading.{Word, Reads, giving, ◌>=>◌, refusing, looking, next, second, after_token, is_at_end, token, takes_word, takes_symbol, unexpected, expect, passing, expect_word, expect_symbol, string, value, end_line, is_empty_list, newlines, note, leave_out, leave_out_in, leave_out_next, after_line, skip_line, to_parenthesis, end_parentheses, skip_parentheses, in_order, repeating, repeated}
+use Rattle.pf_parse.specs.Lists.{looking_at, from, begin_list, after_comma, after_item, list_goes_on, item_more, list, one, no_list, listed_item, one_or_items, one_or_list, table_name, noted_group, not_negated, interface, interfaces, protocol, or_same, operator, compared, between, ranged, port_by, port, tested, all_tested, named_host, with_length, address, no_range, net_host, other_host, host, not_any, listed_hosts, hosts_in, host_list, hosts}
+use Rattle.pf_parse.specs.Criteria.{if_word, tested_interfaces, family, protocols, side_hosts, side, sides, tests}
 use Rattle.pf_parse.specs.Options.{once, state_options, kept, state, label_of, label, letters, flags_of, set_flags, written_flags, flags, skip_string, queue_name, queue, tag, named_priority, priority_value, priority, unexpected_option, left_out_option, option, options_more, said, closing, tests_and_options}
 use Rattle.pf_parse.specs.Openings.{skip_drop, block_policy, direction, log, log_and_quick}
-use Rattle.pf_parse.specs.Anchors.{quoted_path, anchor_name, own_name, name_alone, newline_behind_brace, next_number, enter, open_braces, braces_or_line, shallow, anchor, leave_braces, close_braces}
+use Rattle.pf_parse.specs.Anchors.{quoted_path, anchor_name, own_name, name_alone, newline_after_brace, next_number, enter, open_braces, braces_or_line, shallow, anchor, leave_braces, close_braces}
 use Rattle.pf_parse.specs.Lines.{is_rule, rule, listed, table_part, parts_more, table_parts, keep_table, name_in_angles, table, keep_load, loaded_path, loaded_file, load, in_main, skip, order_matters, set_order, require_order, set_option, is_setting, setting, set_line, left_out_line, no_line, rule_or_anchor, filtering, line, line_in_braces, any_line, all_closed, line_more, lines_more, lines}
 use Rattle.pf_conf_laws.specs.Types.{Start, Tests, Options, Rank, Operator, Named}
 
@@ -31,10 +31,10 @@ pub record Walks {A : Type 0} (k : Walk) (read : Reads A) : Type 0 where
 pub record Basics (k : Walk) : Type 0 where
   pub stays : (s : State) → k.Leads s s
   pub joins : (s t u : State) → k.Leads s t → k.Leads t u → k.Leads s u
-  pub taken : (s : State) → k.Leads s (behind s)
+  pub taken : (s : State) → k.Leads s (after_token s)
   pub newlines_taken : Walks k newlines
   pub noted : (p : Place) (r : Remark) → Walks k (note p r)
-  pub line_passed : (s : State) → k.Leads s (record s { left = behind_line 0 s.left })
+  pub line_passed : (s : State) → k.Leads s (record s { left = after_line 0 s.left })
   pub parenthesis_passed : (s : State) → k.Leads s (record s { left = to_parenthesis s.left })
   pub ranked : (s : State) (r : Rank) → k.Leads s (record s { rank = r })
   pub order_set : (b : Bool) → Walks k (order_matters b)
@@ -115,7 +115,7 @@ pub walks_token : (k : Walk) → Basics k → Walks k token
 unfolding token
 walks_token k basics = record { walks = λ s. basics.taken s }
 
-taken_or_not : (k : Walk) → Basics k → (b : Bool) (s : State) → After {A = Bool} k s (cond b (Ok (true, behind s)) (Ok (false, s)))
+taken_or_not : (k : Walk) → Basics k → (b : Bool) (s : State) → After {A = Bool} k s (cond b (Ok (true, after_token s)) (Ok (false, s)))
 taken_or_not k basics true s = basics.taken s
 taken_or_not k basics false s = basics.stays s
 
@@ -134,7 +134,7 @@ expected k basics false s = tt
 pub walks_expect : (k : Walk) → Basics k → (test : Token → Bool) → Walks k (expect test)
 walks_expect k basics test = record { walks = λ s. expected k basics (test (next s)) s }
 
-passed : (k : Walk) → Basics k → (b : Bool) (s : State) → After {A = Unit {0}} k s (cond b (Ok (tt, behind s)) (unexpected s))
+passed : (k : Walk) → Basics k → (b : Bool) (s : State) → After {A = Unit {0}} k s (cond b (Ok (tt, after_token s)) (unexpected s))
 passed k basics true s = basics.taken s
 passed k basics false s = tt
 
@@ -166,7 +166,7 @@ walks_newlines k basics = basics.newlines_taken
 
 pub walks_skip_line : (k : Walk) → Basics k → Walks k skip_line
 unfolding skip_line
-walks_skip_line k basics = record { walks = λ s. walks_on k basics s (record s { left = behind_line 0 s.left }) (end_line (record s { left = behind_line 0 s.left })) (basics.line_passed s) ((walks_end_line k basics).walks (record s { left = behind_line 0 s.left })) }
+walks_skip_line k basics = record { walks = λ s. walks_on k basics s (record s { left = after_line 0 s.left }) (end_line (record s { left = after_line 0 s.left })) (basics.line_passed s) ((walks_end_line k basics).walks (record s { left = after_line 0 s.left })) }
 
 pub walks_end_parentheses : (k : Walk) → Basics k → (b : Bool) → Walks k (end_parentheses b)
 walks_end_parentheses k basics false = walks_giving k basics tt
@@ -217,17 +217,17 @@ pub walks_begin_list : (k : Walk) → Basics k → Walks k begin_list
 unfolding begin_list
 walks_begin_list k basics = search steps
 
-pub walks_behind_comma : (k : Walk) → Basics k → (b : Bool) → Walks k (behind_comma b)
-walks_behind_comma k basics false = search steps
-walks_behind_comma k basics true = search steps
+pub walks_after_comma : (k : Walk) → Basics k → (b : Bool) → Walks k (after_comma b)
+walks_after_comma k basics false = search steps
+walks_after_comma k basics true = search steps
 
-pub walks_behind_item : (k : Walk) → Basics k → (b : Bool) → Walks k (behind_item b)
-walks_behind_item k basics true = search steps
-walks_behind_item k basics false = walks_then k basics _ _ (walks_takes_symbol k basics _) (walks_behind_comma k basics)
+pub walks_after_item : (k : Walk) → Basics k → (b : Bool) → Walks k (after_item b)
+walks_after_item k basics true = search steps
+walks_after_item k basics false = walks_then k basics _ _ (walks_takes_symbol k basics _) (walks_after_comma k basics)
 
 pub walks_list_goes_on : (k : Walk) → Basics k → Walks k list_goes_on
 unfolding list_goes_on
-walks_list_goes_on k basics = search (steps, walks_behind_item)
+walks_list_goes_on k basics = search (steps, walks_after_item)
 
 pub walks_item_more : (k : Walk) → Basics k → {A : Type 0} → (item : Reads (List A)) (xs : List A) → Walks k item → Walks k (item_more item xs)
 walks_item_more k basics item xs same =
@@ -355,16 +355,16 @@ walks_hosts k basics = walks_look k basics _ (λ t. walks_if k basics (is_symbol
 
 -- ---- what a rule tests
 
-pub walks_behind_word : (k : Walk) → Basics k → {A : Type 0} → (w : Word) (read : Reads A) (x : A) → Walks k read → Walks k (behind_word w read x)
-walks_behind_word k basics w read x same = walks_then k basics (takes_word w) _ (walks_takes_word k basics w) (λ is. walks_if k basics is read _ same (walks_giving k basics x))
+pub walks_after_word : (k : Walk) → Basics k → {A : Type 0} → (w : Word) (read : Reads A) (x : A) → Walks k read → Walks k (if_word w read x)
+walks_after_word k basics w read x same = walks_then k basics (takes_word w) _ (walks_takes_word k basics w) (λ is. walks_if k basics is read _ same (walks_giving k basics x))
 
 pub walks_tested_interfaces : (k : Walk) → Basics k → Walks k tested_interfaces
 unfolding tested_interfaces
-walks_tested_interfaces k basics = search (steps, walks_behind_word, walks_interfaces)
+walks_tested_interfaces k basics = search (steps, walks_after_word, walks_interfaces)
 
 pub walks_family : (k : Walk) → Basics k → Walks k family
 unfolding family
-walks_family k basics = search (steps, walks_behind_word)
+walks_family k basics = search (steps, walks_after_word)
 
 pub walks_side_hosts : (k : Walk) → Basics k → Walks k side_hosts
 unfolding side_hosts
@@ -372,17 +372,17 @@ walks_side_hosts k basics = search (steps, walks_hosts) depth 10
 
 pub walks_protocols : (k : Walk) → Basics k → Walks k protocols
 unfolding protocols all_tested tested
-walks_protocols k basics = walks_behind_word k basics _ _ _ (walks_one_or_list k basics protocol (walks_protocol k basics))
+walks_protocols k basics = walks_after_word k basics _ _ _ (walks_one_or_list k basics protocol (walks_protocol k basics))
 
 pub walks_side : (k : Walk) → Basics k → Walks k side
 unfolding side all_tested tested
 walks_side k basics =
     walks_then k basics side_hosts _ (walks_side_hosts k basics)
-    (λ hs. walks_then k basics _ _ (walks_behind_word k basics _ _ _ (walks_one_or_list k basics port (walks_port k basics))) (λ ps. walks_giving k basics _))
+    (λ hs. walks_then k basics _ _ (walks_after_word k basics _ _ _ (walks_one_or_list k basics port (walks_port k basics))) (λ ps. walks_giving k basics _))
 
 pub walks_sides : (k : Walk) → Basics k → Walks k sides
 unfolding sides
-walks_sides k basics = search (steps, walks_behind_word, walks_side) depth 10
+walks_sides k basics = search (steps, walks_after_word, walks_side) depth 10
 
 pub walks_tests : (k : Walk) → Basics k → Walks k tests
 unfolding tests
@@ -529,16 +529,16 @@ unfolding name_alone
 walks_name_alone k basics p None = search steps
 walks_name_alone k basics p (Some t) = search steps
 
-pub walks_newline_behind_brace : (k : Walk) → Basics k → Walks k newline_behind_brace
-unfolding newline_behind_brace
-walks_newline_behind_brace k basics = search steps
+pub walks_newline_after_brace : (k : Walk) → Basics k → Walks k newline_after_brace
+unfolding newline_after_brace
+walks_newline_after_brace k basics = search steps
 
 pub walks_enter : (k : Walk) → Basics k → (p : Place) (depth : ℕ) (name : Word) → Walks k (enter p depth name)
 walks_enter k basics p depth name = basics.entered p depth name
 
 pub walks_open_braces : (k : Walk) → Basics k → (p : Place) (depth : ℕ) (name : Option Token) → Walks k (open_braces p depth name)
 unfolding open_braces
-walks_open_braces k basics p depth name = search (steps, walks_newline_behind_brace, walks_enter)
+walks_open_braces k basics p depth name = search (steps, walks_newline_after_brace, walks_enter)
 
 pub walks_braces_or_line : (k : Walk) → Basics k → (p : Place) (depth : ℕ) (name : Option Token) → Walks k (braces_or_line p depth name)
 unfolding braces_or_line

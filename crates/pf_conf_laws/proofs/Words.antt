@@ -16,17 +16,17 @@ use Rattle.pf_tokens.specs.{Places.text_of, Words.{is_word}}
 use Rattle.pf_parse.specs.declared.{fault.Stop.Stop, parser.Mode.Mode, statements.Parsed.Parsed, tree.Product.Product, tree.Written.Written, tree.Tree.Tree}
 use Rattle.pf_parse.specs.declared.fault.LeftOut.TheVariants as left_out
 use Rattle.pf_parse.specs.{States.State, Beginning.beginning, Product.{only, keyword, product_of}}
-use Rattle.pf_parse.specs.Reading.{Reads, giving, ◌>=>◌, looking, behind, newlines, note, token, takes_word, takes_symbol, expect_word, end_line}
+use Rattle.pf_parse.specs.Reading.{Reads, giving, ◌>=>◌, looking, after_token, newlines, note, token, takes_word, takes_symbol, expect_word, end_line}
 use Rattle.pf_parse.specs.Criteria.{interface_word, interface_words, no_tests}
 use Rattle.pf_parse.specs.Options.{is_anchor, state_words, label_words, tests_and_options}
 use Rattle.pf_parse.specs.Openings.{block_policy, direction, direction_words, quick_words, log_and_quick}
 use Rattle.pf_parse.specs.Lists.{from, interfaces}
-use Rattle.pf_parse.specs.Anchors.{in_quotes, has_slash, no_fault, own_name, name_alone, name_in_braces, newline_behind_brace, next_number, enter, open_braces, braces_or_line, shallow, keep_rule, anchor_opening, named_anchor, anchor}
+use Rattle.pf_parse.specs.Anchors.{in_quotes, has_slash, no_fault, own_name, name_alone, name_in_braces, newline_after_brace, next_number, enter, open_braces, braces_or_line, shallow, keep_rule, anchor_opening, named_anchor, anchor}
 use Rattle.pf_parse.specs.Lines.{rule_opening, keep_table, keep_load, order_matters, rule_of, rule, skip_rule, keep_skip, skip_one, skip_each, in_main, skip, lines, parsed_of, parsed}
 use Rattle.pf_conf_laws.specs.{Types.{first_of, Start, Tests}, Words.HasRulesAlone}
 use Rattle.pf_conf_laws.proofs.Walks.{Walk, Walks, After, Basics, Rules, either_walks, walks_on, walks_then, walks_if, walks_within, walks_token, walks_end_line, walks_direction, walks_log_and_quick, walks_tests_and_options, walks_block_policy, walks_takes_word, walks_shallow, walks_own_name, walks_braces_or_line, walks_leave_out, walks_giving, walks_in_main, walks_expect_word, walks_interfaces, walks_lines}
 use Rattle.pf_conf_laws.proofs.Spelled.{ReadsSpelled, lists_are_rules, Spelled, Opens, AllSpelled, rule_spelled, in_front, no_lists, pass_opens, block_opens, anchor_opens, way_spelled, quick_spelled, not_quick_spelled, no_family_spelled, no_protocol_spelled, keep_spelled, no_state_spelled, stateless_spelled, label_spelled, unlabelled_spelled}
-use Rattle.pf_conf_laws.proofs.Yields.{Yields, yields_behind, yields_giving, yields_if, OnInterface, LabelIs, AreTests, any_is_side, AreClosing, AreBoth, IsNamedAnchor, MayBeNamed, yields_tests_and_options, yields_own_name, yields_interfaces}
+use Rattle.pf_conf_laws.proofs.Yields.{Yields, yields_after, yields_giving, yields_if, OnInterface, LabelIs, AreTests, any_is_side, AreClosing, AreBoth, IsNamedAnchor, MayBeNamed, yields_tests_and_options, yields_own_name, yields_interfaces}
 
 -- ---- a product
 
@@ -157,7 +157,7 @@ stays : (s : State) → keeping.Leads s s
 stays s = (same_length (length s.tree.braces), λ few well. well)
 
 basics : Basics keeping
-unfolding behind newlines note enter keep_table keep_load order_matters
+unfolding after_token newlines note enter keep_table keep_load order_matters
 basics = record {
   stays = stays;
   joins = λ s t u a b. (not_more (length s.tree.braces) (length t.tree.braces) (length u.tree.braces) a.0 b.0, λ few well. b.1 few (a.1 (below_on (length t.tree.braces) (length u.tree.braces) (2 ^ 64) b.0 few) well));
@@ -212,8 +212,8 @@ gives_way d so = yields_giving IsWay d so
 yields_direction : Yields IsWay direction
 unfolding direction
 yields_direction =
-    yields_behind IsWay (takes_word (codes "in")) _ (λ is_in. yields_if IsWay is_in _ _ (λ _. gives_way _ (way_spelled (Some Inward) _ refl))
-    (λ _. yields_behind IsWay (takes_word (codes "out")) _ (λ is_out. gives_either is_out _ None (way_spelled (Some Outward) _ refl) (way_spelled None [] refl))))
+    yields_after IsWay (takes_word (codes "in")) _ (λ is_in. yields_if IsWay is_in _ _ (λ _. gives_way _ (way_spelled (Some Inward) _ refl))
+    (λ _. yields_after IsWay (takes_word (codes "out")) _ (λ is_out. gives_either is_out _ None (way_spelled (Some Outward) _ refl) (way_spelled None [] refl))))
 
 quick_is : (b : Bool) → Spelled (if_there (codes "quick")) (quick_words b)
 quick_is true = quick_spelled
@@ -307,8 +307,8 @@ name_by : {A : Type 0} → (next_read : A → Reads Word) (r : Result (A × Stat
 name_by next_read (Ok (x, u)) all n t is = (all x).named u n t is
 name_by next_read (Err e) all n t is = absurd (cc)
 
-name_behind : {A : Type 0} → (read : Reads A) (next_read : A → Reads Word) → ((x : A) → YieldsName (next_read x)) → YieldsName (read >=> next_read)
-name_behind read next_read all = record { named = λ s n t is. name_by next_read (read s) all n t is }
+name_after : {A : Type 0} → (read : Reads A) (next_read : A → Reads Word) → ((x : A) → YieldsName (next_read x)) → YieldsName (read >=> next_read)
+name_after read next_read all = record { named = λ s n t is. name_by next_read (read s) all n t is }
 
 gives_name : (w : Word) → IsNamedAnchor w → YieldsName (giving w)
 gives_name w so = record { named = λ s n t is few. let pair : (w, s) ≡ (n, t) = cc in subst IsNamedAnchor (ap (λ (y : Word × State). y.0) pair) so }
@@ -349,16 +349,16 @@ number_named p depth (Some x) u n t so is few = named_by p depth (has_slash (tex
 
 open_named : (p : Place) (depth : ℕ) (name : Option Token) → MayBeNamed name → YieldsName (open_braces p depth name)
 unfolding open_braces
-open_named p depth name so = name_behind newline_behind_brace _ (λ _. record { named = λ u n t is. number_named p depth name u n t so is })
+open_named p depth name so = name_after newline_after_brace _ (λ _. record { named = λ u n t is. number_named p depth name u n t so is })
 
 alone_named : (p : Place) (name : Option Token) → MayBeNamed name → YieldsName (name_alone p name)
 unfolding name_alone
 alone_named p None so = no_name _
-alone_named p (Some x) so = name_behind end_line _ (λ _. gives_name (text_of x.text) so)
+alone_named p (Some x) so = name_after end_line _ (λ _. gives_name (text_of x.text) so)
 
 braces_named : (p : Place) (depth : ℕ) (name : Option Token) → MayBeNamed name → YieldsName (braces_or_line p depth name)
 unfolding braces_or_line
-braces_named p depth name so = name_behind (takes_symbol (codes "{")) _ (λ has. name_if has (open_braces p depth name) (name_alone p name) (open_named p depth name so) (alone_named p name so))
+braces_named p depth name so = name_after (takes_symbol (codes "{")) _ (λ has. name_if has (open_braces p depth name) (name_alone p name) (open_named p depth name so) (alone_named p name so))
 
 -- what an anchor rule has for options
 anchor_label : (start : Start) (l : Option Word) → is_anchor start ≡ true → LabelIs start l → Spelled (a_label false) (label_words l)
@@ -388,9 +388,9 @@ anchor_by p within d q ts cs s (Ok (n, t)) way tests closing names after = (
 )
 anchor_by p within d q ts cs s (Err e) way tests closing names after = tt
 
-anchor_behind : (p : Place) (depth within : ℕ) (name : Option Token) (d : Way) (q : Bool) (ts : Tests) (cs : List Word) → MayBeNamed name → IsWay d → AreTests ts → Closing false false cs
+anchor_after : (p : Place) (depth within : ℕ) (name : Option Token) (d : Way) (q : Bool) (ts : Tests) (cs : List Word) → MayBeNamed name → IsWay d → AreTests ts → Closing false false cs
     → Walks keeping (braces_or_line p depth name >=> λ n. keep_rule within (product_of p (anchor_opening n d q) ts cs))
-anchor_behind p depth within name d q ts cs named way tests closing = record {
+anchor_after p depth within name d q ts cs named way tests closing = record {
   walks = λ s. anchor_by p within d q ts cs s (braces_or_line p depth name s) way tests closing ((braces_named p depth name named).named s) ((walks_braces_or_line keeping basics p depth name).walks s);
 }
 
@@ -398,7 +398,7 @@ anchor_options : (start : Start) (p : Place) (depth : ℕ) (name : Option Token)
     → Walks keeping (tests_and_options start >=> λ x. looking (λ s. s.within) >=> λ within. braces_or_line p depth name >=> λ n. keep_rule within (product_of p (anchor_opening n d q) x.0 x.1))
 anchor_options start p depth name d q is none named way =
     good_then (AreBoth start) (tests_and_options start) _ (yields_tests_and_options start) (walks_tests_and_options keeping basics start)
-    (λ x so. walks_within keeping basics _ (λ within. anchor_behind p depth within name d q x.0 x.1 named way so.0 (anchor_closing start x.1 is none so.1)))
+    (λ x so. walks_within keeping basics _ (λ within. anchor_after p depth within name d q x.0 x.1 named way so.0 (anchor_closing start x.1 is none so.1)))
 
 named_kept : (p : Place) (depth : ℕ) (name : Option Token) → MayBeNamed name → Walks keeping (named_anchor p depth name)
 unfolding named_anchor

@@ -25,7 +25,7 @@ use Rattle.pf_parse.specs.States.{State}
 use Rattle.pf_parse.specs.Values.{value_at, protocol_by, protocol_of, protocol_words, operand, words_of_ports, port_words, net_at_place}
 use Rattle.pf_parse.specs.Reading.{Word, Reads, giving, ◌>=>◌, refusing, next, token, takes_word, takes_symbol, unexpected, leave_out, refused_at, expect_word, expect_symbol, string, value, repeating, repeated}
 use Rattle.pf_parse.specs.Lists.{looking_at, from, begin_list, list_goes_on, item_more, list, one, no_list, listed_item, one_or_items, one_or_list, name_checked, table_checked, table_name, not_negated, interface_checked, interface, interfaces, protocol, text_of_operator, one_port, two_ports, or_same, operator, compared, between, ranged, port_by, port, tested, all_tested, table_host, named_host, address, no_range, host_of_net, net_host, other_host, host, not_any, listed_hosts, hosts_in, host_list, hosts}
-use Rattle.pf_parse.specs.Criteria.{nothing, any_host, any_side, interface_word, interface_words, behind_word, tested_interfaces, family, protocols, side_hosts, side, sides, tests}
+use Rattle.pf_parse.specs.Criteria.{nothing, any_host, any_side, interface_word, interface_words, if_word, tested_interfaces, family, protocols, side_hosts, side, sides, tests}
 use Rattle.pf_parse.specs.Options.{is_anchor, is_ok_name, label_of, label, state, flags, left_out_option, option, is_state, ends_options, options_more, nothing_said, said, state_words, label_words, closing, tests_and_options, once, kept, written_flags}
 use Rattle.pf_parse.specs.Anchors.{in_quotes, no_fault, name_fault, fault_checked, path_checked, is_reserved, quoted_path, anchor_name, own_name}
 use Rattle.pf_conf.proofs.Kept.{both, if_not}
@@ -46,8 +46,8 @@ pub yields_then : {A B : Type 0} → (P : A → Type 0) (Q : B → Type 0) (read
 yields_then P Q read next_read first all = record { yields = λ s y t is. then_yields P Q next_read (read s) (first.yields s) all y t is }
 
 -- whatever the first gives
-pub yields_behind : {A B : Type 0} → (Q : B → Type 0) (read : Reads A) (next_read : A → Reads B) → ((x : A) → Yields Q (next_read x)) → Yields Q (read >=> next_read)
-yields_behind Q read next_read all = yields_then (λ x. Unit {0}) Q read next_read (record { yields = λ s x t is. tt }) (λ x _. all x)
+pub yields_after : {A B : Type 0} → (Q : B → Type 0) (read : Reads A) (next_read : A → Reads B) → ((x : A) → Yields Q (next_read x)) → Yields Q (read >=> next_read)
+yields_after Q read next_read all = yields_then (λ x. Unit {0}) Q read next_read (record { yields = λ s x t is. tt }) (λ x _. all x)
 
 pub yields_giving : {A : Type 0} → (P : A → Type 0) (x : A) → P x → Yields P (giving x)
 yields_giving {A} P x so = record { yields = λ s y t is. let pair : (x, s) ≡ (y, t) = cc in subst P (ap (λ (z : A × State). z.0) pair) so }
@@ -91,20 +91,20 @@ yields_one P item all = yields_then P (All P) item _ all (λ x so. yields_giving
 
 yields_list : {A : Type 0} → (P : A → Type 0) (item : Reads (List A)) → Yields (All P) item → Yields (All P) (list item)
 yields_list {A} P item all =
-    yields_behind (All P) begin_list _ (λ _. yields_repeated (All P) (item_more item)
+    yields_after (All P) begin_list _ (λ _. yields_repeated (All P) (item_more item)
     (λ xs before. yields_then (All P) (λ (y : List A × Bool). All P y.0) item _ all
-    (λ ys more. yields_behind (λ (y : List A × Bool). All P y.0) list_goes_on _ (λ b. yields_giving (λ (y : List A × Bool). All P y.0) (xs ++ ys, b) (All-append P xs ys before more))))
+    (λ ys more. yields_after (λ (y : List A × Bool). All P y.0) list_goes_on _ (λ b. yields_giving (λ (y : List A × Bool). All P y.0) (xs ++ ys, b) (All-append P xs ys before more))))
     [] (All-nil P))
 
 yields_one_or_items : {A : Type 0} → (P : A → Type 0) (item : Reads A) → Yields P item → (b : Bool) → Yields (All P) (one_or_items item b)
-yields_one_or_items P item all true = yields_list P (listed_item item) (yields_behind (All P) no_list _ (λ _. yields_one P item all))
+yields_one_or_items P item all true = yields_list P (listed_item item) (yields_after (All P) no_list _ (λ _. yields_one P item all))
 yields_one_or_items P item all false = yields_one P item all
 
 yields_one_or_list : {A : Type 0} → (P : A → Type 0) (item : Reads A) → Yields P item → Yields (All P) (one_or_list item)
-yields_one_or_list P item all = yields_behind (All P) (takes_symbol (codes "{")) _ (yields_one_or_items P item all)
+yields_one_or_list P item all = yields_after (All P) (takes_symbol (codes "{")) _ (yields_one_or_items P item all)
 
-yields_behind_word : {A : Type 0} → (P : A → Type 0) (w : Word) (read : Reads A) (x : A) → Yields P read → P x → Yields P (behind_word w read x)
-yields_behind_word P w read x all so = yields_behind P (takes_word w) _ (λ is. yields_if P is read _ (λ _. all) (λ _. yields_giving P x so))
+yields_after_word : {A : Type 0} → (P : A → Type 0) (w : Word) (read : Reads A) (x : A) → Yields P read → P x → Yields P (if_word w read x)
+yields_after_word P w read x all so = yields_after P (takes_word w) _ (λ is. yields_if P is read _ (λ _. all) (λ _. yields_giving P x so))
 
 -- ---- names
 
@@ -125,9 +125,9 @@ interface_read t u is =
 yields_interface : Yields OnInterface interface
 unfolding interface
 yields_interface =
-    yields_behind OnInterface not_negated _ (λ _. yields_behind OnInterface string _
+    yields_after OnInterface not_negated _ (λ _. yields_after OnInterface string _
     (λ t. yields_then (λ (u : Unit {0}). OnInterface t) OnInterface (from (interface_checked t)) _ (yields_from (λ (u : Unit {0}). OnInterface t) (interface_checked t) (interface_read t))
-    (λ u so. yields_behind OnInterface _ _ (λ _. yields_giving OnInterface t so))))
+    (λ u so. yields_after OnInterface _ _ (λ _. yields_giving OnInterface t so))))
 
 abbrev IsNamedTable : Token → Type 0
 IsNamedTable t = IsTableName (text_of t.text)
@@ -141,7 +141,7 @@ table_read t u is =
 yields_table_name : Yields IsNamedTable table_name
 unfolding table_name
 yields_table_name =
-    yields_behind IsNamedTable string _ (λ t. yields_then (λ (u : Unit {0}). IsNamedTable t) IsNamedTable (from (table_checked t)) _ (yields_from (λ (u : Unit {0}). IsNamedTable t) (table_checked t) (table_read t))
+    yields_after IsNamedTable string _ (λ t. yields_then (λ (u : Unit {0}). IsNamedTable t) IsNamedTable (from (table_checked t)) _ (yields_from (λ (u : Unit {0}). IsNamedTable t) (table_checked t) (table_read t))
     (λ u so. yields_giving IsNamedTable t so))
 
 -- ---- numbers
@@ -200,7 +200,7 @@ protocol_read t b ws is =
 yields_protocol : Yields (Spelled a_protocol) protocol
 unfolding protocol
 yields_protocol =
-    yields_behind (Spelled a_protocol) value _ (λ t. yields_from (Spelled a_protocol) (protocol_of t (is_number t) >>= λ n. Ok (protocol_words n)) (protocol_read t (is_number t)))
+    yields_after (Spelled a_protocol) value _ (λ t. yields_from (Spelled a_protocol) (protocol_of t (is_number t) >>= λ n. Ok (protocol_words n)) (protocol_read t (is_number t)))
 
 -- ---- ports
 
@@ -264,15 +264,15 @@ gives_operator o c is = yields_giving MayBeOperator (Some o) (c, is)
 
 yields_or_same : (alone with_same : Operator) (c d : Comparison) → text_of_operator alone ≡ operator_word c → text_of_operator with_same ≡ operator_word d → Yields MayBeOperator (or_same alone with_same)
 yields_or_same alone with_same c d first other =
-    yields_behind MayBeOperator (takes_symbol (codes "=")) _ (λ is. yields_giving MayBeOperator (Some (if is then with_same else alone)) (or_same_by alone with_same is (c, first) (d, other)))
+    yields_after MayBeOperator (takes_symbol (codes "=")) _ (λ is. yields_giving MayBeOperator (Some (if is then with_same else alone)) (or_same_by alone with_same is (c, first) (d, other)))
 
 yields_operator : Yields MayBeOperator operator
 unfolding operator
 yields_operator =
-    yields_behind MayBeOperator (takes_symbol (codes "=")) _ (λ equals. yields_if MayBeOperator equals _ _ (λ _. gives_operator _ Equal refl)
-    (λ _. yields_behind MayBeOperator (takes_symbol (codes "!")) _ (λ differs. yields_if MayBeOperator differs _ _ (λ _. yields_behind MayBeOperator (expect_symbol (codes "=")) _ (λ _. gives_operator _ NotEqual refl))
-    (λ _. yields_behind MayBeOperator (takes_symbol (codes "<")) _ (λ less. yields_if MayBeOperator less _ _ (λ _. yields_or_same _ _ Less AtMost refl refl)
-    (λ _. yields_behind MayBeOperator (takes_symbol (codes ">")) _ (λ more. yields_if MayBeOperator more _ _ (λ _. yields_or_same _ _ Greater AtLeast refl refl)
+    yields_after MayBeOperator (takes_symbol (codes "=")) _ (λ equals. yields_if MayBeOperator equals _ _ (λ _. gives_operator _ Equal refl)
+    (λ _. yields_after MayBeOperator (takes_symbol (codes "!")) _ (λ differs. yields_if MayBeOperator differs _ _ (λ _. yields_after MayBeOperator (expect_symbol (codes "=")) _ (λ _. gives_operator _ NotEqual refl))
+    (λ _. yields_after MayBeOperator (takes_symbol (codes "<")) _ (λ less. yields_if MayBeOperator less _ _ (λ _. yields_or_same _ _ Less AtMost refl refl)
+    (λ _. yields_after MayBeOperator (takes_symbol (codes ">")) _ (λ more. yields_if MayBeOperator more _ _ (λ _. yields_or_same _ _ Greater AtLeast refl refl)
     (λ _. yields_giving MayBeOperator None tt))))))))
 
 one_port_spelled : (o : Operator) (n : ℕ) → IsOperator o → n < 65536 → Spelled a_port (one_port o n)
@@ -286,7 +286,7 @@ compared_read o t ws so is =
 
 yields_compared : (o : Operator) → IsOperator o → Yields (Spelled a_port) (compared o)
 unfolding compared
-yields_compared o so = yields_behind (Spelled a_port) value _ (λ t. yields_from (Spelled a_port) (operand t >>= λ n. Ok (one_port o n)) (λ ws is. compared_read o t ws so is))
+yields_compared o so = yields_after (Spelled a_port) value _ (λ t. yields_from (Spelled a_port) (operand t >>= λ n. Ok (one_port o n)) (λ ws is. compared_read o t ws so is))
 
 -- a word between two ports, as pf_rule has it
 abbrev LiesBetween : Word → Type 0
@@ -308,14 +308,14 @@ yields_between : (t : Token) (w : Word) → LiesBetween w → Yields (Spelled a_
 unfolding between
 yields_between t w so =
     yields_then (λ m. m < 65536) (Spelled a_port) (from (operand t)) _ (yields_from (λ m. m < 65536) (operand t) (operand_is t))
-    (λ m first. yields_behind (Spelled a_port) value _ (λ u. yields_from (Spelled a_port) (operand u >>= λ n. Ok (two_ports m w n)) (λ ws is. between_read m w u ws so first is)))
+    (λ m first. yields_after (Spelled a_port) value _ (λ u. yields_from (Spelled a_port) (operand u >>= λ n. Ok (two_ports m w n)) (λ ws is. between_read m w u ws so first is)))
 
 yields_ranged : Yields (Spelled a_port) ranged
 unfolding ranged
 yields_ranged =
-    yields_behind (Spelled a_port) value _ (λ t. yields_behind (Spelled a_port) (takes_symbol (codes "><")) _
+    yields_after (Spelled a_port) value _ (λ t. yields_after (Spelled a_port) (takes_symbol (codes "><")) _
     (λ within. yields_if (Spelled a_port) within (between t (codes "><")) _ (λ _. yields_between t (codes "><") without)
-    (λ _. yields_behind (Spelled a_port) (takes_symbol (codes "<>")) _ (λ other. yields_if (Spelled a_port) other (between t (codes "<>")) (from (port_words t)) (λ _. yields_between t (codes "<>") except)
+    (λ _. yields_after (Spelled a_port) (takes_symbol (codes "<>")) _ (λ other. yields_if (Spelled a_port) other (between t (codes "<>")) (from (port_words t)) (λ _. yields_between t (codes "<>") except)
     (λ _. yields_from (Spelled a_port) (port_words t) (port_read t))))))
 
 yields_port_by : (o : Option Operator) → MayBeOperator o → Yields (Spelled a_port) (port_by o)
@@ -338,7 +338,7 @@ table_words t false is = table_spelled (text_of t.text) false is
 yields_named_host : (b : Bool) → Yields IsHostOf (named_host b)
 unfolding named_host
 yields_named_host b =
-    yields_then IsNamedTable IsHostOf table_name _ yields_table_name (λ t so. yields_behind IsHostOf _ _ (λ _. yields_giving IsHostOf (table_host t b) (table_words t b so)))
+    yields_then IsNamedTable IsHostOf table_name _ yields_table_name (λ t so. yields_after IsHostOf _ _ (λ _. yields_giving IsHostOf (table_host t b) (table_words t b so)))
 
 unless_zeros : (m n : PlainNet) (b : Bool) (e : NoValue) → (if b then Err e else Ok m) ≡ Ok n → ◌≡◌ {A = Result PlainNet AddrFault} (Ok m) (Ok n)
 unless_zeros m n true e is = absurd (cc)
@@ -355,7 +355,7 @@ net_words p false w n is = net_spelled w n (zeros_ok w (net_at w) n (value_ok p 
 yields_net_host : (b : Bool) → Yields IsHostOf (net_host b)
 unfolding net_host
 yields_net_host b =
-    yields_behind IsHostOf value _ (λ t. yields_behind IsHostOf (address t) _ (λ w. yields_behind IsHostOf no_range _
+    yields_after IsHostOf value _ (λ t. yields_after IsHostOf (address t) _ (λ w. yields_after IsHostOf no_range _
     (λ _. yields_then (λ (n : PlainNet). IsHostOf (host_of_net t.place b w n)) IsHostOf (from (net_at_place t.place w w)) _
     (yields_from (λ (n : PlainNet). IsHostOf (host_of_net t.place b w n)) (net_at_place t.place w w) (net_words t.place b w))
     (λ n so. yields_giving IsHostOf (host_of_net t.place b w n) so))))
@@ -369,17 +369,17 @@ yields_other_host b =
 yields_host : Yields IsHostOf host
 unfolding host
 yields_host =
-    yields_behind IsHostOf (takes_symbol (codes "!")) _ (λ negated. yields_behind IsHostOf (takes_symbol (codes "<")) _
+    yields_after IsHostOf (takes_symbol (codes "!")) _ (λ negated. yields_after IsHostOf (takes_symbol (codes "<")) _
     (λ is_table. yields_if IsHostOf is_table (named_host negated) (other_host negated) (λ _. yields_named_host negated) (λ _. yields_other_host negated)))
 
 yields_listed_hosts : (inner : Reads (List Host)) → Yields (All IsHostOf) inner → Yields (All IsHostOf) (listed_hosts inner)
 yields_listed_hosts inner all =
-    yields_behind (All IsHostOf) not_any _ (λ _. yields_look (All IsHostOf) _ (λ t. yields_if (All IsHostOf) (is_symbol (codes "{") t) _ _ (λ _. all) (λ _. yields_one IsHostOf host yields_host)))
+    yields_after (All IsHostOf) not_any _ (λ _. yields_look (All IsHostOf) _ (λ t. yields_if (All IsHostOf) (is_symbol (codes "{") t) _ _ (λ _. all) (λ _. yields_one IsHostOf host yields_host)))
 
 yields_hosts_in : (n : ℕ) → Yields (All IsHostOf) (hosts_in n)
 unfolding hosts_in
 yields_hosts_in zero = yields_look (All IsHostOf) _ (λ t. yields_refusing (All IsHostOf) t.place mistakes.DeepList)
-yields_hosts_in (suc n) = yields_behind (All IsHostOf) token _ (λ _. yields_list IsHostOf (listed_hosts (hosts_in n)) (yields_listed_hosts (hosts_in n) (yields_hosts_in n)))
+yields_hosts_in (suc n) = yields_after (All IsHostOf) token _ (λ _. yields_list IsHostOf (listed_hosts (hosts_in n)) (yields_listed_hosts (hosts_in n) (yields_hosts_in n)))
 
 yields_hosts : Yields (All IsHostOf) hosts
 unfolding hosts
@@ -403,7 +403,7 @@ AllPorts = All (Spelled a_port)
 yields_tested_interfaces : Yields AllOn tested_interfaces
 unfolding tested_interfaces interfaces
 yields_tested_interfaces =
-    yields_behind_word AllOn (codes "on") _ nothing
+    yields_after_word AllOn (codes "on") _ nothing
     (yields_then (All OnInterface) AllOn (one_or_list interface) _ (yields_one_or_list OnInterface interface yields_interface)
     (λ ts all. yields_giving AllOn (interface_words ts) (All-map (Spelled on_interface) interface_word ts all)))
     (all_one (Spelled on_interface) [] no_interface_spelled)
@@ -411,13 +411,13 @@ yields_tested_interfaces =
 yields_family : Yields (Spelled a_family) family
 unfolding family
 yields_family =
-    yields_behind (Spelled a_family) _ _ (λ is. yields_if (Spelled a_family) is _ _ (λ _. yields_giving (Spelled a_family) _ v4_spelled)
-    (λ _. yields_behind_word (Spelled a_family) (codes "inet6") _ [] (yields_giving (Spelled a_family) _ v6_spelled) no_family_spelled))
+    yields_after (Spelled a_family) _ _ (λ is. yields_if (Spelled a_family) is _ _ (λ _. yields_giving (Spelled a_family) _ v4_spelled)
+    (λ _. yields_after_word (Spelled a_family) (codes "inet6") _ [] (yields_giving (Spelled a_family) _ v6_spelled) no_family_spelled))
 
 yields_protocols : Yields AllProtocols protocols
 unfolding protocols all_tested tested
 yields_protocols =
-    yields_behind_word AllProtocols (codes "proto") _ nothing (yields_one_or_list (Spelled a_protocol) protocol yields_protocol) (all_one (Spelled a_protocol) [] no_protocol_spelled)
+    yields_after_word AllProtocols (codes "proto") _ nothing (yields_one_or_list (Spelled a_protocol) protocol yields_protocol) (all_one (Spelled a_protocol) [] no_protocol_spelled)
 
 all_any : AllHosts any_host
 all_any = all_one (Spelled a_host) (codes "any" ∷ []) any_spelled
@@ -426,7 +426,7 @@ yields_side_hosts : Yields AllHosts side_hosts
 unfolding side_hosts
 yields_side_hosts =
     yields_look AllHosts _ (λ t. yields_if AllHosts (is_word (codes "port") t) (giving any_host) (takes_word (codes "any") >=> λ is. if is then giving any_host else (hosts >=> λ hs. giving (map host_words hs))) (λ _. yields_giving AllHosts any_host all_any)
-    (λ _. yields_behind AllHosts (takes_word (codes "any")) _ (λ is. yields_if AllHosts is _ _ (λ _. yields_giving AllHosts any_host all_any)
+    (λ _. yields_after AllHosts (takes_word (codes "any")) _ (λ is. yields_if AllHosts is _ _ (λ _. yields_giving AllHosts any_host all_any)
     (λ _. yields_then (All IsHostOf) AllHosts hosts _ yields_hosts (λ hs all. yields_giving AllHosts (map host_words hs) (All-map (Spelled a_host) host_words hs all))))))
 
 abbrev Side : Type 0
@@ -443,8 +443,8 @@ yields_side : Yields IsSide side
 unfolding side all_tested tested
 yields_side =
     yields_then AllHosts IsSide side_hosts _ yields_side_hosts
-    (λ hs all. yields_then AllPorts IsSide (behind_word (codes "port") (one_or_list port) nothing) _
-    (yields_behind_word AllPorts (codes "port") (one_or_list port) nothing (yields_one_or_list (Spelled a_port) port yields_port) (all_one (Spelled a_port) [] no_port_spelled))
+    (λ hs all. yields_then AllPorts IsSide (if_word (codes "port") (one_or_list port) nothing) _
+    (yields_after_word AllPorts (codes "port") (one_or_list port) nothing (yields_one_or_list (Spelled a_port) port yields_port) (all_one (Spelled a_port) [] no_port_spelled))
     (λ ps more. yields_giving IsSide _ (record { hosts = all; ports = more })))
 
 abbrev AreSides : Side × Side → Type 0
@@ -453,9 +453,9 @@ AreSides x = IsSide x.0 × IsSide x.1
 yields_sides : Yields AreSides sides
 unfolding sides
 yields_sides =
-    yields_behind AreSides _ _ (λ is. yields_if AreSides is _ _ (λ _. yields_giving AreSides _ (any_is_side, any_is_side))
-    (λ _. yields_then IsSide AreSides (behind_word (codes "from") side any_side) _ (yields_behind_word IsSide (codes "from") side any_side yields_side any_is_side)
-    (λ x so. yields_then IsSide AreSides (behind_word (codes "to") side any_side) _ (yields_behind_word IsSide (codes "to") side any_side yields_side any_is_side)
+    yields_after AreSides _ _ (λ is. yields_if AreSides is _ _ (λ _. yields_giving AreSides _ (any_is_side, any_is_side))
+    (λ _. yields_then IsSide AreSides (if_word (codes "from") side any_side) _ (yields_after_word IsSide (codes "from") side any_side yields_side any_is_side)
+    (λ x so. yields_then IsSide AreSides (if_word (codes "to") side any_side) _ (yields_after_word IsSide (codes "to") side any_side yields_side any_is_side)
     (λ y too. yields_giving AreSides (x, y) (so, too)))))
 
 -- each item of each list is words that pf_rule reads
@@ -500,29 +500,29 @@ yields_label_of start p t =
     let w : Word = text_of t.text in
     yields_if (LabelIs start) (nat_lt 63 (length w)) _ _ (λ _. yields_refusing (LabelIs start) t.place mistakes.LongLabel)
     (λ _. yields_if (LabelIs start) (is_anchor start || not (is_ok_name (name_of 63 w))) _ _
-    (λ _. yields_behind (LabelIs start) (leave_out p (left_out.Label w)) _ (λ _. yields_giving (LabelIs start) None tt))
+    (λ _. yields_after (LabelIs start) (leave_out p (left_out.Label w)) _ (λ _. yields_giving (LabelIs start) None tt))
     (λ is. yields_giving (LabelIs start) (Some w) (label_by start w (is_anchor start) (is_ok_name (name_of 63 w)) refl refl is)))
 
 yields_label : (start : Start) (before : Options) → Yields (OptionsAre start) (label start before)
 unfolding label
 yields_label start before =
-    yields_behind (OptionsAre start) token _ (λ t. yields_behind (OptionsAre start) (once before.has_label t.place mistakes.TwoLabels) _
+    yields_after (OptionsAre start) token _ (λ t. yields_after (OptionsAre start) (once before.has_label t.place mistakes.TwoLabels) _
     (λ _. yields_then (LabelIs start) (OptionsAre start) (string >=> label_of start t.place) _
-    (yields_behind (LabelIs start) string _ (λ u. yields_label_of start t.place u))
+    (yields_after (LabelIs start) string _ (λ u. yields_label_of start t.place u))
     (λ l so. yields_giving (OptionsAre start) (record before { label = l; has_label = true }) so)))
 
 yields_state : (start : Start) (before : Options) → OptionsAre start before → Yields (OptionsAre start) (state start before)
 unfolding state
 yields_state start before so =
-    yields_behind (OptionsAre start) token _ (λ t. yields_if (OptionsAre start) (is_anchor start) _ _ (λ _. yields_refusing (OptionsAre start) t.place mistakes.StateOfAnchor)
-    (λ _. yields_behind (OptionsAre start) (once before.has_state t.place mistakes.TwoStates) _ (λ _. yields_behind (OptionsAre start) (expect_word (codes "state")) _
-    (λ _. yields_behind (OptionsAre start) (kept start t) _ (λ keeps. yields_giving (OptionsAre start) (record before { keeps = keeps; has_state = true }) so)))))
+    yields_after (OptionsAre start) token _ (λ t. yields_if (OptionsAre start) (is_anchor start) _ _ (λ _. yields_refusing (OptionsAre start) t.place mistakes.StateOfAnchor)
+    (λ _. yields_after (OptionsAre start) (once before.has_state t.place mistakes.TwoStates) _ (λ _. yields_after (OptionsAre start) (expect_word (codes "state")) _
+    (λ _. yields_after (OptionsAre start) (kept start t) _ (λ keeps. yields_giving (OptionsAre start) (record before { keeps = keeps; has_state = true }) so)))))
 
 yields_flags : (start : Start) (ts : Tests) (before : Options) → OptionsAre start before → Yields (OptionsAre start) (flags ts before)
 unfolding flags
 yields_flags start ts before so =
-    yields_behind (OptionsAre start) token _ (λ t. yields_behind (OptionsAre start) (once before.has_flags t.place mistakes.TwoFlags) _
-    (λ _. yields_behind (OptionsAre start) (takes_word (codes "any")) _ (λ is_any. yields_behind (OptionsAre start) (cond is_any (giving tt) (written_flags t.place ts)) _
+    yields_after (OptionsAre start) token _ (λ t. yields_after (OptionsAre start) (once before.has_flags t.place mistakes.TwoFlags) _
+    (λ _. yields_after (OptionsAre start) (takes_word (codes "any")) _ (λ is_any. yields_after (OptionsAre start) (cond is_any (giving tt) (written_flags t.place ts)) _
     (λ _. yields_giving (OptionsAre start) (record before { has_flags = true }) so))))
 
 yields_option : (start : Start) (ts : Tests) (before : Options) → OptionsAre start before → Yields (OptionsAre start) (option start ts before)
@@ -531,7 +531,7 @@ yields_option start ts before so =
     yields_look (OptionsAre start) _ (λ t. yields_if (OptionsAre start) (is_state t) _ _ (λ _. yields_state start before so)
     (λ _. yields_if (OptionsAre start) (is_word (codes "label") t) _ _ (λ _. yields_label start before)
     (λ _. yields_if (OptionsAre start) (is_word (codes "flags") t) _ _ (λ _. yields_flags start ts before so)
-    (λ _. yields_behind (OptionsAre start) left_out_option _ (λ _. yields_giving (OptionsAre start) before so)))))
+    (λ _. yields_after (OptionsAre start) left_out_option _ (λ _. yields_giving (OptionsAre start) before so)))))
 
 abbrev MoreAre : Start → Options × Bool → Type 0
 MoreAre start y = OptionsAre start y.0
@@ -584,9 +584,9 @@ path_is_faultless named t u is = no_fault_there (name_fault named (text_of t.tex
 yields_anchor_name : (named : Named) → Yields (IsFaultless named) (anchor_name named)
 unfolding anchor_name
 yields_anchor_name named =
-    yields_behind (IsFaultless named) string _ (λ t. yields_then (λ (u : Unit {0}). IsFaultless named t) (IsFaultless named) (from (path_checked named t)) _
+    yields_after (IsFaultless named) string _ (λ t. yields_then (λ (u : Unit {0}). IsFaultless named t) (IsFaultless named) (from (path_checked named t)) _
     (yields_from (λ (u : Unit {0}). IsFaultless named t) (path_checked named t) (path_is_faultless named t))
-    (λ u so. yields_behind (IsFaultless named) quoted_path _ (λ _. yields_giving (IsFaultless named) t so)))
+    (λ u so. yields_after (IsFaultless named) quoted_path _ (λ _. yields_giving (IsFaultless named) t so)))
 
 -- the name, in quotes, is a reference
 abbrev pub IsNamedAnchor : Word → Type 0

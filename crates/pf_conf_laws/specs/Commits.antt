@@ -18,7 +18,7 @@ line_length c =
     + sum_by (part_length (codes " table ")) (table_paths c.tables)
 
 -- One commit has room for all rulesets, and one line names them.
-pub record HasRoom (c : Conf) : Type 0 where
+pub record CommitHasRoom (c : Conf) : Type 0 where
   pub rulesets : length c.rulesets + length (table_paths c.tables) ≤ RULESET_LIMIT
   pub line : line_length c ≤ LINE_LIMIT
 

@@ -12,7 +12,7 @@ ghost use Rattle.pf_interfaces.specs.declared.interface.Interface.{Interface};
 ghost use Rattle.pf_conf.specs.declared.found.Conf.{Conf};
 ghost use Rattle.pf_conf.specs.{Resolving.resolved, Rulesets.{PlacedRule, skips_in, written_in, rules_in}};
 ghost use Rattle.pf_load.specs.Laws.{AreOnce};
-ghost use Rattle.pf_conf_laws.specs.{Types.{Start, Tests}, Lists.{left_of, AreReadAs, HaveOneItem, IsOne}, Commits.{HasRoom, FilesLoadExactly}, Loads.{MoreLoadsChangeNothing, NoLoadWaits}, Turns.TurnsSuffice, Words.HasRulesAlone, Places.{beginnings, places_of, AreSome}, Pieces.IsCut, Rulesets.AreRulesOf, Spaces.{is_plain_word, read_as, as_word}};
+ghost use Rattle.pf_conf_laws.specs.{Types.{Start, Tests}, Lists.{left_of, AreReadAs, HaveOneItem, IsOne}, Commits.{CommitHasRoom, FilesLoadExactly}, Loads.{MoreLoadsChangeNothing, NoLoadWaits}, Turns.TurnsSuffice, Words.HasRulesAlone, Places.{beginnings, places_of, AreSome}, Pieces.IsCut, Rulesets.AreRulesOf, Spaces.{is_plain_word, read_as, as_word}};
 
 use pf_lists::{rules_are_counted, ways_have_numbers};
 use pf_load::a_load_replaces_what_it_names;
@@ -56,7 +56,7 @@ pub fn a_file_is_loaded_exactly()
 /// of 4,096 bytes names them with any tickets.
 pub fn one_commit_has_room()
     ensures { (files : List File) (interfaces : List Interface) (mode : Mode) (base name : List ℕ) (c : Conf) →
-        resolved files interfaces mode base name ≡ Ok c → HasRoom c }
+        resolved files interfaces mode base name ≡ Ok c → CommitHasRoom c }
 {}
 
 /// All files that are mentioned by `load anchor` are read, if no fault is told: there are fewer of them than files that may be read.

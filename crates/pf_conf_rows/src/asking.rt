@@ -58,7 +58,7 @@ fn tell_meaning(
     alloc: Global,
     files: &[Row<'_>],
     name: &str,
-    told: &mut Vec<u8>,
+    reported: &mut Vec<u8>,
 ) -> Result<(), Fault> {
     let read = |name: &[u8]| contents(alloc, files, name);
     let mut notes = Vec::new(alloc);
@@ -70,7 +70,7 @@ fn tell_meaning(
         Mode::Strict,
         &Path::main(),
         name,
-        told,
+        reported,
         &mut notes,
     )
 }
@@ -80,10 +80,10 @@ fn tell_matches(
     alloc: Global,
     files: &[Row<'_>],
     row: &Row<'_>,
-    told: &mut Vec<u8>,
+    reported: &mut Vec<u8>,
 ) -> Result<(), Fault> {
     let packet = [row.words];
-    firewall(alloc, files, row.name)?.explain(alloc, told, &packet)
+    firewall(alloc, files, row.name)?.explain(alloc, reported, &packet)
 }
 
 /// Writes which rules decide no case.
@@ -91,9 +91,9 @@ fn tell_cover(
     alloc: Global,
     firewall: &Firewall,
     tried: &[Tried<'_>],
-    told: &mut Vec<u8>,
+    reported: &mut Vec<u8>,
 ) -> Result<(), Fault> {
-    match firewall.cover(alloc, told, tried) {
+    match firewall.cover(alloc, reported, tried) {
         Ok(_) => Ok(()),
         Err(fault) => Err(fault),
     }
@@ -105,14 +105,14 @@ fn tell_tried(
     firewall: &Firewall,
     word: &str,
     cases: &[Cases],
-    told: &mut Vec<u8>,
+    reported: &mut Vec<u8>,
 ) -> Result<(), Fault> {
     let tried = firewall.judged(alloc, cases)?;
     match word {
-        "test" => firewall.report(alloc, told, &tried),
-        "tap" => firewall.report_tap(alloc, told, &tried),
-        "junit" => firewall.report_junit(alloc, told, &tried),
-        "cover" => tell_cover(alloc, firewall, &tried, told),
+        "test" => firewall.report(alloc, reported, &tried),
+        "tap" => firewall.report_tap(alloc, reported, &tried),
+        "junit" => firewall.report_junit(alloc, reported, &tried),
+        "cover" => tell_cover(alloc, firewall, &tried, reported),
         _ => Ok(()),
     }
 }
@@ -122,11 +122,11 @@ fn tell_cases(
     alloc: Global,
     files: &[Row<'_>],
     row: &Row<'_>,
-    told: &mut Vec<u8>,
+    reported: &mut Vec<u8>,
 ) -> Result<(), Fault> {
     let firewall = firewall(alloc, files, row.name)?;
     let cases = cases(alloc, files, row.words)?;
-    tell_tried(alloc, &firewall, row.kind, &cases, told)
+    tell_tried(alloc, &firewall, row.kind, &cases, reported)
 }
 
 /// Writes what the words of a row are answered.
@@ -134,22 +134,22 @@ fn answer(
     alloc: Global,
     files: &[Row<'_>],
     row: &Row<'_>,
-    told: &mut Vec<u8>,
+    reported: &mut Vec<u8>,
 ) -> Result<(), Fault> {
     match row.kind {
-        "check" => tell_meaning(alloc, files, row.name, told),
-        "explain" => tell_matches(alloc, files, row, told),
-        _ => tell_cases(alloc, files, row, told),
+        "check" => tell_meaning(alloc, files, row.name, reported),
+        "explain" => tell_matches(alloc, files, row, reported),
+        _ => tell_cases(alloc, files, row, reported),
     }
 }
 
 /// What the words of a row are answered, with the fault at its end if there is one.
 fn answered(alloc: Global, files: &[Row<'_>], row: &Row<'_>) -> io::Result<Vec<u8>> {
-    let mut told = Vec::new(alloc);
-    if let Err(fault) = answer(alloc, files, row, &mut told) {
-        writeln!(told, "{fault}")?;
+    let mut reported = Vec::new(alloc);
+    if let Err(fault) = answer(alloc, files, row, &mut reported) {
+        writeln!(reported, "{fault}")?;
     }
-    Ok(told)
+    Ok(reported)
 }
 
 /// Writes what a row is answered, if that isn't what is wanted.
@@ -159,11 +159,11 @@ pub(crate) fn ask<W: Write>(
     files: &[Row<'_>],
     row: &Row<'_>,
 ) -> io::Result<()> {
-    let told = answered(alloc, files, row)?;
+    let reported = answered(alloc, files, row)?;
     let wanted = bytes_of(alloc, row.lines)?;
-    if told.as_slice() == wanted.as_slice() {
+    if reported.as_slice() == wanted.as_slice() {
         return Ok(());
     }
     writeln!(out, "{} {} {}: it is told:", row.kind, row.name, row.words)?;
-    out.write_all(told.as_slice())
+    out.write_all(reported.as_slice())
 }

@@ -85,9 +85,9 @@ fn digit(byte: u8) -> u8
 /// Appends what stands behind a `%`: the byte that two digits spell, and the bytes behind them.
 fn push_spelled(bytes: &mut Bytes, spelled: &[u8]) -> Result<(), AllocError> {
     match spelled {
-        [high, low, behind @ ..] => {
+        [high, low, following @ ..] => {
             bytes.push(digit(*high) * 16 + digit(*low))?;
-            push_plain(bytes, behind)
+            push_plain(bytes, following)
         }
         _ => push_plain(bytes, spelled),
     }

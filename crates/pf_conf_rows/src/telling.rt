@@ -38,7 +38,7 @@ fn meaning(alloc: Global, files: &mut Files, case: &Row<'_>) -> Result<Conf, Unr
             case.name.as_bytes(),
         ) {
             Err(Unread::Needs(name)) => files.push(unreadable(name))?,
-            told => return told,
+            reported => return reported,
         }
     }
     Err(Unread::Memory)
@@ -66,8 +66,12 @@ fn write_unread<W: Write>(out: &mut W, unread: &Unread) -> io::Result<()> {
 }
 
 /// Writes what came of a case's file.
-fn write_told<W: Write>(alloc: Global, out: &mut W, told: &Result<Conf, Unread>) -> io::Result<()> {
-    match told {
+fn write_outcome<W: Write>(
+    alloc: Global,
+    out: &mut W,
+    reported: &Result<Conf, Unread>,
+) -> io::Result<()> {
+    match reported {
         Ok(conf) => write_meaning(alloc, out, conf),
         Err(unread) => write_unread(out, unread),
     }
@@ -82,5 +86,5 @@ pub(crate) fn tell<W: Write>(
 ) -> io::Result<()> {
     writeln!(out, "== {}", case.name)?;
     let mut files = files_of(alloc, given, case)?;
-    write_told(alloc, out, &meaning(alloc, &mut files, case))
+    write_outcome(alloc, out, &meaning(alloc, &mut files, case))
 }

@@ -21,7 +21,7 @@ only-due h q r failed none (inr stands) = absurd (none-stands-in h (Ask q) faile
 
 pub tests_tell_the_entry : TestsTellTheEntry
 tests_tell_the_entry first world h within legal comes p name a = record {
-  told = λ r failed legal. only-due h (Test p name a) r failed refl legal;
+  reported = λ r failed legal. only-due h (Test p name a) r failed refl legal;
   decides = table_decides (entries_at (durable_of h) p name) a (((keeps_the_limits first world h within legal comes).kept.entries p name).sorted);
 }
 
@@ -46,6 +46,6 @@ decided d packet w =
 
 pub judges_tell_the_verdict : JudgesTellTheVerdict
 judges_tell_the_verdict first world h within legal comes packet = record {
-  told = λ r failed legal. only-due h (Judge packet) r failed refl legal;
+  reported = λ r failed legal. only-due h (Judge packet) r failed refl legal;
   decided = decided (durable_of h) packet (keeps_the_limits first world h within legal comes).kept;
 }

@@ -2,7 +2,7 @@
 use Rattle.std.proofs.{Common.{◌≡◌, ℕ, not, Bool, true, false, List, [], ◌∷◌, Option, Some, None, Ok, refl, ap, ◌∙◌, cond, length, arith}, lemmas.Bool.Decides.nat_tests}
 use Rattle.std.specs.{Prelude.{map, nat_lt}, List.{list_all, position, prefix_len}, Option.option_or}
 use Rattle.pf_addr.specs.Refusing.{refused_at}
-use Rattle.pf_ticket.specs.Replies.{twice_behind}
+use Rattle.pf_ticket.specs.Replies.{twice_after}
 use Rattle.pf_core.specs.{declared.{durable.change.Item.Item, durable.refusal.ChangeRefusal.TheVariants.Twice}, Durable.Changes.{name_of, is_in_order, named_again}}
 
 -- if all pass, none fails
@@ -19,7 +19,7 @@ none-fails is h =
     ap (λ (n : ℕ). cond (nat_lt n (length is)) (Some n) None) (all-pass is h) ∙ ap (λ (b : Bool). cond b (Some (length is)) None) past
 
 -- no ruleset is named twice, and each item is in order
-pub named_none : (is : List Item) → twice_behind [] (map name_of is) ≡ None → list_all is_in_order is ≡ true → named_again is ≡ None
+pub named_none : (is : List Item) → twice_after [] (map name_of is) ≡ None → list_all is_in_order is ≡ true → named_again is ≡ None
 named_none is once all = ap (λ (o : Option ℕ). option_or o (position (λ (i : Item). not (is_in_order i)) is)) once ∙ none-fails is all
 
 pub unrefused : (u : Unit {0}) (o : Option ℕ) → Ok u ≡ refused_at (λ i. Twice i) o → o ≡ None

@@ -4,9 +4,9 @@ use Rattle.std.specs.{Prelude.{map, flat_map, fold, not, position}, List.{AllByR
 use Rattle.pf_addr.specs.Refusing.{unless, refused_at, AreBothPassed, both_passed, not_refused}
 use Rattle.pf_ticket.specs.{declared.{name.RulesetName.RulesetName, ticket.Ticket.Ticket}, Laws.Tickets.IsWithin as AreTicketsWithin, Mentions.{Mention, switched, moved, switches, after as moved_by}, Replies.commit_check, Tickets.{PlainTickets, content}}
 use Rattle.pf_ticket.proofs.TicketLimits.{begins_give, keeps_the_limits as tickets_keep}
-use Rattle.pf_core.specs.{declared.{command.Command.Command, command.Command.TheVariants.Transact, command.Command.TheVariants.Edit, command.Command.TheVariants.States as OfStates, command.Transaction.TheVariants.Commit, reply.Answer.Answer, reply.Outcome.Outcome, reply.Refusal.Refusal, reply.Refusal.TheVariants.Halted, reply.Refusal.TheVariants.BadCount, reply.Refusal.TheVariants.NotGrouped, reply.Refusal.TheVariants.Fault, reply.Refusal.TheVariants.Memory, reply.Reply.Reply, reply.Reply.TheVariants.Answer as Answered, reply.Reply.TheVariants.Refused, step.Step.Step, step.Step.TheVariants.Done, step.Step.TheVariants.Wants, step.Step.TheVariants.OfHistory}, Calls.{call, mentions_of, replies_in, calls_of, mentions_of_group}, Commands.{items, step_by, may_change, may_be_grouped, bad_number, group_words, mentioned}, Durable.Changes.{PlainDurable, PlainChange, commits, applied, after, voided_by}, History.tickets_in, Nexts.next_with, Cores.left_behind, Laws.{Durable.IsWithin, Wanted.{never-committed, never-edited, wants_mentions, left_is}, Worlds.hides}, Worlds.{CurrentOpening, flat, log_of, durable_of, is_halted, step_in, reply_to, changes_of, room_for, if_ok, grouped, amid, changes_with, changes_due, replies_due, group_start, group_check, replies_unless, due_group, group_all, is_fault, pending_by_group, shown_by_answer, shown_by, as_stored, GroupStandsIn, LegalReplies}}
+use Rattle.pf_core.specs.{declared.{command.Command.Command, command.Command.TheVariants.Transact, command.Command.TheVariants.Edit, command.Command.TheVariants.States as OfStates, command.Transaction.TheVariants.Commit, reply.Answer.Answer, reply.Outcome.Outcome, reply.Refusal.Refusal, reply.Refusal.TheVariants.Halted, reply.Refusal.TheVariants.BadCount, reply.Refusal.TheVariants.NotGrouped, reply.Refusal.TheVariants.Fault, reply.Refusal.TheVariants.Memory, reply.Reply.Reply, reply.Reply.TheVariants.Answer as Answered, reply.Reply.TheVariants.Refused, step.Step.Step, step.Step.TheVariants.Done, step.Step.TheVariants.Wants, step.Step.TheVariants.OfHistory}, Calls.{call, mentions_of, replies_in, calls_of, mentions_of_group}, Commands.{items, step_by, may_change, may_be_grouped, bad_number, group_words, mentioned}, Durable.Changes.{PlainDurable, PlainChange, commits, applied, after, voided_by}, History.tickets_in, Nexts.next_with, Cores.left_from, Laws.{Durable.IsWithin, Wanted.{never-committed, never-edited, wants_mentions, left_is}, Worlds.hides}, Worlds.{CurrentOpening, flat, log_of, durable_of, is_halted, step_in, reply_to, changes_of, room_for, if_ok, grouped, amid, changes_with, changes_due, replies_due, group_start, group_check, replies_unless, due_group, group_all, is_fault, pending_by_group, shown_by_answer, shown_by, as_stored, GroupStandsIn, LegalReplies}}
 use Rattle.pf_core.specs.declared.reply.Outcome.TheVariants as outcome
-use Rattle.pf_core.proofs.{Prefixes.flat-append, LongerWorlds.none-of-none, Stepping.{AreTold, none-told, done-is-none, states-told, unhalted, change-within}}
+use Rattle.pf_core.proofs.{Prefixes.flat-append, LongerWorlds.none-of-none, Stepping.{AreTicketsGiven, none-reported, done-is-none, states-reported, unhalted, change-within}}
 
 -- ---- the changes so far
 
@@ -42,14 +42,14 @@ tickets-amid h changes more =
 
 -- an answer that gives no ticket and shows nothing
 pub record IsSilent (a : Answer) : Type 0 where
-  pub untold : tickets_in (Answered a) ≡ []
+  pub no_tickets : tickets_in (Answered a) ≡ []
   pub shown : (n : ℕ) → shown_by_answer a n ≡ n
   pub hidden : (hidden : Bool) → hides hidden (Answered a) ≡ hidden
 
 -- What a group's command comes to: such an answer, for a packet that is tracked, with no ruleset mentioned; or a change that is wanted,
 -- with the rulesets mentioned whose tickets it voids; or a refusal.
 pub data IsOfGroup : Command → Result Step Refusal → Type 0 where
-  told : (c : Command) (a : Answer) → mentioned c ≡ [] → IsSilent a → IsOfGroup c (Ok (Done a))
+  reported : (c : Command) (a : Answer) → mentioned c ≡ [] → IsSilent a → IsOfGroup c (Ok (Done a))
   wanted : (c : Command) (e : PlainChange) (o : Outcome) → mentioned c ≡ switches (voided_by e) → IsOfGroup c (Ok (Wants e o))
   refused : (c : Command) (e : Refusal) → IsOfGroup c (Err e)
 
@@ -59,9 +59,9 @@ never-asked c may never = cc (may, never)
 group-step : (t : PlainTickets) (d : PlainDurable) (c : Command) (s : Result Step Refusal) → may_be_grouped c ≡ true → step_by t d c ≡ s → IsOfGroup c s
 group-step t d (Transact (Commit entries)) (Ok (Done a)) may is = absurd (never-committed (commit_check t entries) d (commits (items (content t) entries)) outcome.Committed (Done a) (done-is-none a) is)
 group-step t d (Edit edit) (Ok (Done a)) may is = absurd (never-edited d edit (Done a) (done-is-none a) is)
-group-step t d (OfStates c) (Ok (Done a)) may is = told (OfStates c) a refl (states-told IsSilent (record {
-  judged = λ v. record { untold = refl; shown = λ n. refl; hidden = λ b. refl };
-  stale = λ v. record { untold = refl; shown = λ n. refl; hidden = λ b. refl };
+group-step t d (OfStates c) (Ok (Done a)) may is = reported (OfStates c) a refl (states-reported IsSilent (record {
+  judged = λ v. record { no_tickets = refl; shown = λ n. refl; hidden = λ b. refl };
+  stale = λ v. record { no_tickets = refl; shown = λ n. refl; hidden = λ b. refl };
 }) d c a is)
 group-step t d c (Ok (Done a)) may is = absurd (cc (may))
 group-step t d c (Ok (Wants e o)) may is = wanted c e o (wants_mentions t d c e o is)
@@ -89,7 +89,7 @@ pub step-there : (h : CurrentOpening) (changes : List PlainChange) (c : Command)
 step-there h changes c none = unhalted-in (amid h changes) c none ∙ ap (λ (d : PlainDurable). step_by (amid h changes).tickets d c) (durable-amid h changes)
 
 -- what is prepared there, after one more change
-pub left-there : (d : PlainDurable) (changes : List PlainChange) (e : PlainChange) → left_behind (next_with (after d changes) (flat_map voided_by changes)) e ≡ next_with (after d (changes ++ e ∷ [])) (flat_map voided_by (changes ++ e ∷ []))
+pub left-there : (d : PlainDurable) (changes : List PlainChange) (e : PlainChange) → left_from (next_with (after d changes) (flat_map voided_by changes)) e ≡ next_with (after d (changes ++ e ∷ [])) (flat_map voided_by (changes ++ e ∷ []))
 left-there d changes e =
     let names : flat_map voided_by (changes ++ e ∷ []) ≡ flat_map voided_by changes ++ voided_by e =
     flat_map-append voided_by changes (e ∷ []) ∙ ap (λ (ns : List RulesetName). flat_map voided_by changes ++ ns) (append-nil (voided_by e)) in
@@ -98,9 +98,9 @@ left-there d changes e =
 -- ---- the reply to it
 
 -- the reply as it is due, or as stored
-abbrev pub told_as : Bool → Reply → Reply
-told_as true r = as_stored r
-told_as false r = r
+abbrev pub as_due_or_stored : Bool → Reply → Reply
+as_due_or_stored true r = as_stored r
+as_due_or_stored false r = r
 
 -- of this many changes all are shown, if nothing is hidden
 pub record AreShown (total shown : ℕ) (hidden : Bool) : Type 0 where
@@ -109,7 +109,7 @@ pub record AreShown (total shown : ℕ) (hidden : Bool) : Type 0 where
 
 -- the reply gives no ticket, mentions what the step's change voids, and shows it with all before it, unless it is stored
 pub record IsOneMore (total : ℕ) (c : Command) (s : Result Step Refusal) (r : Reply) : Type 0 where
-  pub untold : tickets_in r ≡ []
+  pub no_tickets : tickets_in r ≡ []
   pub mentions : mentions_of (call c r) ≡ switches (flat_map voided_by (changes_of s))
   pub shown : (n : ℕ) (hidden : Bool) → AreShown total n hidden → AreShown (total + length (changes_of s)) (shown_by r n) (hides hidden r)
 
@@ -118,7 +118,7 @@ still total n hidden old = let low : n ≤ total = old.within in record { within
 
 answer-more : (total : ℕ) (c : Command) (a : Answer) → mentioned c ≡ [] → IsSilent a → IsOneMore total c (Ok (Done a)) (Answered a)
 answer-more total c a unmentioned silent = record {
-  untold = silent.untold;
+  no_tickets = silent.no_tickets;
   mentions = unmentioned;
   shown = λ n hidden old.
       subst (λ (m : ℕ). AreShown (total + 0) m (hides hidden (Answered a))) (sym (silent.shown n))
@@ -126,18 +126,18 @@ answer-more total c a unmentioned silent = record {
 }
 
 refusal-more : (total : ℕ) (c : Command) (e : Refusal) → IsOneMore total c (Err e) (Refused e)
-refusal-more total c e = record { untold = refl; mentions = refl; shown = λ n hidden old. still total n hidden old }
+refusal-more total c e = record { no_tickets = refl; mentions = refl; shown = λ n hidden old. still total n hidden old }
 
-pub one-more : (a : CurrentOpening) (stored : Bool) (c : Command) (s : Result Step Refusal) → IsOfGroup c s → IsOneMore (length (log_of a)) c s (told_as stored (reply_to a s))
-one-more a true _ _ (told c x unmentioned silent) = answer-more (length (log_of a)) c x unmentioned silent
-one-more a false _ _ (told c x unmentioned silent) = answer-more (length (log_of a)) c x unmentioned silent
+pub one-more : (a : CurrentOpening) (stored : Bool) (c : Command) (s : Result Step Refusal) → IsOfGroup c s → IsOneMore (length (log_of a)) c s (as_due_or_stored stored (reply_to a s))
+one-more a true _ _ (reported c x unmentioned silent) = answer-more (length (log_of a)) c x unmentioned silent
+one-more a false _ _ (reported c x unmentioned silent) = answer-more (length (log_of a)) c x unmentioned silent
 one-more a true _ _ (wanted c e o mentions) = record {
-  untold = refl;
+  no_tickets = refl;
   mentions = mentions ∙ ap switches (sym (append-nil (voided_by e)));
   shown = λ n hidden old. let low : n ≤ length (log_of a) = old.within in record { within = omega (arith, low); all = λ none. absurd (cc (none)) };
 }
 one-more a false _ _ (wanted c e o mentions) = record {
-  untold = refl;
+  no_tickets = refl;
   mentions = mentions ∙ ap switches (sym (append-nil (voided_by e)));
   shown = λ n hidden old. record { within = le_refl _; all = λ none. refl };
 }
@@ -152,26 +152,26 @@ MayBeGrouped commands = AllByRecursion (λ c. may_be_grouped c ≡ true) command
 
 -- what the replies come to: they give no ticket, void what the changes void, and show the changes
 pub record IsCourse (h : CurrentOpening) (changes : List PlainChange) (commands : List Command) (replies : List Reply) : Type 0 where
-  pub untold : flat_map tickets_in replies ≡ []
+  pub no_tickets : flat_map tickets_in replies ≡ []
   pub mentions : moved_by (amid h changes).tickets (flat_map mentions_of (calls_of commands replies)) ≡ (amid h (changes_due h changes commands)).tickets
   pub shown : (n : ℕ) (hidden : Bool) → AreShown (length (flat h.acked) + length changes) n hidden
       → AreShown (length (flat h.acked) + length (changes_due h changes commands)) (fold (λ (m : ℕ) (r : Reply). shown_by r m) n replies) (fold hides hidden replies)
 
-pub course : (h : CurrentOpening) (changes : List PlainChange) (commands : List Command) (stored : Bool) → h.pending ≡ [] → MayBeGrouped commands → IsCourse h changes commands (map (told_as stored) (replies_due h changes commands))
-course h changes [] stored none may = record { untold = refl; mentions = refl; shown = λ n hidden old. old }
+pub course : (h : CurrentOpening) (changes : List PlainChange) (commands : List Command) (stored : Bool) → h.pending ≡ [] → MayBeGrouped commands → IsCourse h changes commands (map (as_due_or_stored stored) (replies_due h changes commands))
+course h changes [] stored none may = record { no_tickets = refl; mentions = refl; shown = λ n hidden old. old }
 course h changes (c ∷ cs) stored none may =
     let a : CurrentOpening = amid h changes in
     let s : Result Step Refusal = step_in a c in
-    let r : Reply = told_as stored (reply_to a s) in
+    let r : Reply = as_due_or_stored stored (reply_to a s) in
     let more : List PlainChange = changes ++ changes_of s in
-    let rs : List Reply = map (told_as stored) (replies_due h more cs) in
+    let rs : List Reply = map (as_due_or_stored stored) (replies_due h more cs) in
     let here : IsOneMore (length (log_of a)) c s r = one-more a stored c s (step-amid a c may.0) in
     let rest : IsCourse h more cs rs = course h more cs stored none may.1 in
     let log : length (log_of a) ≡ length (flat h.acked) + length changes = log-amid h changes none in
     let long : length more ≡ length changes + length (changes_of s) = length-append changes (changes_of s) in
     let total : length (log_of a) + length (changes_of s) ≡ length (flat h.acked) + length more = omega (arith, log, long) in
     record {
-      untold = ap (λ (ts : List Ticket). ts ++ flat_map tickets_in rs) here.untold ∙ rest.untold;
+      no_tickets = ap (λ (ts : List Ticket). ts ++ flat_map tickets_in rs) here.no_tickets ∙ rest.no_tickets;
       mentions = fold-append moved a.tickets (mentions_of (call c r)) (flat_map mentions_of (calls_of cs rs))
           ∙ ap (λ (t : PlainTickets). moved_by t (flat_map mentions_of (calls_of cs rs))) (ap (λ (ms : List Mention). moved_by a.tickets ms) here.mentions ∙ tickets-amid h changes (changes_of s))
           ∙ rest.mentions;
@@ -220,10 +220,10 @@ none-refused why (Some i) is = absurd (cc (is))
 none-unfit : (i : ℕ) (commands : List Command) → position_from (λ (c : Command). not (may_be_grouped c)) i commands ≡ None → MayBeGrouped commands
 none-unfit i [] is = tt
 none-unfit i (c ∷ cs) is = by (may_be_grouped c) refl is (none-unfit (i + 1) cs) where
-  behind : Option ℕ
-  behind = position_from (λ (x : Command). not (may_be_grouped x)) (i + 1) cs
+  following : Option ℕ
+  following = position_from (λ (x : Command). not (may_be_grouped x)) (i + 1) cs
 
-  by : (b : Bool) → may_be_grouped c ≡ b → cond (not b) (Some i) behind ≡ None → (behind ≡ None → MayBeGrouped cs) → MayBeGrouped (c ∷ cs)
+  by : (b : Bool) → may_be_grouped c ≡ b → cond (not b) (Some i) following ≡ None → (following ≡ None → MayBeGrouped cs) → MayBeGrouped (c ∷ cs)
   by true may rest more = (may, more rest)
   by false never rest more = absurd (cc (rest))
 
@@ -252,7 +252,7 @@ taken-or-not h commands = by (group_check h commands) refl where
 pub record IsAccepted (h : CurrentOpening) (commands : List Command) (replies : List Reply) : Type 0 where
   pub taken : IsTaken h commands
   pub stored : Bool
-  pub told : replies ≡ map (told_as stored) (replies_due h [] commands)
+  pub reported : replies ≡ map (as_due_or_stored stored) (replies_due h [] commands)
 
 pub accepted : (h : CurrentOpening) (commands : List Command) (replies : List Reply) (failed : Bool) → LegalReplies h commands (Ok replies) failed → IsAccepted h commands replies
 accepted h commands replies failed legal = by (group_check h commands) refl legal where
@@ -260,27 +260,27 @@ accepted h commands replies failed legal = by (group_check h commands) refl lega
   due = replies_due h [] commands
 
   by : (check : Result (Unit {0}) Refusal) → group_check h commands ≡ check → (Ok replies ≡ replies_unless check due) ⊎ GroupStandsIn h commands failed (replies_unless check due) (Ok replies) → IsAccepted h commands replies
-  by (Ok tt) is (inl same) = record { taken = taken-group h commands is; stored = false; told = (let one : replies ≡ due = cc (same) in one) ∙ sym (map-id due) }
-  by (Ok tt) is (inr stored) = record { taken = taken-group h commands is; stored = true; told = stored }
+  by (Ok tt) is (inl same) = record { taken = taken-group h commands is; stored = false; reported = (let one : replies ≡ due = cc (same) in one) ∙ sym (map-id due) }
+  by (Ok tt) is (inr stored) = record { taken = taken-group h commands is; stored = true; reported = stored }
   by (Err e) is (inl same) = absurd (cc (same))
   by (Err e) is (inr none) = absurd none
 
 pub accepted-course : (h : CurrentOpening) (commands : List Command) (replies : List Reply) → IsAccepted h commands replies → IsCourse h [] commands replies
-accepted-course h commands replies a = subst (λ (rs : List Reply). IsCourse h [] commands rs) (sym a.told) (course h [] commands a.stored a.taken.none a.taken.may)
+accepted-course h commands replies a = subst (λ (rs : List Reply). IsCourse h [] commands rs) (sym a.reported) (course h [] commands a.stored a.taken.none a.taken.may)
 
-pub group-told : (h : CurrentOpening) (commands : List Command) (result : Result (List Reply) Refusal) (failed : Bool) → LegalReplies h commands result failed
-    → AreTold h.tickets (moved_by h.tickets (mentions_of_group commands result)) (flat_map tickets_in (replies_in result))
-group-told h commands (Ok replies) failed legal =
+pub group-reported : (h : CurrentOpening) (commands : List Command) (result : Result (List Reply) Refusal) (failed : Bool) → LegalReplies h commands result failed
+    → AreTicketsGiven h.tickets (moved_by h.tickets (mentions_of_group commands result)) (flat_map tickets_in (replies_in result))
+group-reported h commands (Ok replies) failed legal =
     let k : IsCourse h [] commands replies = accepted-course h commands replies (accepted h commands replies failed legal) in
     let names : List RulesetName = flat_map voided_by (changes_due h [] commands) in
-    subst (λ (t : PlainTickets). AreTold h.tickets t (flat_map tickets_in replies)) (sym k.mentions) (subst (AreTold h.tickets (moved_by h.tickets (switches names))) (sym k.untold)
-    (none-told h.tickets (moved_by h.tickets (switches names)) (tickets_keep.commit h.tickets names) (begins_give.commit h.tickets names)))
-group-told h commands (Err e) failed legal = none-told h.tickets h.tickets (λ w. w) (record { epoch = refl; next = omega arith })
+    subst (λ (t : PlainTickets). AreTicketsGiven h.tickets t (flat_map tickets_in replies)) (sym k.mentions) (subst (AreTicketsGiven h.tickets (moved_by h.tickets (switches names))) (sym k.no_tickets)
+    (none-reported h.tickets (moved_by h.tickets (switches names)) (tickets_keep.commit h.tickets names) (begins_give.commit h.tickets names)))
+group-reported h commands (Err e) failed legal = none-reported h.tickets h.tickets (λ w. w) (record { epoch = refl; next = omega arith })
 
 -- a group gives no ticket
-pub group-untold : (h : CurrentOpening) (commands : List Command) (result : Result (List Reply) Refusal) (failed : Bool) → LegalReplies h commands result failed → flat_map tickets_in (replies_in result) ≡ []
-group-untold h commands (Ok replies) failed legal = (accepted-course h commands replies (accepted h commands replies failed legal)).untold
-group-untold h commands (Err e) failed legal = refl
+pub group-no_tickets : (h : CurrentOpening) (commands : List Command) (result : Result (List Reply) Refusal) (failed : Bool) → LegalReplies h commands result failed → flat_map tickets_in (replies_in result) ≡ []
+group-no_tickets h commands (Ok replies) failed legal = (accepted-course h commands replies (accepted h commands replies failed legal)).no_tickets
+group-no_tickets h commands (Err e) failed legal = refl
 
 -- if the device didn't fail, a refusal of the whole leaves nothing
 none-kept : (h : CurrentOpening) (commands : List Command) (due : Result (List Reply) Refusal) (e : Refusal) (gs : List (List PlainChange)) → GroupStandsIn h commands false due (Err e) → cond (is_fault e) gs [] ≡ []

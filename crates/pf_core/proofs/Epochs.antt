@@ -4,7 +4,7 @@ use Rattle.std.specs.{List.AllByRecursion}
 use Rattle.pf_ticket.specs.{declared.{name.RulesetName.RulesetName, ticket.Ticket.Ticket}, Laws.Tickets.IsGivenLast, Mentions.{Mention, opened as left_by}, Names.{is_ticket, tickets_from}, Tickets.{PlainTickets, fresh, valid_ticket}}
 use Rattle.pf_ticket.proofs.{Latest.valid_is_given_last, Moves.epoch-stays}
 use Rattle.pf_core.specs.{Durable.Changes.after, History.{base_of, tickets_in, tickets_by, tickets_given}, Laws.Openings.{AreVoid, VoidsTickets, RaisesTheEpoch}, Laws.Worlds.{mentions_by, mentions_since}, Worlds.{Setting, CurrentOpening, State, up, down, Event, called, called_group, entered, learned, crashed, opened, refused_opening, flat, kept_groups, next, IsLegal, state_after, IsLegalFrom}}
-use Rattle.pf_core.proofs.{Courses.group-untold, Folds.after-epoch, Limits.legal-told, LongerWorlds.{AgreesIn, agrees-next, agrees-from, AreLegal, in-two}}
+use Rattle.pf_core.proofs.{Courses.group-no_tickets, Folds.after-epoch, Limits.legal-reported, LongerWorlds.{AgreesIn, agrees-next, agrees-from, AreLegal, in-two}}
 
 -- ---- epochs
 
@@ -57,9 +57,9 @@ step-up : (st : State) (ms : List Mention) (ev : Event) (e : ℕ) → IsLegal st
 step-up (up h) ms (called c t) e legal agrees low =
     let own : h.tickets.epoch ≡ h.base.epoch = own-epoch h ms agrees in
     let ts : List Ticket = tickets_in c.reply in
-    subst (AreUpTo e) (sym (legal-told h c.command c.reply t.failed legal.reply).told) (from-up h.tickets.epoch h.tickets.next (length ts) e (omega (arith, own, low)))
+    subst (AreUpTo e) (sym (legal-reported h c.command c.reply t.failed legal.reply).reported) (from-up h.tickets.epoch h.tickets.next (length ts) e (omega (arith, own, low)))
 step-up (down d) ms (called c t) e legal agrees low = absurd legal
-step-up (up h) ms (called_group cs result t) e legal agrees low = subst (AreUpTo e) (sym (group-untold h cs result t.failed legal.reply)) tt
+step-up (up h) ms (called_group cs result t) e legal agrees low = subst (AreUpTo e) (sym (group-no_tickets h cs result t.failed legal.reply)) tt
 step-up (down d) ms (called_group cs result t) e legal agrees low = absurd legal
 step-up st ms ev e legal agrees low = tt
 

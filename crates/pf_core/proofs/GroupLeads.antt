@@ -3,7 +3,7 @@ use Rattle.std.proofs.Common.{◌≡◌, ℕ, ◌+◌, Bool, true, false, ◌⊎
 use Rattle.std.proofs.lemmas.List.{length-append}
 use Rattle.std.specs.Prelude.{map, fold}
 use Rattle.pf_core.specs.{declared.{command.Command.Command, reply.Refusal.Refusal, reply.Refusal.TheVariants.Fault, reply.Reply.Reply, step.Step.Step}, Durable.Changes.{PlainDurable, PlainChange}, WorldBooks.{WorldBook, IsAt, LeadsGroup}, Cores.PlainCore, Worlds.{CurrentOpening, flat, log_of, step_in, reply_to, changes_of, grouped, amid, changes_with, changes_due, replies_due, group_all, upshot, shown_by, as_stored, LegalReplies}}
-use Rattle.pf_core.proofs.Courses.{log-amid, IsOfGroup, told, wanted, refused, step-amid, MayBeGrouped, IsTaken, told_as, course, unkept-group}
+use Rattle.pf_core.proofs.Courses.{log-amid, IsOfGroup, reported, wanted, refused, step-amid, MayBeGrouped, IsTaken, as_due_or_stored, course, unkept-group}
 
 -- ---- what the replies show
 
@@ -15,7 +15,7 @@ shown-still : (h : CurrentOpening) (first : ℕ) (changes : List PlainChange) (n
 shown-still h first changes n old = subst (λ (es : List PlainChange). IsShownSo h first es n) (sym (append-nil changes)) old
 
 shown-step : (h : CurrentOpening) (first : ℕ) (changes : List PlainChange) (n : ℕ) (c : Command) (s : Result Step Refusal) → h.pending ≡ [] → IsOfGroup c s → IsShownSo h first changes n → IsShownSo h first (changes ++ changes_of s) (shown_by (reply_to (amid h changes) s) n)
-shown-step h first changes n _ _ none (told c a unmentioned silent) old = subst (λ (m : ℕ). IsShownSo h first (changes ++ []) m) (sym (silent.shown n)) (shown-still h first changes n old)
+shown-step h first changes n _ _ none (reported c a unmentioned silent) old = subst (λ (m : ℕ). IsShownSo h first (changes ++ []) m) (sym (silent.shown n)) (shown-still h first changes n old)
 shown-step h first changes n _ _ none (wanted c e o mentions) old =
     let log : length (log_of (amid h changes)) ≡ length (flat h.acked) + length changes = log-amid h changes none in
     let long : length (changes ++ e ∷ []) ≡ length changes + 1 = length-append changes (e ∷ []) in
@@ -31,7 +31,7 @@ shown-due h first changes n (c ∷ cs) none may old =
     shown-due h first (changes_with h changes c) (shown_by (reply_to (amid h changes) s) n) cs none may.1 (shown-step h first changes n c s none (step-amid (amid h changes) c may.0) old)
 
 stored-step : (a : CurrentOpening) (c : Command) (s : Result Step Refusal) (n : ℕ) → IsOfGroup c s → shown_by (as_stored (reply_to a s)) n ≡ n
-stored-step a _ _ n (told c x unmentioned silent) = silent.shown n
+stored-step a _ _ n (reported c x unmentioned silent) = silent.shown n
 stored-step a _ _ n (wanted c e o mentions) = refl
 stored-step a _ _ n (refused c e) = refl
 
@@ -77,11 +77,11 @@ fault-group-leads h b commands legal at = record {
 
 -- one that was kept is acknowledged; its changes are shown, or stored
 pub kept-group-leads : (h : CurrentOpening) (b : WorldBook) (w : PlainCore) (copy : PlainDurable) (n : ℕ) (stored : Bool) (commands : List Command) → (taken : IsTaken h commands)
-    → LegalReplies h commands (Ok (map (told_as stored) (replies_due h [] commands))) false
+    → LegalReplies h commands (Ok (map (as_due_or_stored stored) (replies_due h [] commands))) false
     → w.tickets ≡ (amid h (changes_due h [] commands)).tickets
-    → n ≡ fold (λ (m : ℕ) (r : Reply). shown_by r m) h.shown (map (told_as stored) (replies_due h [] commands))
+    → n ≡ fold (λ (m : ℕ) (r : Reply). shown_by r m) h.shown (map (as_due_or_stored stored) (replies_due h [] commands))
     → IsAt h b
-    → LeadsGroup h (record b { whole = w; acked = b.acked ++ grouped (changes_due h [] commands); shown = n; published = copy }) commands (Ok (map (told_as stored) (replies_due h [] commands))) (upshot n false)
+    → LeadsGroup h (record b { whole = w; acked = b.acked ++ grouped (changes_due h [] commands); shown = n; published = copy }) commands (Ok (map (as_due_or_stored stored) (replies_due h [] commands))) (upshot n false)
 kept-group-leads h b w copy n stored commands taken legal moved shown at = record {
   legal = record { reply = legal; shown = shown };
   at = record {

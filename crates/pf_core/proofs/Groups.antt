@@ -2,7 +2,7 @@
 use Rattle.std.proofs.{Common.{◌≡◌, ℕ, ◌+◌, ◌<◌, ◌≤◌, Bool, true, false, cond, ◌⊎◌, inl, inr, List, [], ◌∷◌, ◌++◌, length, take, refl, sym, ap, ◌∙◌, subst, append_assoc, append-nil, Result, Ok, Err, nat_lt, arith}, lemmas.Bool.Decides.nat_tests}
 use Rattle.pf_addr.specs.Refusing.{and_then, unless}
 use Rattle.pf_core.specs.{declared.{command.Command.Command, command.Command.TheVariants.Ask, command.Command.TheVariants.History, reply.Refusal.Refusal, reply.Outcome.Outcome, reply.Refusal.TheVariants.Halted, reply.Refusal.TheVariants.HistoryFull, reply.Refusal.TheVariants.Full, reply.Reply.Reply, reply.Reply.TheVariants.Answer, reply.Reply.TheVariants.Applied, reply.Reply.TheVariants.Stored, reply.Reply.TheVariants.Refused, step.Step.Step, step.Step.TheVariants.Done, step.Step.TheVariants.Wants, step.Step.TheVariants.OfHistory}, Commands.{step_by, group_words}, Durable.Changes.PlainChange, History.{acked_of, pending_of, kept_by, earlier, acknowledged, history, offered_by, offered, AreAmong}, Laws.Openings.{IsFrontOf, KeepsWhole, KeepsAcknowledged}, Worlds.{CurrentOpening, State, up, down, Event, called, called_group, entered, learned, crashed, opened, refused_opening, log_of, durable_of, is_halted, room_for, if_ok, or_refused, due_at, group_at, group_in, grouped, changes_due, group_all, group_of, kept_groups, acked_by, is_fault, pending_by, acked_by_group, pending_by_group, next, state_after}}
-use Rattle.pf_core.proofs.Prefixes.{front-more, front-trans, front-behind, among-refl, among-take, among-append, among-trans}
+use Rattle.pf_core.proofs.Prefixes.{front-more, front-trans, front-onto, among-refl, among-take, among-append, among-trans}
 
 -- ---- the group of a step
 
@@ -103,7 +103,7 @@ acknowledged-front st [] later = acked-front st later
 acknowledged-front st (ev ∷ evs) later =
     let mid : State = next st ev in
     let kept : List (List PlainChange) = kept_by st ev in
-    let rest : IsFrontOf (kept ++ acknowledged mid evs) (kept ++ history mid (evs ++ later)) = front-behind kept (acknowledged mid evs) (history mid (evs ++ later)) (acknowledged-front mid evs later) in
+    let rest : IsFrontOf (kept ++ acknowledged mid evs) (kept ++ history mid (evs ++ later)) = front-onto kept (acknowledged mid evs) (history mid (evs ++ later)) (acknowledged-front mid evs later) in
     subst (λ (l : List (List PlainChange)). IsFrontOf l (history st (ev ∷ (evs ++ later)))) (sym (append_assoc kept (earlier mid evs) (acked_of (state_after mid evs))))
     (subst (λ (l : List (List PlainChange)). IsFrontOf (kept ++ acknowledged mid evs) l) (sym (history-first st ev (evs ++ later))) rest)
 

@@ -2,8 +2,8 @@
 use Rattle.std.proofs.{Common.{◌≡◌, ℕ, ◌+◌, Bool, true, false, cond, List, [], ◌∷◌, ◌++◌, length, refl, sym, ap, ◌∙◌, subst, append_assoc, append-nil, Result, Ok, Err}, lemmas.List.length-append}
 use Rattle.std.specs.{Prelude.nat_lt, List.AllByRecursion}
 use Rattle.pf_ticket.specs.{Mentions.{Mention, after as moved_by}, Tickets.PlainTickets}
-use Rattle.pf_core.specs.{declared.{command.Command.Command, reply.Outcome.Outcome, reply.Refusal.Refusal, reply.Refusal.TheVariants.HistoryFull, reply.Refusal.TheVariants.Full, reply.Reply.Reply, reply.Reply.TheVariants.Applied, step.Step.Step, step.Step.TheVariants.Wants}, Calls.{call, mentions_of}, Commands.{may_be_grouped, step_by}, Durable.Changes.{PlainDurable, PlainChange, after}, Laws.Groups.{heard_due, dues_one_by_one, one_by_one, has_room, GroupsAreInTurn, HaveRoomEach, RoomyGroupsAreInTurn}, Worlds.{Setting, CurrentOpening, flat, log_of, durable_of, step_in, reply_to, changes_of, room_for, if_ok, or_refused, due_at, due, grouped, group_at, group_in, amid, changes_with, changes_due, replies_due, acked_by, is_fault, pending_by}}
-use Rattle.pf_core.proofs.{Courses.{flat-with, log-amid, tickets-amid, IsOfGroup, told, wanted, refused, step-amid, unhalted-in, IsOneMore, one-more, MayBeGrouped}, Prefixes.flat-append, LongerWorlds.none-of-none}
+use Rattle.pf_core.specs.{declared.{command.Command.Command, reply.Outcome.Outcome, reply.Refusal.Refusal, reply.Refusal.TheVariants.HistoryFull, reply.Refusal.TheVariants.Full, reply.Reply.Reply, reply.Reply.TheVariants.Applied, step.Step.Step, step.Step.TheVariants.Wants}, Calls.{call, mentions_of}, Commands.{may_be_grouped, step_by}, Durable.Changes.{PlainDurable, PlainChange, after}, Laws.Groups.{heard_due, dues_one_by_one, one_by_one, found_room, GroupsAreInTurn, HaveRoomEach, RoomyGroupsAreInTurn}, Worlds.{Setting, CurrentOpening, flat, log_of, durable_of, step_in, reply_to, changes_of, room_for, if_ok, or_refused, due_at, due, grouped, group_at, group_in, amid, changes_with, changes_due, replies_due, acked_by, is_fault, pending_by}}
+use Rattle.pf_core.proofs.{Courses.{flat-with, log-amid, tickets-amid, IsOfGroup, reported, wanted, refused, step-amid, unhalted-in, IsOneMore, one-more, MayBeGrouped}, Prefixes.flat-append, LongerWorlds.none-of-none}
 
 -- the opening in the middle of a group is like the one that its calls led to
 record IsLike (h : CurrentOpening) (changes : List PlainChange) (b : CurrentOpening) : Type 0 where
@@ -30,7 +30,7 @@ record IsSame (a : CurrentOpening) (s : Result Step Refusal) (r : Reply) (g : Li
   changes : flat (acked_by r g) ≡ changes_of s
   pending : pending_by r g ≡ []
 
-wanted-same : (a b : CurrentOpening) (e : PlainChange) (o : Outcome) → length (log_of a) ≡ length (log_of b) → has_room (due_at b (Ok (Wants e o))) ≡ true → IsSame a (Ok (Wants e o)) (due_at b (Ok (Wants e o))) (group_at b (Ok (Wants e o)))
+wanted-same : (a b : CurrentOpening) (e : PlainChange) (o : Outcome) → length (log_of a) ≡ length (log_of b) → found_room (due_at b (Ok (Wants e o))) ≡ true → IsSame a (Ok (Wants e o)) (due_at b (Ok (Wants e o))) (group_at b (Ok (Wants e o)))
 wanted-same a b e o log room = by (nat_lt b.setting.limit (length (log_of b) + 1)) (b.setting.is_full b.base b.acked (e ∷ [])) room where
   found : (long full : Bool) → Result (Unit {0}) Refusal
   found long full = cond long (Err HistoryFull) (cond full (Err Full) (Ok tt))
@@ -38,13 +38,13 @@ wanted-same a b e o log room = by (nat_lt b.setting.limit (length (log_of b) + 1
   r : Reply
   r = Applied (length (log_of b) + 1) o
 
-  by : (long full : Bool) → has_room (or_refused (found long full) r) ≡ true → IsSame a (Ok (Wants e o)) (or_refused (found long full) r) (if_ok (found long full) ((e ∷ []) ∷ []) [])
+  by : (long full : Bool) → found_room (or_refused (found long full) r) ≡ true → IsSame a (Ok (Wants e o)) (or_refused (found long full) r) (if_ok (found long full) ((e ∷ []) ∷ []) [])
   by true full room = absurd (cc (room))
   by false true room = absurd (cc (room))
   by false false room = record { reply = ap (λ (n : ℕ). Applied (n + 1) o) log; changes = refl; pending = refl }
 
-same-reply : (a b : CurrentOpening) (c : Command) (s : Result Step Refusal) → IsOfGroup c s → length (log_of a) ≡ length (log_of b) → has_room (due_at b s) ≡ true → IsSame a s (due_at b s) (group_at b s)
-same-reply a b _ _ (told c x unmentioned silent) log room = record { reply = refl; changes = refl; pending = refl }
+same-reply : (a b : CurrentOpening) (c : Command) (s : Result Step Refusal) → IsOfGroup c s → length (log_of a) ≡ length (log_of b) → found_room (due_at b s) ≡ true → IsSame a s (due_at b s) (group_at b s)
+same-reply a b _ _ (reported c x unmentioned silent) log room = record { reply = refl; changes = refl; pending = refl }
 same-reply a b _ _ (wanted c e o mentions) log room = wanted-same a b e o log room
 same-reply a b _ _ (refused c e) log room = record { reply = refl; changes = refl; pending = none-of-none (is_fault e) [] refl }
 
@@ -81,14 +81,14 @@ module _ (h : CurrentOpening) (changes : List PlainChange) (b : CurrentOpening) 
   }
 
 -- where each reply finds room
-are-like : (h : CurrentOpening) (changes : List PlainChange) (b : CurrentOpening) (commands : List Command) → IsLike h changes b → MayBeGrouped commands → AllByRecursion (λ r. has_room r ≡ true) (dues_one_by_one b commands) → AreLike h changes b commands
+are-like : (h : CurrentOpening) (changes : List PlainChange) (b : CurrentOpening) (commands : List Command) → IsLike h changes b → MayBeGrouped commands → AllByRecursion (λ r. found_room r ≡ true) (dues_one_by_one b commands) → AreLike h changes b commands
 are-like h changes b [] like may room = record { replies = refl; changes = like.acked; tickets = like.tickets }
 are-like h changes b (c ∷ cs) like may room =
     let a : CurrentOpening = amid h changes in
     let s : Result Step Refusal = step_in a c in
     let same : s ≡ step_in b c = same-step h changes b c like in
     let one : IsSame a s (due b c) (group_in b c) = subst (λ (x : Result Step Refusal). IsSame a s (due_at b x) (group_at b x)) same
-    (same-reply a b c s (step-amid a c may.0) (same-log h changes b like) (subst (λ (x : Result Step Refusal). has_room (due_at b x) ≡ true) (sym same) room.0)) in
+    (same-reply a b c s (step-amid a c may.0) (same-log h changes b like) (subst (λ (x : Result Step Refusal). found_room (due_at b x) ≡ true) (sym same) room.0)) in
     one-like h changes b c cs like may.0 one (are-like h (changes_with h changes c) (heard_due b c) cs (next-like h changes b c cs like may.0 one) may.1 room.1)
 
 pub groups_are_in_turn : GroupsAreInTurn
@@ -126,7 +126,7 @@ record Finds (b : CurrentOpening) (s : Result Step Refusal) (u : Result (Unit {0
   rooms : HaveRoomEach (record b { acked = b.acked ++ acked_by (or_refused u (reply_to b s)) (if_ok u (grouped (changes_of s)) []) }) rest
 
 finds : (b : CurrentOpening) (c : Command) (s : Result Step Refusal) (rest : List PlainChange) → IsOfGroup c s → HaveRoomEach b (changes_of s ++ rest) → Finds b s (room_for b (changes_of s)) rest
-finds b _ _ rest (told c x unmentioned silent) rooms = record {
+finds b _ _ rest (reported c x unmentioned silent) rooms = record {
   same = record { reply = refl; changes = refl; pending = refl };
   rooms = same-rooms b (record b { acked = b.acked ++ [] }) rest (record { setting = refl; base = refl; acked = sym (append-nil b.acked); pending = refl }) rooms;
 }
@@ -141,7 +141,7 @@ finds b _ _ rest (wanted c e o mentions) rooms = subst (λ (u : Result (Unit {0}
 
 -- a reply says the same wherever the history is as long
 alike : (a b : CurrentOpening) (c : Command) (s : Result Step Refusal) → IsOfGroup c s → length (log_of a) ≡ length (log_of b) → reply_to a s ≡ reply_to b s
-alike a b _ _ (told c x unmentioned silent) log = refl
+alike a b _ _ (reported c x unmentioned silent) log = refl
 alike a b _ _ (wanted c e o mentions) log = ap (λ (n : ℕ). Applied (n + 1) o) log
 alike a b _ _ (refused c e) log = refl
 

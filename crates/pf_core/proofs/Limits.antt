@@ -3,8 +3,8 @@ use Rattle.std.proofs.{Common.{T, ◌&&◌, ◌||◌, ◌⊎◌, ◌≡◌, ℕ,
 use Rattle.std.specs.{Prelude.{map, flat_map, fold}, FinMap.is_sorted, List.list_all}
 use Rattle.pf_addr.specs.Path.Names.{name_order}
 use Rattle.pf_ticket.specs.{declared.{ticket.Ticket.Ticket, name.RulesetKind.RulesetKind, name.RulesetKind.TheVariants.Filter, name.RulesetKind.TheVariants.Table, entry.RulesetTicket.RulesetTicket}, Laws.Tickets.{IsFew, IsWithin as AreTicketsWithin, AreOnce}, Mentions.after as moved_by, Names.{tickets_from, ticket}, Tickets.{Loaded, PlainTickets, offered_as, loaded, content}}
-use Rattle.pf_core.specs.{Durable.Changes.{is_in_order, PlainDurable, PlainChange, applied, after}, History.tickets_in, Laws.Worlds.{CommitsNameOnce, given_by, tickets_since, GivesEachOnce, KeepsTheLimits, failed_by, failed_since}, Laws.Wanted.wants, declared.{command.Command.Command, command.HistoryCommand.HistoryCommand, reply.Answer.Answer, reply.Outcome.Outcome, reply.Refusal.Refusal, reply.Reply.Reply, reply.Reply.TheVariants.Answer as Answered, reply.Reply.TheVariants.Applied, reply.Reply.TheVariants.Stored, reply.Reply.TheVariants.Refused, step.Step.Step, step.Step.TheVariants.Done, step.Step.TheVariants.Wants, step.Step.TheVariants.OfHistory}, Calls.{call, mentions_of, mentions_of_group, replies_in, Call}, Commands.{item_of, items, step_by, may_change, mentioned}, Laws.Durable.IsWithin, Worlds.{CurrentOpening, log_of, durable_of, is_halted, step_in, told_of_history, room_for, or_refused, due_at, due, StandsIn, LegalReply, LegalReplies, State, up, down, raised, Upshot, Doing, idle, calling, grouping, Event, called, called_group, entered, learned, crashed, opened, refused_opening, flat, group_in, kept_groups, acked_by, is_fault, pending_by, acked_by_group, pending_by_group, grouped, changes_due, group_all, heard, heard_group, sighted, next, LegalCall, LegalGroup, IsLegal, state_after, IsLegalFrom, IsWorld}}
-use Rattle.pf_core.proofs.{Checks.named_none, Courses.{durable-amid, length-with, course-within, IsTaken, taken-or-not, accepted, group-told, unkept-group}, Groups.{IsKept, IsNotKept, kept-or-not, either, room-of}, Stepping.{AreTold, none-told, answered-told, left-told, applied-told, unhalted, change-within}, LongerWorlds.{flat-push, refused-unkept}, Switching.named-alone}
+use Rattle.pf_core.specs.{Durable.Changes.{is_in_order, PlainDurable, PlainChange, applied, after}, History.tickets_in, Laws.Worlds.{CommitsNameOnce, given_by, tickets_since, GivesEachOnce, KeepsTheLimits, failed_by, failed_since}, Laws.Wanted.wants, declared.{command.Command.Command, command.HistoryCommand.HistoryCommand, reply.Answer.Answer, reply.Outcome.Outcome, reply.Refusal.Refusal, reply.Reply.Reply, reply.Reply.TheVariants.Answer as Answered, reply.Reply.TheVariants.Applied, reply.Reply.TheVariants.Stored, reply.Reply.TheVariants.Refused, step.Step.Step, step.Step.TheVariants.Done, step.Step.TheVariants.Wants, step.Step.TheVariants.OfHistory}, Calls.{call, mentions_of, mentions_of_group, replies_in, Call}, Commands.{item_of, items, step_by, may_change, mentioned}, Laws.Durable.IsWithin, Worlds.{CurrentOpening, log_of, durable_of, is_halted, step_in, history_answer, room_for, or_refused, due_at, due, StandsIn, LegalReply, LegalReplies, State, up, down, raised, Upshot, Doing, idle, calling, grouping, Event, called, called_group, entered, learned, crashed, opened, refused_opening, flat, group_in, kept_groups, acked_by, is_fault, pending_by, acked_by_group, pending_by_group, grouped, changes_due, group_all, heard, heard_group, sighted, next, LegalCall, LegalGroup, IsLegal, state_after, IsLegalFrom, IsWorld}}
+use Rattle.pf_core.proofs.{Checks.named_none, Courses.{durable-amid, length-with, course-within, IsTaken, taken-or-not, accepted, group-reported, unkept-group}, Groups.{IsKept, IsNotKept, kept-or-not, either, room-of}, Stepping.{AreTicketsGiven, none-reported, answered-reported, left-reported, applied-reported, unhalted, change-within}, LongerWorlds.{flat-push, refused-unkept}, Switching.named-alone}
 use Rattle.pf_map.proofs.Tests.{true_of}
 use Rattle.pf_ticket.proofs.{TicketLimits.keeps_the_limits as tickets_keep, Twice.gives_each_once as once_given}
 
@@ -14,7 +14,7 @@ use Rattle.pf_ticket.proofs.{TicketLimits.keeps_the_limits as tickets_keep, Twic
 pub record IsOfHistory (h : CurrentOpening) (s : Result Step Refusal) (a : Answer) : Type 0 where
   pub command : HistoryCommand
   pub left : s ≡ Ok (OfHistory command)
-  pub answer : a ≡ told_of_history h command
+  pub answer : a ≡ history_answer h command
 
 pub answered-step : (h : CurrentOpening) (s : Result Step Refusal) (a : Answer) → Answered a ≡ due_at h s → (s ≡ Ok (Done a)) ⊎ IsOfHistory h s a
 answered-step h (Ok (Done b)) a is = let same : a ≡ b = cc (is) in inl (ap (λ (x : Answer). Ok (Done x)) (sym same))
@@ -46,9 +46,9 @@ stored-undue h (Ok (Wants e p)) n o is = by (room_for h (e ∷ [])) is where
   by (Ok u) is = cc (is)
   by (Err x) is = cc (is)
 
-stored-stands : (h : CurrentOpening) (c : Command) (failed : Bool) (told : Reply) (n : ℕ) (o : Outcome) → StandsIn h c failed told (Stored n o) → Applied n o ≡ told
+stored-stands : (h : CurrentOpening) (c : Command) (failed : Bool) (reported : Reply) (n : ℕ) (o : Outcome) → StandsIn h c failed reported (Stored n o) → Applied n o ≡ reported
 stored-stands h c failed (Applied m p) n o stands = cc (stands.0, stands.1)
-stored-stands h c failed told n o stands = absurd stands
+stored-stands h c failed reported n o stands = absurd stands
 
 pub stored-step : (h : CurrentOpening) (c : Command) (n : ℕ) (o : Outcome) (failed : Bool) → LegalReply h c (Stored n o) failed → IsApplied h (step_in h c) n
 stored-step h c n o failed (inl is) = absurd (stored-undue h (step_in h c) n o is)
@@ -58,26 +58,26 @@ stored-step h c n o failed (inr stands) = applied-step h (step_in h c) n o (stor
 due-wanted : (h : CurrentOpening) (c : Command) (k : IsKept h (step_in h c)) → step_by h.tickets (durable_of h) c ≡ Ok (Wants k.change k.outcome)
 due-wanted h c k = unhalted (may_change c && is_halted h.pending) (step_by h.tickets (durable_of h) c) (Wants k.change k.outcome) k.wanted
 
-pub legal-told : (h : CurrentOpening) (c : Command) (r : Reply) (failed : Bool) → LegalReply h c r failed → AreTold h.tickets (moved_by h.tickets (mentions_of (call c r))) (tickets_in r)
-legal-told h c (Answered a) failed (inl is) = by (answered-step h (step_in h c) a is) where
+pub legal-reported : (h : CurrentOpening) (c : Command) (r : Reply) (failed : Bool) → LegalReply h c r failed → AreTicketsGiven h.tickets (moved_by h.tickets (mentions_of (call c r))) (tickets_in r)
+legal-reported h c (Answered a) failed (inl is) = by (answered-step h (step_in h c) a is) where
   halted : Bool
   halted = may_change c && is_halted h.pending
 
   own : Result Step Refusal
   own = step_by h.tickets (durable_of h) c
 
-  by : (step_in h c ≡ Ok (Done a)) ⊎ IsOfHistory h (step_in h c) a → AreTold h.tickets (moved_by h.tickets (mentioned c)) (tickets_in (Answered a))
-  by (inl done) = answered-told h.tickets (durable_of h) c a (unhalted halted own (Done a) done)
-  by (inr k) = left-told h h.tickets (durable_of h) c k.command a (unhalted halted own (OfHistory k.command) k.left) k.answer
-legal-told h c (Answered a) failed (inr none) = absurd none
-legal-told h c (Applied n o) failed (inl is) =
+  by : (step_in h c ≡ Ok (Done a)) ⊎ IsOfHistory h (step_in h c) a → AreTicketsGiven h.tickets (moved_by h.tickets (mentioned c)) (tickets_in (Answered a))
+  by (inl done) = answered-reported h.tickets (durable_of h) c a (unhalted halted own (Done a) done)
+  by (inr k) = left-reported h h.tickets (durable_of h) c k.command a (unhalted halted own (OfHistory k.command) k.left) k.answer
+legal-reported h c (Answered a) failed (inr none) = absurd none
+legal-reported h c (Applied n o) failed (inl is) =
     let k : IsKept h (step_in h c) = (applied-step h (step_in h c) n o is).kept in
-    applied-told h.tickets (durable_of h) c k.change (wants h.tickets (durable_of h) c k.change k.outcome (due-wanted h c k))
-legal-told h c (Applied n o) failed (inr none) = absurd none
-legal-told h c (Stored n o) failed legal =
+    applied-reported h.tickets (durable_of h) c k.change (wants h.tickets (durable_of h) c k.change k.outcome (due-wanted h c k))
+legal-reported h c (Applied n o) failed (inr none) = absurd none
+legal-reported h c (Stored n o) failed legal =
     let k : IsKept h (step_in h c) = (stored-step h c n o failed legal).kept in
-    applied-told h.tickets (durable_of h) c k.change (wants h.tickets (durable_of h) c k.change k.outcome (due-wanted h c k))
-legal-told h c (Refused e) failed legal = none-told h.tickets h.tickets (λ w. w) (record { epoch = refl; next = omega arith })
+    applied-reported h.tickets (durable_of h) c k.change (wants h.tickets (durable_of h) c k.change k.outcome (due-wanted h c k))
+legal-reported h c (Refused e) failed legal = none-reported h.tickets h.tickets (λ w. w) (record { epoch = refl; next = omega arith })
 
 -- ---- one more event
 
@@ -115,15 +115,15 @@ numbered-on epoch ts us old new =
     ap (λ (xs : List Ticket). xs ++ us) old ∙ ap (λ (xs : List Ticket). tickets_from epoch 1 (length ts) ++ xs) new ∙ sym (more-from epoch 1 (length ts) (length us)) ∙ ap (tickets_from epoch 1) (sym (length-append ts us))
 
 -- with the tickets of one more reply
-numbered-more : (epoch : ℕ) (t new : PlainTickets) (ts us : List Ticket) → AreTold t new us → AreNumbered epoch t ts → AreNumbered epoch new (ts ++ us)
-numbered-more epoch t new ts us told all =
+numbered-more : (epoch : ℕ) (t new : PlainTickets) (ts us : List Ticket) → AreTicketsGiven t new us → AreNumbered epoch t ts → AreNumbered epoch new (ts ++ us)
+numbered-more epoch t new ts us reported all =
     let before : t.next ≡ 1 + length ts = all.next in
-    let count : new.next ≡ t.next + length us = told.given.next in
+    let count : new.next ≡ t.next + length us = reported.given.next in
     record {
-      within = told.within all.within;
-      epoch = told.given.epoch ∙ all.epoch;
+      within = reported.within all.within;
+      epoch = reported.given.epoch ∙ all.epoch;
       next = omega (arith, count, before, length-append ts us);
-      numbered = numbered-on epoch ts us all.numbered (told.told ∙ ap (λ (e : ℕ). tickets_from e t.next (length us)) all.epoch ∙ ap (λ (n : ℕ). tickets_from epoch n (length us)) before);
+      numbered = numbered-on epoch ts us all.numbered (reported.reported ∙ ap (λ (e : ℕ). tickets_from e t.next (length us)) all.epoch ∙ ap (λ (n : ℕ). tickets_from epoch n (length us)) before);
     }
 
 -- what was acknowledged is kept within the limits
@@ -204,7 +204,7 @@ quiet-on h c r false false legal quiet none = ap (λ (gs : List (List PlainChang
 
 holds-on : (first : PlainDurable) (h : CurrentOpening) (ts : List Ticket) (failed : Bool) (c : Call) (t : Upshot) → LegalCall h c t → Holds first h ts failed → Holds first (heard h c t) (ts ++ tickets_in c.reply) (failed || t.failed)
 holds-on first h ts failed c t legal all = record {
-  tickets = numbered-more h.base.epoch h.tickets (moved_by h.tickets (mentions_of c)) ts (tickets_in c.reply) (legal-told h c.command c.reply t.failed legal.reply) all.tickets;
+  tickets = numbered-more h.base.epoch h.tickets (moved_by h.tickets (mentions_of c)) ts (tickets_in c.reply) (legal-reported h c.command c.reply t.failed legal.reply) all.tickets;
   quiet = quiet-on h c.command c.reply failed t.failed legal.reply all.quiet;
   logged = logged-on first h ts failed c.command c.reply t.failed legal.reply all;
 }
@@ -271,7 +271,7 @@ quiet-on-group h cs result false false legal quiet none = ap (λ (gs : List (Lis
 holds-on-group : (first : PlainDurable) (h : CurrentOpening) (ts : List Ticket) (failed : Bool) (cs : List Command) (result : Result (List Reply) Refusal) (t : Upshot) → LegalGroup h cs result t → Holds first h ts failed
     → Holds first (heard_group h cs result t) (ts ++ flat_map tickets_in (replies_in result)) (failed || t.failed)
 holds-on-group first h ts failed cs result t legal all = record {
-  tickets = numbered-more h.base.epoch h.tickets (moved_by h.tickets (mentions_of_group cs result)) ts (flat_map tickets_in (replies_in result)) (group-told h cs result t.failed legal.reply) all.tickets;
+  tickets = numbered-more h.base.epoch h.tickets (moved_by h.tickets (mentions_of_group cs result)) ts (flat_map tickets_in (replies_in result)) (group-reported h cs result t.failed legal.reply) all.tickets;
   quiet = quiet-on-group h cs result failed t.failed legal.reply all.quiet;
   logged = logged-on-group first h ts failed cs result t.failed legal.reply all;
 }

@@ -57,10 +57,10 @@ pub none-of-none : (b : Bool) (gs : List (List PlainChange)) → gs ≡ [] → c
 none-of-none true gs is = is
 none-of-none false gs is = refl
 
-none-stands : (h : CurrentOpening) (c : Command) (told : Reply) (e : Refusal) (gs : List (List PlainChange)) → StandsIn h c false told (Refused e) → cond (is_fault e) gs [] ≡ []
-none-stands h c told Memory gs stands = refl
+none-stands : (h : CurrentOpening) (c : Command) (reported : Reply) (e : Refusal) (gs : List (List PlainChange)) → StandsIn h c false reported (Refused e) → cond (is_fault e) gs [] ≡ []
+none-stands h c reported Memory gs stands = refl
 none-stands h c (Applied n o) Fault gs stands = absurd (cc (stands))
-none-stands h c told e gs stands = absurd stands
+none-stands h c reported e gs stands = absurd stands
 
 -- if the device didn't fail, a refusal leaves nothing
 pub refused-unkept : (h : CurrentOpening) (c : Command) (e : Refusal) → LegalReply h c (Refused e) false → pending_by (Refused e) (group_in h c) ≡ []
@@ -85,13 +85,13 @@ crashes_are_events first world h doing d legal comes left = (
 pub record AreLegal (st : State) (world : List Event) (ev : Event) (later : List Event) : Type 0 where
   pub before : IsLegalFrom st world
   pub here : IsLegal (state_after st world) ev
-  pub behind : IsLegalFrom (next (state_after st world) ev) later
+  pub following : IsLegalFrom (next (state_after st world) ev) later
 
 pub in-two : (st : State) (world : List Event) (ev : Event) (later : List Event) → IsLegalFrom st (world ++ ev ∷ later) → AreLegal st world ev later
-in-two st [] ev later legal = record { before = tt; here = legal.0; behind = legal.1 }
+in-two st [] ev later legal = record { before = tt; here = legal.0; following = legal.1 }
 in-two st (x ∷ xs) ev later legal =
     let rest : AreLegal (next st x) xs ev later = in-two (next st x) xs ev later legal.1 in
-    record { before = (legal.0, rest.before); here = rest.here; behind = rest.behind }
+    record { before = (legal.0, rest.before); here = rest.here; following = rest.following }
 
 -- ---- what was mentioned since an opening
 

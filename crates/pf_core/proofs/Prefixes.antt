@@ -14,8 +14,8 @@ front-more xs ys = (ys, refl)
 pub front-trans : {A : Type 0} (xs ys zs : List A) → IsFrontOf xs ys → IsFrontOf ys zs → IsFrontOf xs zs
 front-trans {A} xs ys zs f g = (f.0 ++ g.0, g.1 ∙ ap (λ (l : List A). l ++ g.0) f.1 ∙ append_assoc xs f.0 g.0)
 
-pub front-behind : {A : Type 0} (ps xs ys : List A) → IsFrontOf xs ys → IsFrontOf (ps ++ xs) (ps ++ ys)
-front-behind {A} ps xs ys f = (f.0, ap (λ (l : List A). ps ++ l) f.1 ∙ sym (append_assoc ps xs f.0))
+pub front-onto : {A : Type 0} (ps xs ys : List A) → IsFrontOf xs ys → IsFrontOf (ps ++ xs) (ps ++ ys)
+front-onto {A} ps xs ys f = (f.0, ap (λ (l : List A). ps ++ l) f.1 ∙ sym (append_assoc ps xs f.0))
 
 pub front-take : {A : Type 0} (n : ℕ) (xs : List A) → IsFrontOf (take n xs) xs
 front-take n xs = (drop n xs, sym (take-append-drop n xs))

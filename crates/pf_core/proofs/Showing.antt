@@ -1,9 +1,9 @@
 -- What is shown, and what workers see and learn of it.
 use Rattle.std.proofs.{Common.{◌≡◌, ℕ, ◌+◌, ◌≤◌, ◌&&◌, Bool, false, ◌⊎◌, inl, inr, List, [], ◌∷◌, ◌++◌, length, take, refl, sym, ap, ◌∙◌, subst, append-nil, le_refl, le_trans, Result, Ok, Err, arith}, lemmas.List.length-append}
 use Rattle.std.specs.Prelude.{fold, ⊤}
-use Rattle.pf_core.specs.{declared.{command.Command.Command, command.HistoryCommand.HistoryCommand, command.HistoryCommand.TheVariants.Log, command.HistoryCommand.TheVariants.Publish, command.Question.Question, command.Question.TheVariants.Judge, command.Question.TheVariants.Test, command.Question.TheVariants.ShowRules, command.Question.TheVariants.ShowTables, command.Question.TheVariants.ShowStates, command.Question.TheVariants.Sum, command.Question.TheVariants.Export, reply.Answer.Answer, reply.Refusal.Refusal, reply.Reply.Reply, reply.Reply.TheVariants.Answer as Answered, reply.Reply.TheVariants.Applied, reply.Reply.TheVariants.Stored, reply.Reply.TheVariants.Refused, step.Step.TheVariants.Done}, Calls.{Call, replies_in}, Commands.{answer_of, step_by, may_change}, Durable.Changes.{PlainDurable, PlainChange}, History.{acked_of, earlier, acknowledged, history}, Laws.{Openings.{IsFrontOf, seen, IsSeenBy, KeepsSeen, KeepsLearnt}, Worlds.{hides, hidden_by, hidden_since, ShowsAll}}, Worlds.{CurrentOpening, State, up, down, log_of, durable_of, flat, is_halted, step_in, told_of_history, group_in, Upshot, Event, called, called_group, entered, learned, crashed, opened, refused_opening, acked_by, shown_by_answer, shown_by, heard, heard_group, changes_due, group_all, next, LegalReply, LegalCall, LegalGroup, IsLegal, state_after, IsLegalFrom}}
+use Rattle.pf_core.specs.{declared.{command.Command.Command, command.HistoryCommand.HistoryCommand, command.HistoryCommand.TheVariants.Log, command.HistoryCommand.TheVariants.Publish, command.Question.Question, command.Question.TheVariants.Judge, command.Question.TheVariants.Test, command.Question.TheVariants.ShowRules, command.Question.TheVariants.ShowTables, command.Question.TheVariants.ShowStates, command.Question.TheVariants.Sum, command.Question.TheVariants.Export, reply.Answer.Answer, reply.Refusal.Refusal, reply.Reply.Reply, reply.Reply.TheVariants.Answer as Answered, reply.Reply.TheVariants.Applied, reply.Reply.TheVariants.Stored, reply.Reply.TheVariants.Refused, step.Step.TheVariants.Done}, Calls.{Call, replies_in}, Commands.{answer_of, step_by, may_change}, Durable.Changes.{PlainDurable, PlainChange}, History.{acked_of, earlier, acknowledged, history}, Laws.{Openings.{IsFrontOf, seen, IsSeenBy, KeepsSeen, KeepsLearnt}, Worlds.{hides, hidden_by, hidden_since, ShowsAll}}, Worlds.{CurrentOpening, State, up, down, log_of, durable_of, flat, is_halted, step_in, history_answer, group_in, Upshot, Event, called, called_group, entered, learned, crashed, opened, refused_opening, acked_by, shown_by_answer, shown_by, heard, heard_group, changes_due, group_all, next, LegalReply, LegalCall, LegalGroup, IsLegal, state_after, IsLegalFrom}}
 use Rattle.pf_ticket.specs.Tickets.{PlainTickets}
-use Rattle.pf_core.proofs.{Prefixes.{flat-append, front-trans, front-behind, front-take, front-flat}, Groups.{IsKept, either, acknowledged-front}, Courses.{AreShown, length-with, IsAccepted, accepted, accepted-course}, Stepping.{IsOfSteps, step-answers, unhalted}, Limits.{IsOfHistory, answered-step, IsApplied, applied-step, AreFewUnacknowledged, few-unacknowledged}, LongerWorlds.{flat-push, AreLegal, in-two}}
+use Rattle.pf_core.proofs.{Prefixes.{flat-append, front-trans, front-onto, front-take, front-flat}, Groups.{IsKept, either, acknowledged-front}, Courses.{AreShown, length-with, IsAccepted, accepted, accepted-course}, Stepping.{IsOfSteps, step-answers, unhalted}, Limits.{IsOfHistory, answered-step, IsApplied, applied-step, AreFewUnacknowledged, few-unacknowledged}, LongerWorlds.{flat-push, AreLegal, in-two}}
 
 -- ---- by the reply
 
@@ -47,7 +47,7 @@ nothing-shown h hidden a none old =
     (subst (λ (b : Bool). IsShown (h.acked ++ []) h.shown b) (sym (none.hidden hidden)) (still-shown h.acked h.shown hidden old))
 
 -- a publish shows all
-history-shown : (h : CurrentOpening) (hidden : Bool) (x : HistoryCommand) → IsShown h.acked h.shown hidden → IsShown (h.acked ++ []) (shown_by_answer (told_of_history h x) h.shown) (hides hidden (Answered (told_of_history h x)))
+history-shown : (h : CurrentOpening) (hidden : Bool) (x : HistoryCommand) → IsShown h.acked h.shown hidden → IsShown (h.acked ++ []) (shown_by_answer (history_answer h x) h.shown) (hides hidden (Answered (history_answer h x)))
 history-shown h hidden Log old = still-shown h.acked h.shown hidden old
 history-shown h hidden Publish old = still-shown h.acked (length (flat h.acked)) false (record { within = le_refl _; all = λ none. refl })
 
@@ -136,8 +136,8 @@ learned-within (up h) worker n hidden legal shown = le_trans legal shown.within
 learned-within (down d) worker n hidden legal shown = absurd legal
 
 -- what was acknowledged before an event is kept after it, whatever the event and what comes later
-stays-behind : (event : Event) (first : PlainDurable) (world later : List Event) (n : ℕ) → n ≤ length (flat (acked_of (state_after (down first) world))) → IsSeenBy event first world later n
-stays-behind event first world later n within =
+stays-later : (event : Event) (first : PlainDurable) (world later : List Event) (n : ℕ) → n ≤ length (flat (acked_of (state_after (down first) world))) → IsSeenBy event first world later n
+stays-later event first world later n within =
     let st : State = down first in
     let more : List Event = event ∷ later in
     let here : List PlainChange = flat (acked_of (state_after st world)) in
@@ -145,7 +145,7 @@ stays-behind event first world later n within =
     record {
       acknowledged = within;
       stays = front-trans (seen first world n) (flat (acknowledged st world)) (flat (history st (world ++ more)))
-          (subst (λ (l : List PlainChange). IsFrontOf (seen first world n) l) (sym (flat-append (earlier st world) (acked_of (state_after st world)))) (front-behind before (take n here) here (front-take n here)))
+          (subst (λ (l : List PlainChange). IsFrontOf (seen first world n) l) (sym (flat-append (earlier st world) (acked_of (state_after st world)))) (front-onto before (take n here) here (front-take n here)))
           (front-flat (acknowledged st world) (history st (world ++ more)) (acknowledged-front st world more));
     }
 
@@ -153,12 +153,12 @@ pub keeps_seen : KeepsSeen
 keeps_seen first world later worker n legal =
     let st : State = down first in
     let parts : AreLegal st world (entered worker n) later = in-two st world (entered worker n) later legal in
-    stays-behind (entered worker n) first world later n
+    stays-later (entered worker n) first world later n
     (entered-within (state_after st world) worker n (hidden_since world) parts.here (shown-from st false world parts.before tt))
 
 pub keeps_learnt : KeepsLearnt
 keeps_learnt first world later worker n legal =
     let st : State = down first in
     let parts : AreLegal st world (learned worker n) later = in-two st world (learned worker n) later legal in
-    stays-behind (learned worker n) first world later n
+    stays-later (learned worker n) first world later n
     (learned-within (state_after st world) worker n (hidden_since world) parts.here (shown-from st false world parts.before tt))

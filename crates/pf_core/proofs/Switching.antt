@@ -7,7 +7,7 @@ use Rattle.pf_table.specs.Entries.{PlainEntry}
 use Rattle.pf_map.specs.ListMaps.{list_by}
 use Rattle.pf_anchor.specs.{Laws.Configurations.rules_by, Rulesets.{PlainPlaced, rules_at, with_rules}, Tables.{TableKey, PlainPlacedTable, table_order, with_table}}
 use Rattle.pf_anchor.proofs.{RulesetMaps.replaced_in_turn, TableMaps.tables_replaced}
-use Rattle.pf_ticket.specs.{declared.{entry.RulesetTicket.RulesetTicket, name.RulesetKind.RulesetKind, name.RulesetKind.TheVariants.Filter, name.RulesetKind.TheVariants.Table, name.RulesetName.RulesetName, refusal.TicketRefusal.TheVariants.BadCount, refusal.TicketRefusal.TheVariants.Twice, refusal.TicketRefusal.TheVariants.Busy}, Laws.Names.{paths_alike, name_is}, Names.{same_kind, same_name, is_named, names_of, filter_at, table_ruleset_at, IsDistinct}, Replies.{bad_count, twice_behind, twice_in, busy_in, list_check, commit_check}, Mentions.{Mention, switched, switches, dropped, named_in, after}, NamedTables.PlainDefinedTable, Tickets.{Loaded, PlainTickets, offered_as, loaded, offer_at, ticket_in, valid_ticket, content}}
+use Rattle.pf_ticket.specs.{declared.{entry.RulesetTicket.RulesetTicket, name.RulesetKind.RulesetKind, name.RulesetKind.TheVariants.Filter, name.RulesetKind.TheVariants.Table, name.RulesetName.RulesetName, refusal.TicketRefusal.TheVariants.BadCount, refusal.TicketRefusal.TheVariants.Twice, refusal.TicketRefusal.TheVariants.Busy}, Laws.Names.{paths_alike, name_is}, Names.{same_kind, same_name, is_named, names_of, filter_at, table_ruleset_at, IsDistinct}, Replies.{bad_count, twice_after, twice_in, busy_in, list_check, commit_check}, Mentions.{Mention, switched, switches, dropped, named_in, after}, NamedTables.PlainDefinedTable, Tickets.{Loaded, PlainTickets, offered_as, loaded, offer_at, ticket_in, valid_ticket, content}}
 use Rattle.pf_ticket.proofs.{Moves.{leaves_the_others as mentions_leave, commit_takes_out, gives-named}, Twice.otherwise_once}
 use Rattle.pf_core.specs.{declared.{durable.change.Item.Item, command.Command.TheVariants.Transact, command.Command.TheVariants.Edit, command.Command.TheVariants.States as OfStates, command.Command.TheVariants.Ask, command.Command.TheVariants.History, command.Transaction.TheVariants.Begin, command.Transaction.TheVariants.Add, command.Transaction.TheVariants.Define, command.Transaction.TheVariants.Extend, command.Transaction.TheVariants.Commit, command.Transaction.TheVariants.Rollback}, Commands.{item_of, items, mentioned, is_accepted}, Durable.Changes.{PlainDurable, PlainChange, name_of, commits, rulesets_in, placed, tables_in, entries_at, applied}, Laws.Commands.{tables_offered, AreTablesSwitched, AreSwitched, SwitchesAll, LeaveTheOtherKind, KeepsNoneValid, MentionsTheNamed, LeavesTheOthers, RefusedMentionNothing}, Laws.Wanted.{IsCommitted, names-items, wants_commit}}
 use Rattle.pf_core.proofs.Edited.{same-keys}
@@ -129,9 +129,9 @@ not-twice false None h = refl
 not-twice false (Some i) h = absurd (cc (h))
 
 -- a commit whose tickets are valid names no ruleset twice
-pub named-alone : (t : PlainTickets) (entries : List RulesetTicket) → commit_check t entries ≡ Ok tt → twice_behind [] (map name_of (items (content t) entries)) ≡ None
+pub named-alone : (t : PlainTickets) (entries : List RulesetTicket) → commit_check t entries ≡ Ok tt → twice_after [] (map name_of (items (content t) entries)) ≡ None
 named-alone t entries good =
-    ap (λ (ns : List RulesetName). twice_behind [] ns) (names-items t entries)
+    ap (λ (ns : List RulesetName). twice_after [] ns) (names-items t entries)
     ∙ not-twice (bad_count (length entries)) (twice_in entries) ((both_passed (list_check entries) (refused_at (λ i. Busy i) (busy_in t entries)) tt good).first)
 
 named-once : (t : PlainTickets) (entries : List RulesetTicket) → commit_check t entries ≡ Ok tt → IsDistinct (names_of entries)

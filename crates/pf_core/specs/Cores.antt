@@ -21,11 +21,11 @@ abbrev pub prepared : PlainDurable → PlainChange → Result PlainNext Refusal
 prepared d e = unless_unfit (fits d e) (Ok (left_by d e))
 
 -- the same within a group, after what earlier changes left
-abbrev pub left_behind : PlainNext → PlainChange → PlainNext
-left_behind before e = next_with (applied before.durable e) (before.voided ++ voided_by e)
+abbrev pub left_from : PlainNext → PlainChange → PlainNext
+left_from before e = next_with (applied before.durable e) (before.voided ++ voided_by e)
 
 abbrev pub prepared_from : PlainNext → PlainChange → Result PlainNext Refusal
-prepared_from before e = unless_unfit (fits before.durable e) (Ok (left_behind before e))
+prepared_from before e = unless_unfit (fits before.durable e) (Ok (left_from before e))
 
 -- what a command leaves of the open transactions: a step that wants a change kept, is left to whoever keeps the history, or is refused,
 -- leaves them as they were
@@ -50,7 +50,7 @@ plain (Err e) = Err e
 -- what was made is what the change leaves, after what earlier ones of a group left
 abbrev pub IsMadeFrom : PlainNext → Result ReadyStep Refusal → Type 0
 IsMadeFrom before (Ok (made.Done a)) = ⊤
-IsMadeFrom before (Ok (made.Wants e n o)) = n ≡ left_behind before e
+IsMadeFrom before (Ok (made.Wants e n o)) = n ≡ left_from before e
 IsMadeFrom before (Ok (made.OfHistory c)) = ⊤
 IsMadeFrom before (Err e) = ⊤
 

@@ -1,7 +1,7 @@
 -- Worlds: lists of events over openings and crashes, which of them are legal, and what they leave.
 use Rattle.std.specs.Prelude.{◌≡◌, ◌≢◌, ℕ, ◌+◌, ◌<◌, ◌≤◌, ◌&&◌, ◌⊎◌, Bool, true, false, if◌then◌else◌, List, [], ◌∷◌, ◌++◌, length, map, flat_map, take, fold, nat_lt, ⊤, Result, Ok, Err}
 use Rattle.pf_addr.specs.Refusing.{and_then, unless}
-use Rattle.pf_core.specs.{declared.{command.Command.Command, reply.Refusal.Refusal, reply.Refusal.TheVariants.Halted, reply.Refusal.TheVariants.HistoryFull, reply.Refusal.TheVariants.Full, reply.Refusal.TheVariants.Fault, reply.Refusal.TheVariants.Memory, reply.Reply.Reply, reply.Reply.TheVariants.Answer, command.HistoryCommand.HistoryCommand, command.HistoryCommand.TheVariants.Log, command.HistoryCommand.TheVariants.Publish, reply.Answer.Answer as Told, reply.Answer.TheVariants.Logged, reply.Answer.TheVariants.Shown, reply.Reply.TheVariants.Applied, reply.Reply.TheVariants.Stored, reply.Reply.TheVariants.Refused, step.Step.Step, step.Step.TheVariants.Done, step.Step.TheVariants.Wants, step.Step.TheVariants.OfHistory}, Calls.{Call, mentions_of, replies_in, mentions_of_group}, Commands.{step_by, may_change, takes_memory, group_words}, Durable.Changes.{PlainDurable, PlainChange, in_epoch, after, voided_by}}
+use Rattle.pf_core.specs.{declared.{command.Command.Command, reply.Refusal.Refusal, reply.Refusal.TheVariants.Halted, reply.Refusal.TheVariants.HistoryFull, reply.Refusal.TheVariants.Full, reply.Refusal.TheVariants.Fault, reply.Refusal.TheVariants.Memory, reply.Reply.Reply, reply.Reply.TheVariants.Answer, command.HistoryCommand.HistoryCommand, command.HistoryCommand.TheVariants.Log, command.HistoryCommand.TheVariants.Publish, reply.Answer.Answer as Reported, reply.Answer.TheVariants.Logged, reply.Answer.TheVariants.Shown, reply.Reply.TheVariants.Applied, reply.Reply.TheVariants.Stored, reply.Reply.TheVariants.Refused, step.Step.Step, step.Step.TheVariants.Done, step.Step.TheVariants.Wants, step.Step.TheVariants.OfHistory}, Calls.{Call, mentions_of, replies_in, mentions_of_group}, Commands.{step_by, may_change, takes_memory, group_words}, Durable.Changes.{PlainDurable, PlainChange, in_epoch, after, voided_by}}
 use Rattle.pf_ticket.specs.{Tickets.{PlainTickets, fresh}, Mentions.{switches, after as moved_by}}
 
 -- ---- states
@@ -75,15 +75,15 @@ abbrev pub step_in : CurrentOpening → Command → Result Step Refusal
 step_in h c = if may_change c && is_halted h.pending then Err Halted else step_by h.tickets (durable_of h) c
 
 -- what the history answers: how many changes there are, are acknowledged, are shown; a publish shows all that were acknowledged
-abbrev pub told_of_history : CurrentOpening → HistoryCommand → Told
-told_of_history h Log = Logged (length (log_of h)) (length (flat h.acked)) h.shown
-told_of_history h Publish = Shown (length (flat h.acked))
+abbrev pub history_answer : CurrentOpening → HistoryCommand → Reported
+history_answer h Log = Logged (length (log_of h)) (length (flat h.acked)) h.shown
+history_answer h Publish = Shown (length (flat h.acked))
 
 -- the reply to a step, if there is room
 abbrev pub reply_to : CurrentOpening → Result Step Refusal → Reply
 reply_to h (Ok (Done a)) = Answer a
 reply_to h (Ok (Wants e o)) = Applied (length (log_of h) + 1) o
-reply_to h (Ok (OfHistory c)) = Answer (told_of_history h c)
+reply_to h (Ok (OfHistory c)) = Answer (history_answer h c)
 reply_to h (Err e) = Refused e
 
 -- the change that it wants, if any
@@ -275,7 +275,7 @@ StandsIn h c failed due r = ⊥
 abbrev pub LegalReply : CurrentOpening → Command → Reply → Bool → Type 0
 LegalReply h c r failed = (r ≡ due h c) ⊎ StandsIn h c failed (due h c) r
 
-abbrev pub shown_by_answer : Told → ℕ → ℕ
+abbrev pub shown_by_answer : Reported → ℕ → ℕ
 shown_by_answer (Shown n) shown = n
 shown_by_answer a shown = shown
 

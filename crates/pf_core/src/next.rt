@@ -25,7 +25,7 @@ impl Model for Next {
 }
 
 // The names `before`, then these.
-fn behind(
+fn concat_names(
     alloc: Global,
     before: &[RulesetName],
     mut names: Vec<RulesetName>,
@@ -50,7 +50,7 @@ impl Next {
     ) -> Result<Next, AllocError>
         ensures { IfOk result (λ n. n ≡ next_with left (before.now ++ voided_by change.now)) }
     {
-        let voided = behind(alloc, before, change.voided(alloc)?)?;
+        let voided = concat_names(alloc, before, change.voided(alloc)?)?;
         let Ok(durable) = Arc::new(alloc, left) else {
             return Err(AllocError);
         };

@@ -19,7 +19,7 @@ overwritten_elsewhere at old bytes fits = record {
     | inl below ↦ grind (arith, places)
     | inr above ↦ elim (cases_lt i (at + length bytes)) [
       | inl within ↦ absurd (grind (arith, nat_tests))
-      | inr behind ↦ grind (arith, places)
+      | inr following ↦ grind (arith, places)
     ]
   ];
 }

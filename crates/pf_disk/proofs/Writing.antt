@@ -51,8 +51,8 @@ module _ {D : Type 0} {device : Ghosts D} where
   at_most run few = record { any_moment = run.any_moment; read = run.read; same_size = run.same_size; moments = omega (arith, run.moments, few); faults = run.faults }
 
   -- whether a call failed, by what is known of that
-  pub told : {old new : D} {most : ℕ} {failed was : Bool} {P : List ℕ → Type 0} → failed ≡ was → MayWrite device old new most was P → MayWrite device old new most failed P
-  told {old = old} {new = new} {most = most} {P = P} is run = subst (λ (f : Bool). MayWrite device old new most f P) (sym is) run
+  pub failed_as : {old new : D} {most : ℕ} {failed was : Bool} {P : List ℕ → Type 0} → failed ≡ was → MayWrite device old new most was P → MayWrite device old new most failed P
+  failed_as {old = old} {new = new} {most = most} {P = P} is run = subst (λ (f : Bool). MayWrite device old new most f P) (sym is) run
 
 -- one call of the device
 pub called : {D : Type 0} (device : Ghosts D) (old new : D) {T E : Type 0} {P : List ℕ → Type 0} (result : Result T E) → ((c : List ℕ) → device.left_since old (device.moment old) c → IsImage (device.seen old) (device.unsynced old) c)

@@ -3,7 +3,7 @@ use Rattle.std.proofs.{Common.{◌≡◌, ◌<◌, ◌≤◌, ℕ, zero, suc, fa
 use Rattle.std.specs.{Prelude.{nat_lt, map, IfOk, IfErr}, List.{flat_map, AllByRecursion}}
 use Rattle.byteorder.specs.Endian.{big_number}
 use Rattle.pf_form.specs.declared.{bytes.fault.Fault.Fault, bytes.fault.Fault.TheVariants.Short, bytes.fault.Undecoded.Undecoded}
-use Rattle.pf_form.specs.{Bytes.BasicForms.{Bytes, number_at, number_bytes, times_by, constant_at, onto_each}, Bytes.Forms.{Shape, Value, Form, Spells, number, times, onto}, Bytes.Readers.{GivesAll, IfFault, Refused, read_all}, Laws.Bytes.Onto.onto_is, Laws.Bytes.Texts.{found, only, refused}}
+use Rattle.pf_form.specs.{Bytes.BasicForms.{Bytes, number_at, number_bytes, times_by, constant_at, onto_each}, Bytes.Forms.{Shape, Value, ByteForm, Spells, number, times, onto}, Bytes.Readers.{GivesAll, IfFault, Refused, read_all}, Laws.Bytes.Onto.onto_is, Laws.Bytes.Texts.{found, only, refused}}
 use Rattle.pf_form.specs.declared.bytes.fault.Undecoded.TheVariants as undecoded
 
 -- ---- bytes
@@ -49,7 +49,7 @@ item_fits P view (y ∷ xs) (suc i) x lt e all = item_fits P view xs i x (omega 
 
 -- ---- whole texts
 
-module _ {X : Type 0} {a : Shape} (f : Form a) (view : X → Value a) (bytes : List ℕ) where
+module _ {X : Type 0} {a : Shape} (f : ByteForm a) (view : X → Value a) (bytes : List ℕ) where
   pub is_found : (r : Result X Undecoded) → Bytes bytes → GivesAll view r (read_all f bytes) → IfOk r (λ x. Spells f (view x) bytes)
   is_found (Ok x) h e = found f bytes (view x) h e
   is_found (Err s) h e = tt

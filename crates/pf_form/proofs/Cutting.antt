@@ -24,7 +24,7 @@ past_blanks (b ∷ bs) line h = past_blank b (bs ++ line) (All-head Blank b bs h
 kept : (w : Word) (parts : List Word) → 0 < length w → filter some (w ∷ parts) ≡ w ∷ filter some parts
 kept w parts h = rw (lt-ltb 0 (length w) h) refl
 
-past_word : (w : Word) (behind : List ℕ) → IsWord w → EndsWord behind → words_of (w ++ behind) ≡ w ∷ words_of behind
+past_word : (w : Word) (following : List ℕ) → IsWord w → EndsWord following → words_of (w ++ following) ≡ w ∷ words_of following
 past_word w [] is e = ap words_of (append-nil w) ∙ ap (filter some) (slice_split_none is_blank w is.1) ∙ kept w [] is.0
 past_word w (b ∷ bs) is e =
     ap (filter some) (slice_split_at is_blank w b bs is.1 e) ∙ kept w (slice_split is_blank bs) is.0 ∙ ap (λ (ws : List Word). w ∷ ws) (sym (past_blank b bs e))
@@ -40,12 +40,12 @@ cut_only line (w ∷ ws) h =
 -- what comes before the first blank, and the words after it
 record Parts (line : List ℕ) : Type 0 where
   pub front : List ℕ
-  pub behind : List ℕ
+  pub following : List ℕ
   pub words : List Word
-  pub all : line ≡ front ++ behind
+  pub all : line ≡ front ++ following
   pub word : All Inked front
-  pub ends : EndsWord behind
-  pub cut : IsCut behind words
+  pub ends : EndsWord following
+  pub cut : IsCut following words
 
 abbrev Cut : List ℕ → Type 0
 Cut line = (ws : List Word) × IsCut line ws
@@ -57,21 +57,21 @@ blank_before b line h (w ∷ ws, c) =
     let first : IsFirstWord line w c.0 = c.1 in
     (w ∷ ws, (c.0, record { blanks = b ∷ first.blanks; all = ap (λ (l : List ℕ). b ∷ l) first.all; blank = All-cons Blank b first.blanks h first.blank; word = first.word; ends = first.ends }, c.2))
 
-cut_of : (line front behind : List ℕ) (ws : List Word) → line ≡ front ++ behind → All Inked front → EndsWord behind → IsCut behind ws → Cut line
-cut_of line [] behind ws e h ends c = (ws, subst (λ (l : List ℕ). IsCut l ws) (sym e) c)
-cut_of line (b ∷ bs) behind ws e h ends c = ((b ∷ bs) ∷ ws, (behind, record { blanks = []; all = e; blank = All-nil Blank; word = (omega arith, h); ends = ends }, c))
+cut_of : (line front following : List ℕ) (ws : List Word) → line ≡ front ++ following → All Inked front → EndsWord following → IsCut following ws → Cut line
+cut_of line [] following ws e h ends c = (ws, subst (λ (l : List ℕ). IsCut l ws) (sym e) c)
+cut_of line (b ∷ bs) following ws e h ends c = ((b ∷ bs) ∷ ws, (following, record { blanks = []; all = e; blank = All-nil Blank; word = (omega arith, h); ends = ends }, c))
 
 cut_at : (line : List ℕ) → Parts line → Cut line
-cut_at line p = cut_of line p.front p.behind p.words p.all p.word p.ends p.cut
+cut_at line p = cut_of line p.front p.following p.words p.all p.word p.ends p.cut
 
 parts_by : (t : Bool) (b : ℕ) (line : List ℕ) → is_blank b ≡ t → Parts line → Parts (b ∷ line)
 parts_by true b line h p =
     let c : Cut (b ∷ line) = blank_before b line h (cut_at line p) in
-    record { front = []; behind = b ∷ line; words = c.0; all = refl; word = All-nil Inked; ends = h; cut = c.1 }
-parts_by false b line h p = record { front = b ∷ p.front; behind = p.behind; words = p.words; all = ap (λ (l : List ℕ). b ∷ l) p.all; word = All-cons Inked b p.front h p.word; ends = p.ends; cut = p.cut }
+    record { front = []; following = b ∷ line; words = c.0; all = refl; word = All-nil Inked; ends = h; cut = c.1 }
+parts_by false b line h p = record { front = b ∷ p.front; following = p.following; words = p.words; all = ap (λ (l : List ℕ). b ∷ l) p.all; word = All-cons Inked b p.front h p.word; ends = p.ends; cut = p.cut }
 
 parts : (line : List ℕ) → Parts line
-parts [] = record { front = []; behind = []; words = []; all = refl; word = All-nil Inked; ends = tt; cut = All-nil Blank }
+parts [] = record { front = []; following = []; words = []; all = refl; word = All-nil Inked; ends = tt; cut = All-nil Blank }
 parts (b ∷ line) = parts_by (is_blank b) b line refl (parts line)
 
 pub line_is_cut : (line : List ℕ) → IsCut line (words_of line)

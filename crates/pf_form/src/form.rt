@@ -12,7 +12,7 @@ mod number;
 mod reading;
 mod splitting;
 
-pub use fault::{Kind, Stop, Unread};
+pub use fault::{Kind, Unread, WordFault};
 pub use laws::{numbers_are_read_as_written, words_stand_between_blanks};
 pub use number::read_number;
 pub use reading::{Words, bad_word, each, end, expect, stop, takes};

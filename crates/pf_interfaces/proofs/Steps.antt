@@ -7,8 +7,8 @@ use Rattle.pf_form.specs.Form.Words.{Word, texts}
 use Rattle.std.specs.Prelude.{codes}
 use Rattle.pf_tokens.specs.declared.token.Token.{Token}
 use Rattle.pf_tokens.specs.Words.{is_symbol}
-use Rattle.pf_interfaces.specs.declared.{interface.Held.Held, interface.Interface.Interface, hosts.Context.Context, mention.Mention.Mention, addresses.Front.Front}
-use Rattle.pf_interfaces.specs.{Interfaces.{held_of, all_held}, Hosts.{beginning, takes_list, within_behind, within_closed, behind}, Addresses.{mention_at, front_by, front_of, known_from, with_addresses, Goes}}
+use Rattle.pf_interfaces.specs.declared.{interface.OwnAddress.OwnAddress, interface.Interface.Interface, hosts.Context.Context, mention.Mention.Mention, addresses.Front.Front}
+use Rattle.pf_interfaces.specs.{Interfaces.{held_of, all_held}, Hosts.{beginning, takes_list, within_after, within_closed, context_after}, Addresses.{mention_at, front_by, front_of, known_from, with_addresses, Goes}}
 
 pub drop_item : {X : Type 0} → (xs : List X) (i : ℕ) (x : X) → i < length xs → x ≡ get_or xs i x → drop i xs ≡ x ∷ drop (i + 1) xs
 drop_item {X} xs i x in_list here =
@@ -32,20 +32,20 @@ flat_item {X} {Y} f xs i x in_list here =
 drop_get : {X : Type 0} → (xs : List X) (i : ℕ) (d : X) → i < length xs → drop i xs ≡ get_or xs i d ∷ drop (i + 1) xs
 drop_get {X} xs i d in_list = drop-cons xs i d in_list ∙ ap (λ (n : ℕ). get_or xs i d ∷ drop n xs) (sym (add-one i))
 
-pub held_next : (parts : List (Bor Word)) (i : ℕ) (d : Bor Word) (hs : List Held) (h : Held) (whole : Option (List Held))
+pub held_next : (parts : List (Bor Word)) (i : ℕ) (d : Bor Word) (hs : List OwnAddress) (h : OwnAddress) (whole : Option (List OwnAddress))
     → whole ≡ all_held hs (texts (drop i parts)) → i < length parts → held_of (get_or parts i d).now ≡ Some h
     → whole ≡ all_held (hs ++ h ∷ []) (texts (drop (i + 1) parts))
 unfolding all_held
 held_next parts i d hs h whole known within is =
     known ∙ ap (λ (ps : List (Bor Word)). all_held hs (texts ps)) (drop_get parts i d within) ∙ rw is refl
 
-pub held_none : (parts : List (Bor Word)) (i : ℕ) (d : Bor Word) (hs : List Held) (whole : Option (List Held))
+pub held_none : (parts : List (Bor Word)) (i : ℕ) (d : Bor Word) (hs : List OwnAddress) (whole : Option (List OwnAddress))
     → whole ≡ all_held hs (texts (drop i parts)) → i < length parts → held_of (get_or parts i d).now ≡ None → whole ≡ None
 unfolding all_held
 held_none parts i d hs whole known within is =
     known ∙ ap (λ (ps : List (Bor Word)). all_held hs (texts ps)) (drop_get parts i d within) ∙ rw is refl
 
-pub held_end : (parts : List (Bor Word)) (i : ℕ) (hs : List Held) (whole : Option (List Held)) → whole ≡ all_held hs (texts (drop i parts))
+pub held_end : (parts : List (Bor Word)) (i : ℕ) (hs : List OwnAddress) (whole : Option (List OwnAddress)) → whole ≡ all_held hs (texts (drop i parts))
     → length parts ≤ i → whole ≡ Some hs
 unfolding all_held
 held_end parts i hs whole known past = known ∙ ap (λ (ps : List (Bor Word)). all_held hs (texts ps)) (drop_all i parts past)
@@ -93,11 +93,11 @@ either_deep true x y n first second = first
 either_deep false x y n first second = second
 
 pub front_deep : (c : Context) (t : Token) (m : Option Mention) → deep_of (front_by c t m).context ≤ c.deep + 1
-unfolding behind
+unfolding context_after
 front_deep c t (Some m) = either_deep (c.deep == 0) beginning c (c.deep + 1) (omega arith) (omega arith)
 front_deep c t None =
     let more : Context = record { within = c.within; deep = c.deep + 1; is_bound = false } in
-    let none : Context = record { within = within_behind c.within t; deep = 0; is_bound = false } in
+    let none : Context = record { within = within_after c.within t; deep = 0; is_bound = false } in
     let fewer : Context = record { within = within_closed c; deep = c.deep - 1; is_bound = false } in
     let same : Context = record { within = c.within; deep = c.deep; is_bound = is_symbol (codes "<") t || is_symbol (codes "!") t } in
     either_deep (is_symbol (codes "{") t && takes_list c) more _ (c.deep + 1) (omega arith)

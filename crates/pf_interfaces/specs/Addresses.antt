@@ -6,7 +6,7 @@ use Rattle.pf_tokens.specs.declared.{place.Place.Place, token.Token.Token, token
 use Rattle.pf_tokens.specs.{Places.at, Words.is_word}
 use Rattle.pf_values.specs.Numbers.{Word}
 use Rattle.pf_interfaces.specs.declared.{interface.Interface.Interface, mention.Mention.Mention, hosts.Context.Context, hosts.Within.TheVariants.Table, addresses.Front.Front}
-use Rattle.pf_interfaces.specs.{Mentions.mention_in, Hosts.{same_within, beginning, takes_host, behind, behind_host}}
+use Rattle.pf_interfaces.specs.{Mentions.mention_in, Hosts.{same_within, beginning, takes_host, context_after, context_after_host}}
 
 -- a token of this kind, all of whose bytes stand at this place
 abbrev pub token_at : Place → Kind → Word → Token
@@ -33,8 +33,8 @@ mention_at is c ts = if takes_host c then mention_in is (same_within c.within Ta
 
 -- given the first token, and what is mentioned
 abbrev pub front_by : Context → Token → Option Mention → Front
-front_by c t None = record { tokens = t ∷ []; more = 0; context = behind t c }
-front_by c t (Some m) = record { tokens = listed c.deep m; more = m.more; context = behind_host c }
+front_by c t None = record { tokens = t ∷ []; more = 0; context = context_after t c }
+front_by c t (Some m) = record { tokens = listed c.deep m; more = m.more; context = context_after_host c }
 
 unfoldable pub front_of : List Interface → Context → Token → List Token → Front
 front_of is c t ts = front_by c t (mention_at is c (t ∷ ts))

@@ -24,8 +24,8 @@ abbrev pub takes_list : Context → Bool
 takes_list c = same_within c.within Side || same_within c.within Table
 
 -- what comes behind a token outside lists
-abbrev pub within_behind : Within → Token → Within
-within_behind w t =
+abbrev pub within_after : Within → Token → Within
+within_after w t =
     if is_newline t then Nothing
     else if same_within w Load then Load
     else if is_word (codes "from") t || is_word (codes "to") t then Side
@@ -38,13 +38,13 @@ abbrev pub within_closed : Context → Within
 within_closed c = if (c.deep == 1) && same_within c.within Side then Nothing else c.within
 
 -- behind a token that is no part of a mention
-unfoldable pub behind : Token → Context → Context
-behind t c =
+unfoldable pub context_after : Token → Context → Context
+context_after t c =
     if is_symbol (codes "{") t && takes_list c then record { within = c.within; deep = c.deep + 1; is_bound = false }
-    else if c.deep == 0 then record { within = within_behind c.within t; deep = 0; is_bound = false }
+    else if c.deep == 0 then record { within = within_after c.within t; deep = 0; is_bound = false }
     else if is_symbol (codes "}") t then record { within = within_closed c; deep = c.deep - 1; is_bound = false }
     else record { within = c.within; deep = c.deep; is_bound = is_symbol (codes "<") t || is_symbol (codes "!") t }
 
 -- behind a host that stands alone there are no more
-abbrev pub behind_host : Context → Context
-behind_host c = if c.deep == 0 then beginning else c
+abbrev pub context_after_host : Context → Context
+context_after_host c = if c.deep == 0 then beginning else c

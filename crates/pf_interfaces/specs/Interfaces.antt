@@ -5,35 +5,35 @@ use Rattle.pf_addr.specs.{Address.PlainNet, Path.Names.name_of}
 use Rattle.pf_rule.specs.declared.value.interface.TheConstants.{INTERFACE_LIMIT}
 use Rattle.pf_values.specs.{Numbers.Word, Addresses.net_of}
 use Rattle.pf_values.specs.declared.numbers.Mistake.{Mistake as NoValue}
-use Rattle.pf_interfaces.specs.declared.interface.{Held.Held, Interface.Interface}
+use Rattle.pf_interfaces.specs.declared.interface.{OwnAddress.OwnAddress, Interface.Interface}
 
 -- what stands before the length
 abbrev pub before_slash : Word → Word
 before_slash text = take_while (λ b. not (b == 47)) text
 
-abbrev pub address_of : Held → Word
+abbrev pub address_of : OwnAddress → Word
 address_of h = before_slash h.network
 
 -- given whether the address is one, and the network
-abbrev pub held_if : Word → Result PlainNet NoValue → Result PlainNet NoValue → Option Held
+abbrev pub held_if : Word → Result PlainNet NoValue → Result PlainNet NoValue → Option OwnAddress
 held_if text (Ok a) (Ok n) = Some (record { network = text })
 held_if text (Ok a) (Err m) = None
 held_if text (Err m) n = None
 
 -- an address, with the length of its network behind it
-abbrev pub held_of : Word → Option Held
+abbrev pub held_of : Word → Option OwnAddress
 held_of text = held_if text (net_of (before_slash text)) (net_of text)
 
 -- one behind others, if each is one
-abbrev pub with_held : List Held → Option Held → Option (List Held)
+abbrev pub with_held : List OwnAddress → Option OwnAddress → Option (List OwnAddress)
 with_held hs None = None
 with_held hs (Some h) = Some (hs ++ h ∷ [])
 
-unfoldable pub all_held : List Held → List Word → Option (List Held)
+unfoldable pub all_held : List OwnAddress → List Word → Option (List OwnAddress)
 all_held hs [] = Some hs
 all_held hs (text ∷ texts) = option_and_then (λ known. all_held known texts) (with_held hs (held_of text))
 
-abbrev pub named : Result Word Kind → Option (List Held) → Option Interface
+abbrev pub named : Result Word Kind → Option (List OwnAddress) → Option Interface
 named (Ok name) (Some hs) = Some (record { name = name; addresses = hs })
 named (Ok name) None = None
 named (Err kind) hs = None

@@ -5,7 +5,7 @@ use Rattle.pf_tokens.specs.declared.{token.Token.Token}
 use Rattle.pf_tokens.specs.{Places.text_of, Words.{is_word, is_symbol, is_string}}
 use Rattle.pf_values.specs.Numbers.{Word}
 use Rattle.pf_interfaces.specs.Interfaces.{address_of}
-use Rattle.pf_interfaces.specs.declared.{interface.Held.Held, interface.Interface.Interface, mention.Mention.Mention}
+use Rattle.pf_interfaces.specs.declared.{interface.OwnAddress.OwnAddress, interface.Interface.Interface, mention.Mention.Mention}
 
 -- ---- what a text names
 
@@ -13,7 +13,7 @@ use Rattle.pf_interfaces.specs.declared.{interface.Held.Held, interface.Interfac
 abbrev pub is_meant : Word → Interface → Bool
 is_meant name i = bytes_eq name (codes "self") || bytes_eq i.name name
 
-abbrev pub host_of : Bool → Held → Word
+abbrev pub host_of : Bool → OwnAddress → Word
 host_of true h = h.network
 host_of false h = address_of h
 
@@ -41,12 +41,12 @@ abbrev pub begins_with : Word → List Token → Bool
 begins_with symbol [] = false
 begins_with symbol (t ∷ ts) = is_symbol symbol t
 
-abbrev pub behind_if : Bool → List Token → List Token
-behind_if taken ts = if taken then drop 1 ts else ts
+abbrev pub rest_if : Bool → List Token → List Token
+rest_if taken ts = if taken then drop 1 ts else ts
 
 -- What may come behind a name: the parenthesis that was opened before it is closed, and no length follows.
 abbrev pub ends : Bool → List Token → Bool
-ends is_dynamic ts = (not is_dynamic || begins_with (codes ")") ts) && not (begins_with (codes "/") (behind_if is_dynamic ts))
+ends is_dynamic ts = (not is_dynamic || begins_with (codes ")") ts) && not (begins_with (codes "/") (rest_if is_dynamic ts))
 
 abbrev pub is_v6 : Word → Bool
 is_v6 text = list_any (λ b. b == 58) text
@@ -71,15 +71,15 @@ mentioned in_table is_negated is_dynamic name texts =
     else None
 
 -- given what stands before a name
-abbrev pub mention_behind : List Interface → Bool → Bool → Bool → List Token → Option Mention
-mention_behind is in_table is_negated is_dynamic [] = None
-mention_behind is in_table is_negated is_dynamic (name ∷ ts) =
+abbrev pub mention_of_name : List Interface → Bool → Bool → Bool → List Token → Option Mention
+mention_of_name is in_table is_negated is_dynamic [] = None
+mention_of_name is in_table is_negated is_dynamic (name ∷ ts) =
     if is_name name && ends is_dynamic ts then mentioned in_table is_negated is_dynamic name (named_by is (text_of name.text)) else None
 
 -- what the first of these tokens mention, if they do
 unfoldable pub mention_in : List Interface → Bool → List Token → Option Mention
 mention_in is in_table ts =
     let is_negated : Bool = begins_with (codes "!") ts in
-    let rest : List Token = behind_if is_negated ts in
+    let rest : List Token = rest_if is_negated ts in
     let is_dynamic : Bool = begins_with (codes "(") rest in
-    mention_behind is in_table is_negated is_dynamic (behind_if is_dynamic rest)
+    mention_of_name is in_table is_negated is_dynamic (rest_if is_dynamic rest)

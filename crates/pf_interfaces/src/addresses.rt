@@ -111,7 +111,7 @@ fn front_by(
         return Ok(Front {
             tokens: listed(alloc, context.deep, &mention)?,
             more: mention.more,
-            context: context.behind_host(),
+            context: context.context_after_host(),
         });
     }
     let mut tokens = Items::new(alloc);
@@ -119,7 +119,7 @@ fn front_by(
     Ok(Front {
         tokens,
         more: 0,
-        context: context.behind(token),
+        context: context.context_after(token),
     })
 }
 

@@ -1,6 +1,6 @@
 //! Where hosts stand among a file's tokens.
 ghost use Rattle.std.specs.Prelude.{◌≡◌, ◌≤◌, ◌<◌, ◌+◌, ◌-◌, ◌^◌};
-ghost use Rattle.pf_interfaces.specs.Hosts.{beginning, takes_host, takes_list, within_behind, within_closed, behind, behind_host};
+ghost use Rattle.pf_interfaces.specs.Hosts.{beginning, takes_host, takes_list, within_after, within_closed, context_after, context_after_host};
 
 use pf_tokens::Token;
 
@@ -65,10 +65,10 @@ impl Context {
     }
 
     /// Behind a token that is no part of a mention.
-    #[tactic(auto, unfolding(crate::specs::Hosts::behind))]
-    pub(crate) fn behind(self, token: &Token) -> Context
+    #[tactic(auto, unfolding(crate::specs::Hosts::context_after))]
+    pub(crate) fn context_after(self, token: &Token) -> Context
         requires { self.deep + 1 < 2 ^ 64 }
-        ensures { result ≡ behind token.now self }
+        ensures { result ≡ context_after token.now self }
     {
         let (within, deep) = (self.within, self.deep);
         if token.is_symbol(b"{") && self.takes_list() {
@@ -81,7 +81,7 @@ impl Context {
         }
         if deep == 0 {
             return Context {
-                within: within.behind(token),
+                within: within.within_after(token),
                 deep,
                 is_bound: false,
             };
@@ -101,8 +101,8 @@ impl Context {
     }
 
     /// Behind a host.
-    pub(crate) fn behind_host(self) -> Context
-        ensures { result ≡ behind_host self }
+    pub(crate) fn context_after_host(self) -> Context
+        ensures { result ≡ context_after_host self }
     {
         if self.deep == 0 {
             Context::beginning()
@@ -114,8 +114,8 @@ impl Context {
 
 impl Within {
     /// What comes behind a token outside lists.
-    fn behind(self, token: &Token) -> Within
-        ensures { result ≡ within_behind self token.now }
+    fn within_after(self, token: &Token) -> Within
+        ensures { result ≡ within_after self token.now }
     {
         if token.is_newline() {
             return Within::Nothing;

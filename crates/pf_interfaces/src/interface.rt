@@ -10,12 +10,12 @@ use std::alloc::{AllocError, Global};
 
 /// An address of an interface, and the network that it is in. Both are texts of networks, as pf_values reads them.
 #[derive(Debug, Drop)]
-pub struct Held {
+pub struct OwnAddress {
     /// The address with its network's length, as `192.0.2.1/24`.
     pub network: Bytes,
 }
 
-impl Held {
+impl OwnAddress {
     /// The address alone, as `192.0.2.1`.
     pub fn address(&self) -> &[u8]
         ensures { result.now ≡ address_of self.now }
@@ -28,7 +28,7 @@ impl Held {
 #[derive(Drop)]
 pub struct Interface {
     pub name: Name,
-    pub addresses: Items<Held>,
+    pub addresses: Items<OwnAddress>,
 }
 
 /// How many bytes stand before the first slash.
@@ -46,7 +46,7 @@ fn before_slash(text: &[u8]) -> &[u8]
 }
 
 /// The address that a text spells, with its network's length behind it, if it spells one.
-fn held_of(alloc: Global, text: &[u8]) -> Result<Option<Held>, AllocError>
+fn held_of(alloc: Global, text: &[u8]) -> Result<Option<OwnAddress>, AllocError>
     ensures { IfOk result (λ held. held ≡ held_of text.now) }
 {
     let address = before_slash(text);
@@ -54,7 +54,7 @@ fn held_of(alloc: Global, text: &[u8]) -> Result<Option<Held>, AllocError>
         return Ok(None);
     }
     let network = Items::copied(alloc, text)?;
-    Ok(Some(Held { network }))
+    Ok(Some(OwnAddress { network }))
 }
 
 /// The parts of a text between commas.
@@ -66,7 +66,7 @@ fn parts_of<'a>(alloc: Global, text: &'a [u8]) -> Result<Vec<&'a [u8]>, AllocErr
 
 /// The addresses that these texts spell, if each spells one.
 #[tactic(auto, using(crate::proofs::Steps::held_next, crate::proofs::Steps::held_none, crate::proofs::Steps::held_end))]
-fn all_held(alloc: Global, parts: &[&[u8]]) -> Result<Option<Items<Held>>, AllocError>
+fn all_held(alloc: Global, parts: &[&[u8]]) -> Result<Option<Items<OwnAddress>>, AllocError>
     ensures { IfOk result (λ held. held ≡ all_held [] (texts parts.now)) }
 {
     let mut all = Items::new(alloc);

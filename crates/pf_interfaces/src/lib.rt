@@ -18,5 +18,5 @@ mod laws;
 mod mention;
 
 pub use addresses::{antispoof_in, with_addresses};
-pub use interface::{Held, Interface, read_interface};
+pub use interface::{Interface, OwnAddress, read_interface};
 pub use laws::{without_interfaces_nothing_changes, words_are_the_files};

@@ -1,8 +1,8 @@
 //! What tokens mention of interfaces.
 ghost use Rattle.std.specs.{Prelude.{◌≡◌, ◌≤◌, ◌<◌, ◌==◌, ◌++◌, not, length, map, count_by, IfOk, IfSome, OnOk, position}, List.list_any};
-ghost use Rattle.pf_interfaces.specs.Mentions.{is_meant, host_of, hosts_of, all_hosts, named_by, is_name, begins_with, behind_if, ends, is_v6, is_one_each, can_stand, mentioned, mention_in};
+ghost use Rattle.pf_interfaces.specs.Mentions.{is_meant, host_of, hosts_of, all_hosts, named_by, is_name, begins_with, rest_if, ends, is_v6, is_one_each, can_stand, mentioned, mention_in};
 
-use crate::interface::{Held, Interface};
+use crate::interface::{Interface, OwnAddress};
 use pf_tokens::{Bytes, Items, Place, Token};
 use std::alloc::{AllocError, Global};
 
@@ -26,7 +26,7 @@ fn is_meant(name: &[u8], interface: &Interface) -> bool
 }
 
 /// The address, or its network.
-fn host_of(alloc: Global, of_networks: bool, held: &Held) -> Result<Bytes, AllocError>
+fn host_of(alloc: Global, of_networks: bool, held: &OwnAddress) -> Result<Bytes, AllocError>
     ensures { IfOk result (λ text. text ≡ host_of of_networks held.now) }
 {
     if of_networks {
@@ -41,7 +41,7 @@ fn host_of(alloc: Global, of_networks: bool, held: &Held) -> Result<Bytes, Alloc
 fn push_all(
     alloc: Global,
     of_networks: bool,
-    held: &[Held],
+    held: &[OwnAddress],
     hosts: &mut Items<Bytes>,
 ) -> Result<(), AllocError>
     ensures { OnOk result (hosts.new ≡ hosts.old ++ map (host_of of_networks) held.now) }
@@ -128,8 +128,8 @@ fn begins_with(symbol: &[u8], tokens: &[Token]) -> bool
 }
 
 /// The tokens behind the first, if that is taken.
-fn behind_if(taken: bool, tokens: &[Token]) -> &[Token]
-    ensures { result.now ≡ behind_if taken tokens.now }
+fn rest_if(taken: bool, tokens: &[Token]) -> &[Token]
+    ensures { result.now ≡ rest_if taken tokens.now }
 {
     match tokens {
         [_, rest @ ..] if taken => rest,
@@ -141,7 +141,7 @@ fn behind_if(taken: bool, tokens: &[Token]) -> &[Token]
 fn ends(is_dynamic: bool, tokens: &[Token]) -> bool
     ensures { result ≡ ends is_dynamic tokens.now }
 {
-    (!is_dynamic || begins_with(b")", tokens)) && !begins_with(b"/", behind_if(is_dynamic, tokens))
+    (!is_dynamic || begins_with(b")", tokens)) && !begins_with(b"/", rest_if(is_dynamic, tokens))
 }
 
 /// Whether an address is an IPv6 one.
@@ -211,9 +211,9 @@ pub(crate) fn mention_in(
     ensures { IfOk result (λ m. m ≡ mention_in interfaces.now in_table tokens.now) }
 {
     let is_negated = begins_with(b"!", tokens);
-    let rest = behind_if(is_negated, tokens);
+    let rest = rest_if(is_negated, tokens);
     let is_dynamic = begins_with(b"(", rest);
-    let [name, rest @ ..] = behind_if(is_dynamic, rest) else {
+    let [name, rest @ ..] = rest_if(is_dynamic, rest) else {
         return Ok(None);
     };
     if !is_name(name) || !ends(is_dynamic, rest) {

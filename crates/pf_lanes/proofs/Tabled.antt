@@ -105,18 +105,18 @@ none_open false t m s e = sym (s.gone refl)
 pub near_alone : (near tabled left i : ℕ) (m : Bool) → Settles (is_set near i) (is_set tabled i) m → left ≡ bit_and near tabled → left ≡ 0 → is_set near i ≡ m
 near_alone near tabled left i m s is none = none_open (is_set near i) (is_set tabled i) m s (sym (is_set-and near tabled i) ∙ ap (λ n. is_set n i) (sym is) ∙ unset left i none)
 
-told : (a t m : Bool) → Settles a t m → (inverted (a && t) a || ((a && t) && m)) ≡ m
-told true true m s = refl
-told true false m s = s.same refl
-told false t m s = sym (s.gone refl)
+settles_it : (a t m : Bool) → Settles a t m → (inverted (a && t) a || ((a && t) && m)) ≡ m
+settles_it true true m s = refl
+settles_it true false m s = s.same refl
+settles_it false t m s = sym (s.gone refl)
 
-pub near_and_told : (near tabled left answers i : ℕ) (m : Bool) → Settles (is_set near i) (is_set tabled i) m → left ≡ bit_and near tabled →
+pub near_and_tabled : (near tabled left answers i : ℕ) (m : Bool) → Settles (is_set near i) (is_set tabled i) m → left ≡ bit_and near tabled →
     is_set answers i ≡ (is_set left i && m) → is_set (bit_or (bit_xor near left) answers) i ≡ m
-near_and_told near tabled left answers i m s is asked =
+near_and_tabled near tabled left answers i m s is asked =
     let opened = ap (λ n. is_set n i) is ∙ is_set-and near tabled i in
     is_set-or (bit_xor near left) answers i
     ∙ (λ j. (is_set-xor near left i ∙ (λ k. inverted (opened k) (is_set near i))) j || (asked ∙ (λ k. opened k && m)) j)
-    ∙ told (is_set near i) (is_set tabled i) m s
+    ∙ settles_it (is_set near i) (is_set tabled i) m s
 
 -- ---- a block in which nothing is near
 

@@ -10,7 +10,7 @@ use Rattle.pf_rule.specs.declared.{value.direction.Direction.Direction, value.di
 use Rattle.pf_state.specs.declared.peer.message.Message.{Message}
 use Rattle.pf_rule.specs.Bytes.{addr_bytes, direction_byte, family_byte}
 use Rattle.pf_state.specs.{Peer.Records.{PlainInsert, insert_bytes}, Peer.Written.{Each, message_length, message_bytes, CanBeWritten}, States.PlainState, Failover.Outgoing.{exported_insert, exported_message}, Laws.Failover.IsState}
-use Rattle.pf_state.proofs.{Cut.by_parts, ExportParts.told_long, ReadBack.are_inserts}
+use Rattle.pf_state.proofs.{Cut.by_parts, ExportParts.export_long, ReadBack.are_inserts}
 use Rattle.pf_core.specs.declared.{command.Command.TheVariants.States, command.StateCommand.TheVariants.Peer, reply.Refusal.Refusal}
 use Rattle.pf_line.specs.{declared.request.Request.TheVariants.Run, Grammar.{decided, line as grammar, Spoken, Tells}, Lines.{is_line_byte, is_bad_line, line_at, Means, said}, Reply.StateTexts.message_line, Laws.Exports.{TellsOf, ExportsAreRead}}
 use Rattle.pf_line.proofs.SpelledStates.{message_spelled, message_meant}
@@ -65,8 +65,8 @@ family_low (V6 n) = omega arith
 insert_is_bytes : (i : PlainInsert) → i.protocol < 256 → AreBytes (insert_bytes i)
 insert_is_bytes i low =
     let ports = joined (number 2 i.source_port) (joined (number 2 i.destination_port) (joined (number 4 i.rule) (number 4 i.anchor))) in
-    let behind = one_more {b = 0} (omega arith) (joined (address i.source) (joined (address i.destination) ports)) in
-    let kinds = one_more (way_low i.direction) (one_more (family_low i.source) (one_more low behind)) in
+    let following = one_more {b = 0} (omega arith) (joined (address i.source) (joined (address i.destination) ports)) in
+    let kinds = one_more (way_low i.direction) (one_more (family_low i.source) (one_more low following)) in
     joined (number 8 i.id) (joined (number 4 i.creator) (joined (number 4 i.generation) kinds))
 
 inserts_are_bytes : (current : List ℕ) (es : List PlainState) → Each IsState es → AreBytes (flat_map insert_bytes (map (exported_insert current) es))
@@ -137,7 +137,7 @@ halves P (x ∷ xs) ys each = let both = halves P xs ys each.1 in ((each.0, both
 part_is_read : (current : List ℕ) (es : List PlainState) → length current ≡ 16 → IsBytes current → Each IsState es → length es ≤ 31 → let m = exported_message current es in TellsOf m (message_line (message_bytes m))
 part_is_read current es long are each few =
     let m : Message = exported_message current es in
-    let size = told_long current es in
+    let size = export_long current es in
     let bytes : length (message_bytes m) ≤ 2008 = omega (arith, size, few, long, length-append {A = ℕ}) in
     line_of_message m (record { checksum = long; groups = (are_inserts current es each, tt); fits = omega (arith, size, few) })
     (message_is_bytes current es are each).each (omega (arith, bytes, length-encode_with lower_digits (message_bytes m)))

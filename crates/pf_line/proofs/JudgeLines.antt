@@ -32,14 +32,14 @@ judge_answered line items n None short bytes words count loud h = tt
 judge_answered line items n (Some x) short bytes words count loud h =
     said_cut line items items n (asked x) (ap no_command (sym words) ∙ loud) short words bytes refl count h
 
-abbrev Told : List ℕ → Option (Result PlainPacket Refusal) → Type 0
-Told line r = IfSome r (λ x. Answers line (asked x))
+abbrev Reported : List ℕ → Option (Result PlainPacket Refusal) → Type 0
+Reported line r = IfSome r (λ x. Answers line (asked x))
 
-pub judge_exact : (line : List ℕ) (r : Option (Result PlainPacket Refusal)) → Told line r → IfSome r (λ x. Parses (asked x) (line_at line))
+pub judge_exact : (line : List ℕ) (r : Option (Result PlainPacket Refusal)) → Reported line r → IfSome r (λ x. Parses (asked x) (line_at line))
 judge_exact line None h = tt
 judge_exact line (Some x) h = is_exact line (asked x) h
 
-pub judge_refused : (line : List ℕ) (r : Option (Result PlainPacket Refusal)) → Told line r → IfSome r (λ x. IfErr x (λ e. Refused line e))
+pub judge_refused : (line : List ℕ) (r : Option (Result PlainPacket Refusal)) → Reported line r → IfSome r (λ x. IfErr x (λ e. Refused line e))
 judge_refused line None h = tt
 judge_refused line (Some (Ok p)) h = tt
 judge_refused line (Some (Err e)) h = is_refused line (Err e) h

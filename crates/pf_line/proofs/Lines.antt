@@ -2,7 +2,7 @@
 use Rattle.std.proofs.{Common.{◌≡◌, ℕ, ◌-◌, ◌<◌, ◌≤◌, ◌==◌, Bool, true, false, cond, List, [], ◌∷◌, length, Option, Some, None, Result, Ok, Err, inl, inr, refl, sym, ap, ◌∙◌, subst, arith}, lemmas.List.length-map, lemmas.Bool.{lt-ltb, Decides.nat_tests}}
 use Rattle.std.specs.{Prelude.{IfOk, IfErr, IfSome, not, filter, nat_lt}, List.{slice_split, onto_first, find, list_all}}
 use denote.Ref.{Bor}
-use Rattle.pf_form.specs.declared.{form.fault.Kind.Kind, form.fault.Stop.Stop}
+use Rattle.pf_form.specs.declared.{form.fault.Kind.Kind, form.fault.WordFault.WordFault}
 use Rattle.pf_form.specs.declared.form.fault.Kind.TheVariants as kinds
 use Rattle.pf_form.specs.{Form.Words.{Word, is_blank, words_of, texts}, Form.Forms.{Form, making, Spells, RefusedAt, empties, begins, Read, reads, ended, ◌>>=◌, read_all}, Laws.Form.Forms.lawful, Laws.Form.Texts.{found, only, refused}}
 use Rattle.pf_form.specs.Form.Readers as Readers
@@ -158,7 +158,7 @@ made_ok make f ws x e = by (reads f ws) e where
   by (Ok (y, w ∷ ws)) e = absurd cc
   by (Err d) e = absurd cc
 
-pub made_stopped : {A : Type 0} (make : A → Spoken) (f : Form A) (ws : List Word) (s : Stop) (count : ℕ) → Readers.Fails s (read_all f ws) → said count (read_all (making make f) ws) ≡ Err (refusal_at s.kind (count - s.left))
+pub made_stopped : {A : Type 0} (make : A → Spoken) (f : Form A) (ws : List Word) (s : WordFault) (count : ℕ) → Readers.Fails s (read_all f ws) → said count (read_all (making make f) ws) ≡ Err (refusal_at s.kind (count - s.left))
 made_stopped make f ws s count h = by (reads f ws) h where
   by : (r : Read _) → Readers.Fails s (r >>= ended) → said count (r >>= (λ y. Ok (make y.0, y.1)) >>= ended) ≡ Err (refusal_at s.kind (count - s.left))
   by (Ok (y, [])) h = absurd h

@@ -42,8 +42,8 @@ join_plain : (c : ℕ) → (c == 10) ≡ false → (words : List (List ℕ)) →
 join_plain c h [] = refl
 join_plain c h (w ∷ []) = omega arith
 join_plain c h (w ∷ v ∷ words) =
-    let behind : newlines (c ∷ join_with_byte c (v ∷ words)) ≡ all_newlines (v ∷ words) = rw h (join_plain c h (v ∷ words)) in
-    omega (arith, newlines-append w (c ∷ join_with_byte c (v ∷ words)), behind)
+    let following : newlines (c ∷ join_with_byte c (v ∷ words)) ≡ all_newlines (v ∷ words) = rw h (join_plain c h (v ∷ words)) in
+    omega (arith, newlines-append w (c ∷ join_with_byte c (v ∷ words)), following)
 
 components_plain : (parts : List (List ℕ)) → AllByRecursion IsComponent parts → all_newlines parts ≡ 0
 components_plain [] all = refl

@@ -18,15 +18,15 @@ part_written n lt =
 
 -- ---- a ticket
 
-behind : (xs ys : List ℕ) → drop (length xs + 1) (xs ++ 46 ∷ ys) ≡ ys
-behind xs ys =
+after_dot : (xs ys : List ℕ) → drop (length xs + 1) (xs ++ 46 ∷ ys) ≡ ys
+after_dot xs ys =
     let joined : xs ++ 46 ∷ ys ≡ (xs ++ 46 ∷ []) ++ ys = sym (append_assoc xs (46 ∷ []) ys) in
     ap (drop (length xs + 1)) joined ∙ drop_at (xs ++ 46 ∷ []) ys (length xs + 1) (length-append xs (46 ∷ []))
 
 pub spelled_is_read : (t : Ticket) (w : Word) → SpellsTicket t w → ticket_of w ≡ Some t
 unfolding ticket_of
 spelled_is_read t w is =
-    rw (is.dotted, place_after 46 is.front is.rest (digits_without 46 is.front (omega arith) is.epoch.number.digits.1), take_at is.front (46 ∷ is.rest) (length is.front) refl, behind is.front is.rest, number_in_only 32 10 is.front t.epoch is.epoch, number_in_only 32 10 is.rest t.count is.count) refl
+    rw (is.dotted, place_after 46 is.front is.rest (digits_without 46 is.front (omega arith) is.epoch.number.digits.1), take_at is.front (46 ∷ is.rest) (length is.front) refl, after_dot is.front is.rest, number_in_only 32 10 is.front t.epoch is.epoch, number_in_only 32 10 is.rest t.count is.count) refl
 
 epoch_of : (a b : Option ℕ) (t : Ticket) → ticket_with a b ≡ Some t → a ≡ Some t.epoch
 epoch_of a b t e = grind arith

@@ -14,7 +14,7 @@ goes_on {a = a} {b = b} first second = record { written = Continues-then first.w
 
 -- with nothing to write, what was written stays
 pub still : (q : Result (Unit {0}) Error) (old : Option (List ℕ)) → GoesOn q old q old []
-still q old = record { written = record { behind = λ at front w. subst (λ (t : List ℕ). Wrote q at old t) (sym (append-nil front)) w }; one_line = refl }
+still q old = record { written = record { following = λ at front w. subst (λ (t : List ℕ). Wrote q at old t) (sym (append-nil front)) w }; one_line = refl }
 
 -- ---- lines
 
@@ -34,7 +34,7 @@ pub one_more_line : (q s t : Result (Unit {0}) Error) (old mid more new : Option
 one_more_line q s t old mid more new ls l p w e =
     let whole = lined (length ls) (lines_text ls) l p.count w.one_line in
     record {
-      text = rw (last_added ls l) ((Continues-then w.written e).behind old (lines_text ls) p.text);
+      text = rw (last_added ls l) ((Continues-then w.written e).following old (lines_text ls) p.text);
       count = rw (last_added ls l) (omega (arith, whole.count, length-append ls (l ∷ [])));
     }
 

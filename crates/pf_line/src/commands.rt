@@ -8,7 +8,7 @@ use crate::words::{
     ticket_word,
 };
 use pf_core::{Command, HistoryCommand, Question, StateCommand, TableEdit, Transaction};
-use pf_form::form::{Stop, Unread, Words, each, end, expect, takes};
+use pf_form::form::{Unread, WordFault, Words, each, end, expect, takes};
 use pf_rule::value::address_word;
 use pf_rule::{Mistake, Packet, Rule};
 use pf_ticket::{RulesetNames, RulesetTickets};
@@ -24,7 +24,7 @@ fn begin(alloc: Global, words: &[&[u8]]) -> Result<Result<Command, Mistake>, Unr
 }
 
 #[tactic(auto, unfolding(crate::specs::Grammar::added))]
-fn add<'a>(words: Words<'a>) -> Result<Result<Command, Mistake>, Stop>
+fn add<'a>(words: Words<'a>) -> Result<Result<Command, Mistake>, WordFault>
     ensures { ReadsWhole (λ x. x) added result words.now }
 {
     let mut rest = words;
@@ -137,7 +137,7 @@ fn set_entries<'a>(alloc: Global, words: Words<'a>) -> Result<Result<Command, Mi
 }
 
 #[tactic(auto, unfolding(crate::specs::Grammar::killed))]
-fn kill<'a>(words: Words<'a>) -> Result<Result<Command, Mistake>, Stop>
+fn kill<'a>(words: Words<'a>) -> Result<Result<Command, Mistake>, WordFault>
     ensures { ReadsWhole (λ x. x) killed result words.now }
 {
     let mut rest = words;
@@ -147,7 +147,7 @@ fn kill<'a>(words: Words<'a>) -> Result<Result<Command, Mistake>, Stop>
 }
 
 #[tactic(auto, unfolding(crate::specs::Grammar::tracked))]
-fn track<'a>(words: Words<'a>) -> Result<Result<Command, Mistake>, Stop>
+fn track<'a>(words: Words<'a>) -> Result<Result<Command, Mistake>, WordFault>
     ensures { ReadsWhole (λ x. x) tracked result words.now }
 {
     let mut rest = words;
@@ -169,7 +169,7 @@ fn track<'a>(words: Words<'a>) -> Result<Result<Command, Mistake>, Stop>
 }
 
 #[tactic(auto, unfolding(crate::specs::Grammar::state_killed))]
-fn kill_state<'a>(words: Words<'a>) -> Result<Result<Command, Mistake>, Stop>
+fn kill_state<'a>(words: Words<'a>) -> Result<Result<Command, Mistake>, WordFault>
     ensures { ReadsWhole (λ x. x) state_killed result words.now }
 {
     let mut rest = words;
@@ -179,7 +179,7 @@ fn kill_state<'a>(words: Words<'a>) -> Result<Result<Command, Mistake>, Stop>
 }
 
 #[tactic(auto, unfolding(crate::specs::Grammar::expired))]
-fn expire<'a>(words: Words<'a>) -> Result<Result<Command, Mistake>, Stop>
+fn expire<'a>(words: Words<'a>) -> Result<Result<Command, Mistake>, WordFault>
     ensures { ReadsWhole (λ x. x) expired result words.now }
 {
     let mut rest = words;
@@ -189,7 +189,7 @@ fn expire<'a>(words: Words<'a>) -> Result<Result<Command, Mistake>, Stop>
 }
 
 #[tactic(auto, unfolding(crate::specs::Grammar::judged))]
-fn judge<'a>(words: Words<'a>) -> Result<Result<Command, Mistake>, Stop>
+fn judge<'a>(words: Words<'a>) -> Result<Result<Command, Mistake>, WordFault>
     ensures { ReadsWhole (λ x. x) judged result words.now }
 {
     let mut rest = words;
@@ -202,7 +202,7 @@ fn judge<'a>(words: Words<'a>) -> Result<Result<Command, Mistake>, Stop>
 }
 
 #[tactic(auto, unfolding(crate::specs::Grammar::tested))]
-fn test<'a>(words: Words<'a>) -> Result<Result<Command, Mistake>, Stop>
+fn test<'a>(words: Words<'a>) -> Result<Result<Command, Mistake>, WordFault>
     ensures { ReadsWhole (λ x. x) tested result words.now }
 {
     let mut rest = words;
@@ -219,7 +219,7 @@ fn test<'a>(words: Words<'a>) -> Result<Result<Command, Mistake>, Stop>
 
 /// What of what is kept is shown.
 #[tactic(auto, unfolding(crate::specs::Grammar::shown))]
-pub(crate) fn show<'a>(words: Words<'a>) -> Result<Result<Command, Mistake>, Stop>
+pub(crate) fn show<'a>(words: Words<'a>) -> Result<Result<Command, Mistake>, WordFault>
     ensures { ReadsWhole (λ x. x) shown result words.now }
 {
     let mut rest = words;
@@ -240,7 +240,7 @@ pub(crate) fn show<'a>(words: Words<'a>) -> Result<Result<Command, Mistake>, Sto
 
 /// A question about all of something.
 #[tactic(auto, unfolding(crate::specs::Grammar::overview))]
-fn ask_overview<'a>(words: Words<'a>) -> Result<Result<Command, Mistake>, Stop>
+fn ask_overview<'a>(words: Words<'a>) -> Result<Result<Command, Mistake>, WordFault>
     ensures { ReadsWhole (λ x. x) overview result words.now }
 {
     let mut rest = words;
@@ -255,7 +255,7 @@ fn ask_overview<'a>(words: Words<'a>) -> Result<Result<Command, Mistake>, Stop>
 
 /// A question.
 #[tactic(auto, unfolding(crate::specs::Grammar::question))]
-fn ask<'a>(words: Words<'a>) -> Result<Result<Command, Mistake>, Stop>
+fn ask<'a>(words: Words<'a>) -> Result<Result<Command, Mistake>, WordFault>
     ensures { ReadsWhole (λ x. x) question result words.now }
 {
     let mut rest = words;
@@ -269,7 +269,10 @@ fn ask<'a>(words: Words<'a>) -> Result<Result<Command, Mistake>, Stop>
 }
 
 /// A command of the history, with nothing after its word.
-fn ask_history(words: &[&[u8]], command: HistoryCommand) -> Result<Result<Command, Mistake>, Stop>
+fn ask_history(
+    words: &[&[u8]],
+    command: HistoryCommand,
+) -> Result<Result<Command, Mistake>, WordFault>
     ensures { ReadsWhole (λ x. x) (alone command) result words.now }
 {
     end(words)?;
@@ -278,7 +281,7 @@ fn ask_history(words: &[&[u8]], command: HistoryCommand) -> Result<Result<Comman
 
 /// A command of the history, or a question.
 #[tactic(auto, unfolding(crate::specs::Grammar::history_or_question))]
-fn ask_history_or_ask<'a>(words: Words<'a>) -> Result<Result<Command, Mistake>, Stop>
+fn ask_history_or_ask<'a>(words: Words<'a>) -> Result<Result<Command, Mistake>, WordFault>
     ensures { ReadsWhole (λ x. x) history_or_question result words.now }
 {
     let mut rest = words;
@@ -293,7 +296,7 @@ fn ask_history_or_ask<'a>(words: Words<'a>) -> Result<Result<Command, Mistake>, 
 
 /// A change of states that its words spell whole, a command of the history, or a question.
 #[tactic(auto, unfolding(crate::specs::Grammar::state_or_question))]
-fn change_state_or_ask<'a>(words: Words<'a>) -> Result<Result<Command, Mistake>, Stop>
+fn change_state_or_ask<'a>(words: Words<'a>) -> Result<Result<Command, Mistake>, WordFault>
     ensures { ReadsWhole (λ x. x) state_or_question result words.now }
 {
     let mut rest = words;

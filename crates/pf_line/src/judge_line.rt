@@ -6,7 +6,7 @@ ghost use Rattle.pf_line.specs.{Grammar.{Says, asking, judged, line as the_gramm
 use crate::cut::{CutFault, cut};
 use crate::line::{LINE_LIMIT, refusal, refusal_for};
 use pf_core::Refusal;
-use pf_form::form::{Stop, Unread, Words, end, takes};
+use pf_form::form::{Unread, WordFault, Words, end, takes};
 use pf_rule::{Mistake, Packet};
 
 const KEY: &[u8] = b"judge";
@@ -75,7 +75,7 @@ fn parse_packet_words<'a>(words: Words<'a>, count: usize) -> Result<Packet, Refu
 }
 
 #[tactic(auto, unfolding(crate::specs::Grammar::judged))]
-fn read_packet<'a>(words: Words<'a>) -> Result<Result<Packet, Mistake>, Stop>
+fn read_packet<'a>(words: Words<'a>) -> Result<Result<Packet, Mistake>, WordFault>
     ensures { ReadsWhole asking judged result words.now }
 {
     let mut rest = words;

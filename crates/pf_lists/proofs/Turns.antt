@@ -5,7 +5,7 @@ use Rattle.std.specs.Option.{option_to_list}
 use denote.Ref.{Bor}
 use Rattle.pf_form.specs.{Form.Forms.◌>>=◌, Form.Words.texts}
 use Rattle.pf_rule.specs.Rules.{PlainRule}
-use Rattle.pf_lists.specs.declared.{rules.Mistake.Mistake, rules.Mistake.TheVariants.{ManyCombinations, NoCombination}, rules.Stop.Stop, rules.Stop.TheVariants.{Faulty, Memory}, rules.TheConstants.COMBINATION_LIMIT}
+use Rattle.pf_lists.specs.declared.{rules.Mistake.Mistake, rules.Mistake.TheVariants.{ManyCombinations, NoCombination}, rules.ListStop.ListStop, rules.ListStop.TheVariants.{Faulty, Memory}, rules.TheConstants.COMBINATION_LIMIT}
 use Rattle.pf_lists.specs.declared.hosts.Host.{Host}
 use Rattle.pf_lists.specs.{Hosts.host_words, Product.{Word, spelled, count, numbered}, Multiplied.{Gives, rule_of, rules_of, at_least_one, multiplied}}
 use Rattle.pf_lists.proofs.Ways.{spelled_count, spelled_digits, Digit, digit, capped_product, one_way, no_way}
@@ -124,7 +124,7 @@ way_fails lists i front m below known is =
     ∙ ap (λ (xs : List (List Word)). rules_of xs >>= λ rs. Ok (front ++ rs)) (next_way lists i below)
     ∙ no_way front (numbered lists i) (drop (i + 1) (spelled lists)) m is
 
-pub way_stops : (lists : List (List (List Word))) (i : ℕ) (front : List PlainRule) (stop : Stop) → i < count lists → Onward lists i front → Gives {A = Option PlainRule} (Err stop) (rule_of (numbered lists i)) → Gives {A = List PlainRule} (Err stop) (rules_of (spelled lists))
+pub way_stops : (lists : List (List (List Word))) (i : ℕ) (front : List PlainRule) (stop : ListStop) → i < count lists → Onward lists i front → Gives {A = Option PlainRule} (Err stop) (rule_of (numbered lists i)) → Gives {A = List PlainRule} (Err stop) (rules_of (spelled lists))
 way_stops lists i front (Faulty m) below known given = way_fails lists i front m below known given
 way_stops lists i front Memory below known given = tt
 
@@ -150,7 +150,7 @@ few lists ways is within =
     let test : leb (length (spelled lists)) COMBINATION_LIMIT ≡ true = grind (arith, nat_tests) in
     ap (λ (b : Bool). cond b (rules_of (spelled lists) >>= at_least_one) (Err ManyCombinations)) test
 
-pub few_stop : (lists : List (List (List Word))) (ways : ℕ) (stop : Stop) → ways ≡ count lists → ways ≤ COMBINATION_LIMIT → Gives {A = List PlainRule} (Err stop) (rules_of (spelled lists)) → Gives {A = List PlainRule} (Err stop) (multiplied lists)
+pub few_stop : (lists : List (List (List Word))) (ways : ℕ) (stop : ListStop) → ways ≡ count lists → ways ≤ COMBINATION_LIMIT → Gives {A = List PlainRule} (Err stop) (rules_of (spelled lists)) → Gives {A = List PlainRule} (Err stop) (multiplied lists)
 few_stop lists ways (Faulty m) is within given =
     few lists ways is within ∙ ap (λ (q : Result (List PlainRule) Mistake). q >>= at_least_one) given
 few_stop lists ways Memory is within given = tt

@@ -6,7 +6,7 @@ use Rattle.pf_addr.specs.declared.addr.Family.TheVariants.{V4, V6}
 use Rattle.pf_rule.specs.{Rules.PlainRule, RuleGrammar.rule}
 use Rattle.pf_rule.specs.declared.fault.Mistake.{Mistake as RuleMistake}
 use Rattle.pf_rule.specs.declared.fault.Mistake.TheVariants.{MixedFamily, PortNeedsProto}
-use Rattle.pf_lists.specs.declared.{rules.Mistake.Mistake, rules.Stop.Stop, rules.Stop.TheVariants.{Faulty, Memory}, rules.TheConstants.COMBINATION_LIMIT}
+use Rattle.pf_lists.specs.declared.{rules.Mistake.Mistake, rules.ListStop.ListStop, rules.ListStop.TheVariants.{Faulty, Memory}, rules.TheConstants.COMBINATION_LIMIT}
 use Rattle.pf_lists.specs.declared.rules.Mistake.TheVariants as mistakes
 use Rattle.pf_lists.specs.Product.{Word, spelled}
 
@@ -57,7 +57,7 @@ multiplied lists =
     else Err mistakes.ManyCombinations
 
 -- A function gives what is wanted, unless memory runs out.
-abbrev pub Gives : {A : Type 0} → Result A Stop → Result A Mistake → Type 0
+abbrev pub Gives : {A : Type 0} → Result A ListStop → Result A Mistake → Type 0
 Gives (Ok x) wanted = wanted ≡ Ok x
 Gives (Err (Faulty m)) wanted = wanted ≡ Err m
 Gives (Err Memory) wanted = Unit {0}

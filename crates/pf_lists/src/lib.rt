@@ -21,4 +21,4 @@ mod rules;
 pub use hosts::{Host, words_of_hosts};
 pub use laws::{rules_are_counted, ways_have_numbers};
 pub use product::{Lists, Words};
-pub use rules::{COMBINATION_LIMIT, Mistake, Stop, multiply};
+pub use rules::{COMBINATION_LIMIT, ListStop, Mistake, multiply};

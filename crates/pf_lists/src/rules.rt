@@ -1,7 +1,7 @@
 //! The rules that lists stand for.
 ghost use Rattle.std.specs.{Prelude.{◌≡◌, ◌<◌, ◌++◌, OnOk}, Option.option_to_list};
 ghost use Rattle.pf_form.specs.Form.Words.{texts};
-ghost use Rattle.pf_lists.specs.declared.rules.Stop.TheVariants.{Faulty, Memory};
+ghost use Rattle.pf_lists.specs.declared.rules.ListStop.TheVariants.{Faulty, Memory};
 ghost use Rattle.pf_lists.specs.{Product.{count, spelled, numbered}, Multiplied.{Gives, icmp_fault, rule_of, rules_of, multiplied}};
 
 use crate::product::{Lists, Words, count_of, words_of};
@@ -34,33 +34,33 @@ pub enum Mistake {
 
 /// Why lists stand for no rules.
 #[derive(Clone, Copy, Debug, PartialEq, Eq)]
-pub enum Stop {
+pub enum ListStop {
     Faulty(Mistake),
     /// Out of memory.
     Memory,
 }
 
-impl From<Mistake> for Stop {
+impl From<Mistake> for ListStop {
     ghost from_gives = { λ mistake stop. stop ≡ Faulty mistake };
 
-    fn from(mistake: Mistake) -> Stop {
-        Stop::Faulty(mistake)
+    fn from(mistake: Mistake) -> ListStop {
+        ListStop::Faulty(mistake)
     }
 }
 
-impl From<AllocError> for Stop {
+impl From<AllocError> for ListStop {
     ghost from_gives = { λ _ stop. stop ≡ Memory };
 
-    fn from(_e: AllocError) -> Stop {
-        Stop::Memory
+    fn from(_e: AllocError) -> ListStop {
+        ListStop::Memory
     }
 }
 
-impl<T: Drop> From<AllocFailed<T>> for Stop {
+impl<T: Drop> From<AllocFailed<T>> for ListStop {
     ghost from_gives = { λ _ stop. stop ≡ Memory };
 
-    fn from(_e: AllocFailed<T>) -> Stop {
-        Stop::Memory
+    fn from(_e: AllocFailed<T>) -> ListStop {
+        ListStop::Memory
     }
 }
 
@@ -101,7 +101,7 @@ fn rule_numbered(
     lists: &[Items<Words>],
     number: usize,
     ways: usize,
-) -> Result<Option<Rule>, Stop>
+) -> Result<Option<Rule>, ListStop>
     requires all { ways ≡ count lists.now }
     requires one { number < ways }
     ensures { Gives result (rule_of (numbered lists.now number)) }
@@ -121,7 +121,7 @@ fn push_some(rules: &mut Items<Rule>, rule: Option<Rule>) -> Result<(), AllocErr
 }
 
 /// The rules of all ways, of which there are so many, in order.
-fn rules_of(alloc: Global, lists: &[Items<Words>], ways: usize) -> Result<Items<Rule>, Stop>
+fn rules_of(alloc: Global, lists: &[Items<Words>], ways: usize) -> Result<Items<Rule>, ListStop>
     requires { ways ≡ count lists.now }
     ensures { Gives result (rules_of (spelled lists.now)) }
 {
@@ -133,19 +133,19 @@ fn rules_of(alloc: Global, lists: &[Items<Words>], ways: usize) -> Result<Items<
     Ok(rules)
 }
 
-/// The rules that lists stand for, in order: those of their product, but for ways whose families differ. `Stop::Faulty`: what is wrong
-/// with the first way that is no rule, or with the lists as a whole; `Stop::Memory`: out of memory.
-pub fn multiply(alloc: Global, lists: &Lists) -> Result<Items<Rule>, Stop>
+/// The rules that lists stand for, in order: those of their product, but for ways whose families differ. `ListStop::Faulty`: what is wrong
+/// with the first way that is no rule, or with the lists as a whole; `ListStop::Memory`: out of memory.
+pub fn multiply(alloc: Global, lists: &Lists) -> Result<Items<Rule>, ListStop>
     ensures { Gives result (multiplied lists.now) }
 {
     let lists = lists.as_slice();
     let ways = count_of(lists);
     if ways > COMBINATION_LIMIT {
-        return Err(Stop::Faulty(Mistake::ManyCombinations));
+        return Err(ListStop::Faulty(Mistake::ManyCombinations));
     }
     let rules = rules_of(alloc, lists, ways)?;
     if rules.len() == 0 {
-        return Err(Stop::Faulty(Mistake::NoCombination));
+        return Err(ListStop::Faulty(Mistake::NoCombination));
     }
     Ok(rules)
 }

@@ -14,16 +14,16 @@ use Rattle.pf_commit.proofs.Steps.{drop_item}
 
 -- a list's front, the first of the others, and those behind them
 parted : (xs rest part : List Word) (n m : ℕ) → rest ≡ drop n xs → part ≡ take m rest → xs ≡ take n xs ++ part ++ drop m rest
-parted xs rest part n m behind first =
+parted xs rest part n m following first =
     sym (append_assoc (take n xs) part (drop m rest) ∙ ap (λ (l : List Word). take n xs ++ (l ++ drop m rest)) first ∙ ap (λ (l : List Word). take n xs ++ l) (take-append-drop m rest)
-    ∙ ap (λ (l : List Word). take n xs ++ l) behind ∙ take-append-drop n xs)
+    ∙ ap (λ (l : List Word). take n xs ++ l) following ∙ take-append-drop n xs)
 
 -- two lists with the same front and the same back, given what is behind the front of each
 pub differs : (heading : Word) (old new olds news gone come : List Word) (n k : ℕ) (so_far : Result (Unit {0}) Error) (mid : Option (List ℕ)) (r : Result (Unit {0}) Error) (now : Option (List ℕ))
     → take n old ≡ take n new → olds ≡ drop n old → news ≡ drop n new
     → drop (length olds - k) olds ≡ drop (length news - k) news → gone ≡ take (length olds - k) olds → come ≡ take (length news - k) news
     → Continues so_far mid r now (changes_text heading gone come) → WritesDifference heading old new so_far mid r now
-differs heading old new olds news gone come n k so_far mid r now front is_olds is_news back is_gone is_come told = record {
+differs heading old new olds news gone come n k so_far mid r now front is_olds is_news back is_gone is_come reported = record {
   front = take n old;
   back = drop (length olds - k) olds;
   gone = gone;
@@ -31,7 +31,7 @@ differs heading old new olds news gone come n k so_far mid r now front is_olds i
   was = parted old olds gone n (length olds - k) is_olds is_gone;
   is = parted new news come n (length news - k) is_news is_come ∙ ap (λ (l : List Word). l ++ come ++ drop (length news - k) news) (sym front)
       ∙ ap (λ (l : List Word). take n old ++ come ++ l) (sym back);
-  told = told;
+  reported = reported;
 }
 
 -- ---- entries

@@ -26,7 +26,7 @@ pub record WritesDifference (heading : Word) (old new : List Word)
   pub come : List Word
   pub was : old ≡ front ++ gone ++ back
   pub is : new ≡ front ++ come ++ back
-  pub told : Continues so_far mid r now (changes_text heading gone come)
+  pub reported : Continues so_far mid r now (changes_text heading gone come)
 
 -- a path's rules are told below its path, main's below nothing
 abbrev pub rules_heading : Word → Word

@@ -86,7 +86,7 @@ fn question(alloc: Global, what: &[u8], path: &Path) -> Result<Vec<u8>, AllocErr
 // ---- rules
 
 /// What stands behind the number of a rule that is shown.
-pub(crate) fn behind_number(line: &[u8]) -> &[u8] {
+pub(crate) fn after_number(line: &[u8]) -> &[u8] {
     match line.iter().position(|byte| *byte == b' ') {
         Some(space) => &line[space + 1..],
         None => line,
@@ -97,7 +97,7 @@ pub(crate) fn behind_number(line: &[u8]) -> &[u8] {
 fn shown_rules(alloc: Global, list: &[Bytes]) -> Result<Vec<Bytes>, AllocError> {
     let mut rules = Vec::new(alloc);
     for line in list {
-        rules.push(Items::copied(alloc, behind_number(line.as_slice()))?)?;
+        rules.push(Items::copied(alloc, after_number(line.as_slice()))?)?;
     }
     Ok(rules)
 }
@@ -356,7 +356,7 @@ fn table_heading(alloc: Global, table: &FilledTable) -> Result<Vec<u8>, AllocErr
 
 // ---- a file
 
-fn told(written: io::Result<()>) -> Result<(), Fault> {
+fn output_checked(written: io::Result<()>) -> Result<(), Fault> {
     match written {
         Ok(()) => Ok(()),
         Err(_) => Err(Fault::Output),
@@ -373,7 +373,7 @@ fn show_ruleset<O: Write>(
     let old = shown_rules(alloc, list)?;
     let new = rule_texts(alloc, ruleset.rules.as_slice())?;
     let heading = rules_heading(alloc, &ruleset.path)?;
-    told(write_difference(out, Ok(()), &heading, &old, &new))
+    output_checked(write_difference(out, Ok(()), &heading, &old, &new))
 }
 
 /// Writes what a load would change of the rules at a path.
@@ -417,7 +417,7 @@ fn show_table<O: Write>(
     let gone = absent_in(alloc, &table.table, &entries_of(alloc, &old)?)?;
     let come = absent_in(alloc, &old, &entries_of(alloc, &table.table)?)?;
     let heading = table_heading(alloc, table)?;
-    told(write_changes(out, Ok(()), &heading, &gone, &come))
+    output_checked(write_changes(out, Ok(()), &heading, &gone, &come))
 }
 
 /// The same of those tables that are at this path, given the list of the server's.
@@ -489,5 +489,5 @@ pub fn show_changes<B: BufRead, W: Write, O: Write>(
     show_rulesets(alloc, server, replies, conf.rulesets.as_slice(), out)?;
     let paths = table_paths(alloc, tables)?;
     show_paths(alloc, server, replies, &paths, tables, out)?;
-    told(out.flush())
+    output_checked(out.flush())
 }

@@ -1,7 +1,7 @@
 //! What a server has.
 ghost use Rattle.pf_load.specs.Served.{AsksOnly};
 
-use crate::changes::{ask_list, behind_number, entry_in, table_with};
+use crate::changes::{after_number, ask_list, entry_in, table_with};
 use pf_addr::path::Path;
 use pf_commit::Fault;
 use pf_conf::{At, Conf, FilledTable, Ruleset};
@@ -28,7 +28,7 @@ fn is_of_unknown_line(fault: &Fault) -> bool {
 
 /// The rule of a line that shows one. It stands in no file.
 fn rule_in(alloc: Global, line: &[u8]) -> Result<At<Rule>, Fault> {
-    let Ok(text) = str::from_utf8(behind_number(line)) else {
+    let Ok(text) = str::from_utf8(after_number(line)) else {
         return Err(Fault::Ended);
     };
     match Rule::parse(alloc, text) {

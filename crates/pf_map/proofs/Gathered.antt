@@ -39,8 +39,8 @@ map_same (x ∷ xs) = ap (λ l. x ∷ l) (map_same xs)
 here : {A : Type 0} (x y : A) (xs : List A) → x ≡ y → Contains (x ∷ xs) y
 here x y xs is = (0, omega arith, is)
 
-behind : {A : Type 0} (x y : A) (xs : List A) → Contains xs y → Contains (x ∷ xs) y
-behind x y xs h = (suc h.0, omega (arith, h.1), h.2)
+contains_more : {A : Type 0} (x y : A) (xs : List A) → Contains xs y → Contains (x ∷ xs) y
+contains_more x y xs h = (suc h.0, omega (arith, h.1), h.2)
 
 all_at : {A : Type 0} (P : A → Type 0) (xs : List A) → AllByRecursion P xs → (k : ℕ) (x : A) → k < length xs → get_or xs k x ≡ x → P x
 all_at P [] all k x lt is = absurd (omega arith)
@@ -57,16 +57,16 @@ module _ {K X : Type 0} {R : K → K → Ordering} (o : IsTotalOrder R) where
   abbrev AllFound : List (K × X) → List (K × X) → Type 0
   AllFound es back = AllByRecursion (λ e. find R e.0 es ≡ Some e.1) back
 
-  found_behind : (x : K × X) (xs ys : List (K × X)) → T (below_all R x.0 ys) → AllFound xs ys → AllFound (x ∷ xs) ys
-  found_behind x xs [] below all = tt
-  found_behind x xs (y ∷ ys) below all =
+  found_after : (x : K × X) (xs ys : List (K × X)) → T (below_all R x.0 ys) → AllFound xs ys → AllFound (x ∷ xs) ys
+  found_after x xs [] below all = tt
+  found_after x xs (y ∷ ys) below all =
       let apart : R y.0 x.0 ≡ Greater = o.antisymm y.0 x.0 ∙ ap ordering_reverse (less_of _ (first_of _ _ below)) in
-      (ap (λ (r : Ordering). cond (is_eq r) (Some x.1) (find R y.0 xs)) apart ∙ all.0, found_behind x xs ys (second_of _ _ below) all.1)
+      (ap (λ (r : Ordering). cond (is_eq r) (Some x.1) (find R y.0 xs)) apart ∙ all.0, found_after x xs ys (second_of _ _ below) all.1)
 
   all_found : (es : List (K × X)) → T (is_sorted R es) → AllFound es es
   all_found [] is = tt
   all_found (x ∷ xs) is =
-      (ap (λ (r : Ordering). cond (is_eq r) (Some x.1) (find R x.0 xs)) (tied_itself o x.0), found_behind x xs xs (first_of _ _ is) (all_found xs (second_of _ _ is)))
+      (ap (λ (r : Ordering). cond (is_eq r) (Some x.1) (find R x.0 xs)) (tied_itself o x.0), found_after x xs xs (first_of _ _ is) (all_found xs (second_of _ _ is)))
 
   found_in : IsAntisymmetric R → (es : List (K × X)) (k : K) (v : X) → find R k es ≡ Some v → Contains es (k, v)
   found_in same [] k v is = absurd (cc (is))
@@ -76,7 +76,7 @@ module _ {K X : Type 0} {R : K → K → Ordering} (o : IsTotalOrder R) where
         let key : k ≡ e.0 = same k e.0 (equal_of _ tied) in
         let value : e.1 ≡ v = same_entry e.1 v found in
         here e (k, v) es (λ i. (sym key i, value i))
-    by false tied found rest = behind e (k, v) es (rest found)
+    by false tied found rest = contains_more e (k, v) es (rest found)
 
 module _ {N F V : Type 0} {S : F → F → Ordering} (p : IsTotalOrder S) (flow : V → F) where
   abbrev with_flow : N × V → F × (N × V)
@@ -214,7 +214,7 @@ module _ {N F V : Type 0} {S : F → F → Ordering} (p : IsTotalOrder S) (flow 
     by true t found rest =
         let one : g ≡ e = same_entry g e found in
         (here g e fs one, ap (λ (x : N × V). S f (flow x.1)) (sym one) ∙ equal_of _ t)
-    by false t found rest = let there = rest found in (behind g e fs there.0, there.1)
+    by false t found rest = let there = rest found in (contains_more g e fs there.0, there.1)
 
   pub index_of : {R : N → N → Ordering} → IsTotalOrder R → IsAntisymmetric R → (es fs : List (N × V)) → T (is_sorted R es) → IsPermutation es fs → T (is_sorted S (map with_flow fs)) → IsIndex R S flow es (map with_flow fs)
   index_of {R = R} o same es fs names moved flows = record {

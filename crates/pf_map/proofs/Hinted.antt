@@ -9,8 +9,8 @@ module _ {K : Type 0} {R : K → K → Ordering} (o : IsTotalOrder R) (hint : K 
   by_less differ true less = let before : hint a < hint b = grind (arith, nat_tests, less) in rw less (sym (rises a b before))
   by_less differ false less =
       let unequal : nat_eq (hint a) (hint b) ≡ false = grind (arith, nat_tests, differ) in
-      let behind : hint b < hint a = grind (arith, nat_tests, less, differ) in
-      rw (less, unequal) (sym (o.antisymm a b ∙ ap ordering_reverse (rises b a behind)))
+      let following : hint b < hint a = grind (arith, nat_tests, less, differ) in
+      rw (less, unequal) (sym (o.antisymm a b ∙ ap ordering_reverse (rises b a following)))
 
   pub hints_decide : (m n : ℕ) → m ≡ hint a → n ≡ hint b → m ≢ n → nat_cmp m n ≡ R a b
   hints_decide m n one other differ =

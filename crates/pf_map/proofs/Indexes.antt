@@ -26,18 +26,18 @@ module _ {N V : Type 0} {R : N → N → Ordering} (o : IsTotalOrder R) where
   abbrev AllFound : List (N × V) → List (N × V) → Type 0
   AllFound es back = AllByRecursion (λ e. find R e.0 es ≡ Some e.1) back
 
-  found_behind : (x : N × V) (xs ys : List (N × V)) → T (below_all R x.0 ys) → AllFound xs ys → AllFound (x ∷ xs) ys
-  found_behind x xs [] below all = tt
-  found_behind x xs (y ∷ ys) below all =
+  found_after : (x : N × V) (xs ys : List (N × V)) → T (below_all R x.0 ys) → AllFound xs ys → AllFound (x ∷ xs) ys
+  found_after x xs [] below all = tt
+  found_after x xs (y ∷ ys) below all =
       let parts = parts_of _ _ below in
       let apart : R y.0 x.0 ≡ Greater = o.antisymm y.0 x.0 ∙ ap ordering_reverse (less_of _ parts.0) in
-      (ap (λ (r : Ordering). cond (is_eq r) (Some x.1) (find R y.0 xs)) apart ∙ all.0, found_behind x xs ys parts.1 all.1)
+      (ap (λ (r : Ordering). cond (is_eq r) (Some x.1) (find R y.0 xs)) apart ∙ all.0, found_after x xs ys parts.1 all.1)
 
   all_found : (es : List (N × V)) → T (is_sorted R es) → AllFound es es
   all_found [] is = tt
   all_found (x ∷ xs) is =
       let parts = parts_of _ _ is in
-      (ap (λ (r : Ordering). cond (is_eq r) (Some x.1) (find R x.0 xs)) (tied_itself o x.0), found_behind x xs xs parts.0 (all_found xs parts.1))
+      (ap (λ (r : Ordering). cond (is_eq r) (Some x.1) (find R x.0 xs)) (tied_itself o x.0), found_after x xs xs parts.0 (all_found xs parts.1))
 
   without_is : (es : List (N × V)) (n q : N) → find R q (without R es n) ≡ cond (eq_by_cmp R q n) None (find R q es)
   without_is es n q = replaces_the_key _ o es n None q
@@ -51,16 +51,16 @@ module _ {N F V : Type 0} {R : N → N → Ordering} {S : F → F → Ordering} 
     none None none_there = refl
     none (Some e) none_there = absurd (cc (none_there e refl))
   found_by_flow es fs f index (x ∷ xs) all there = by (found_by_flow es fs f index xs all.1) (eq_by_cmp S f (flow x.1)) refl where
-    behind : eq_by_cmp S f (flow x.1) ≡ false → (e : N × V) → find S f fs ≡ Some e → (b : Bool) → eq_by_cmp R e.0 x.0 ≡ b → cond b (Some x.1) (find R e.0 xs) ≡ Some e.1 → find R e.0 xs ≡ Some e.1
-    behind is e found true tied here =
+    following : eq_by_cmp S f (flow x.1) ≡ false → (e : N × V) → find S f fs ≡ Some e → (b : Bool) → eq_by_cmp R e.0 x.0 ≡ b → cond b (Some x.1) (find R e.0 xs) ≡ Some e.1 → find R e.0 xs ≡ Some e.1
+    following is e found true tied here =
         let value : x.1 ≡ e.1 = same_entry x.1 e.1 here in
         let has : eq_by_cmp S f (flow x.1) ≡ true = ap (λ (v : V). eq_by_cmp S f (flow v)) value ∙ ap is_eq (index.known f e found).1 in
         absurd (cc (has, is))
-    behind is e found false tied here = here
+    following is e found false tied here = here
 
     by : (((e : N × V) → find S f fs ≡ Some e → find R e.0 xs ≡ Some e.1) → of_flow S flow f xs ≡ find S f fs) → (b : Bool) → eq_by_cmp S f (flow x.1) ≡ b → cond b (Some x) (of_flow S flow f xs) ≡ find S f fs
     by rest true is = sym (index.listed x.0 x.1 all.0 f (equal_of _ is))
-    by rest false is = rest (λ e found. behind is e found (eq_by_cmp R e.0 x.0) refl (there e found))
+    by rest false is = rest (λ e found. following is e found (eq_by_cmp R e.0 x.0) refl (there e found))
 
   pub flow_is_found : (es : List (N × V)) (fs : List (F × (N × V))) (f : F) → IsIndex R S flow es fs → of_flow S flow f es ≡ find S f fs
   flow_is_found es fs f index = found_by_flow es fs f index es (all_found o es index.names) (λ e found. (index.known f e found).0)

@@ -12,7 +12,7 @@ use Rattle.std.proofs.lemmas.List.{get_or_default, map-append, take-append-drop,
 use Rattle.std.proofs.lemmas.List.Concat.{flat_map-append}
 use Rattle.std.proofs.lemmas.List.Elements.{filter-append}
 use Rattle.pf_map.specs.Maps.{without, with_value, entry_at}
-use Rattle.pf_map.specs.MapParts.{joined, part_before, starts_behind, IsPlace}
+use Rattle.pf_map.specs.MapParts.{joined, part_before, starts_after, IsPlace}
 use Rattle.pf_map.proofs.Tests.{less_of, parts_of, both_of}
 
 -- while a place is sought it is between these two
@@ -20,8 +20,8 @@ pub record IsBetween {K X : Type 0} (R : K → K → Ordering) (k : K) (parts : 
   pub ordered : low ≤ high
   pub within : high ≤ length parts
   pub some : 0 < length parts → 0 < low
-  pub here : 1 < low → (0 < length (part_before low parts)) × (starts_behind R k (part_before low parts) ≡ false)
-  pub next : high < length parts → starts_behind R k (get_or parts high []) ≡ true
+  pub here : 1 < low → (0 < length (part_before low parts)) × (starts_after R k (part_before low parts) ≡ false)
+  pub next : high < length parts → starts_after R k (get_or parts high []) ≡ true
 
 -- the parts in front of the one just before a place
 abbrev pub front_of : {E : Type 0} → ℕ → List (List E) → List (List E)
@@ -63,9 +63,9 @@ module _ {K X : Type 0} {R : K → K → Ordering} (o : IsTotalOrder R) (k : K) 
 
   -- ---- entries that are all before a key, or all behind it
 
-  put_behind : (v : X) (a es : List (K × X)) → AllAt Greater a → put R k v (a ++ es) ≡ a ++ put R k v es
-  put_behind v [] es at = refl
-  put_behind v (e ∷ a) es at = rw at.0 (ap (λ z. e ∷ z) (put_behind v a es at.1))
+  put_after : (v : X) (a es : List (K × X)) → AllAt Greater a → put R k v (a ++ es) ≡ a ++ put R k v es
+  put_after v [] es at = refl
+  put_after v (e ∷ a) es at = rw at.0 (ap (λ z. e ∷ z) (put_after v a es at.1))
 
   put_before : (v : X) (m b : List (K × X)) → AllAt Less b → put R k v (m ++ b) ≡ put R k v m ++ b
   put_before v [] [] at = refl
@@ -82,12 +82,12 @@ module _ {K X : Type 0} {R : K → K → Ordering} (o : IsTotalOrder R) (k : K) 
   without_apart r (e ∷ es) apart at = rw (at.0, apart) (ap (λ z. e ∷ z) (without_apart r es apart at.1))
 
   without_around : (a m b : List (K × X)) → AllAt Greater a → AllAt Less b → without R (a ++ (m ++ b)) k ≡ a ++ (without R m k ++ b)
-  without_around a m b before behind = simp (filter-append, without_apart Greater a refl before, without_apart Less b refl behind)
+  without_around a m b before following = simp (filter-append, without_apart Greater a refl before, without_apart Less b refl following)
 
   with_around : (a m b : List (K × X)) (v : Option X) → AllAt Greater a → AllAt Less b → with_value R (a ++ (m ++ b)) k v ≡ a ++ (with_value R m k v ++ b)
-  with_around a m b None before behind = without_around a m b before behind
-  with_around a m b (Some v) before behind =
-      ap (put R k v) (without_around a m b before behind) ∙ put_behind v a (without R m k ++ b) before ∙ ap (λ z. a ++ z) (put_before v (without R m k) b behind)
+  with_around a m b None before following = without_around a m b before following
+  with_around a m b (Some v) before following =
+      ap (put R k v) (without_around a m b before following) ∙ put_after v a (without R m k ++ b) before ∙ ap (λ z. a ++ z) (put_before v (without R m k) b following)
 
   find_apart : (r : Ordering) (a es : List (K × X)) → is_eq r ≡ false → AllAt r a → find R k (a ++ es) ≡ find R k es
   find_apart r [] es apart at = refl
@@ -104,16 +104,16 @@ module _ {K X : Type 0} {R : K → K → Ordering} (o : IsTotalOrder R) (k : K) 
   below_at x (f ∷ a) e es is = below_at x a e es (parts_of _ _ is).1
 
   -- before a part that doesn't start behind a key all are before it
-  all_before : (a part es : List (K × X)) → 0 < length part → starts_behind R k part ≡ false → T (is_sorted R (a ++ (part ++ es))) → AllAt Greater a
+  all_before : (a part es : List (K × X)) → 0 < length part → starts_after R k part ≡ false → T (is_sorted R (a ++ (part ++ es))) → AllAt Greater a
   all_before a [] es some starts is = absurd (omega arith)
   all_before [] (e ∷ part) es some starts is = tt
   all_before (x ∷ a) (e ∷ part) es some starts is =
       let parts = parts_of _ _ is in (past o k x.0 e.0 (below_at x.0 a e (part ++ es) parts.0) starts, all_before a (e ∷ part) es some starts parts.1)
 
   -- behind an entry that is behind a key all are behind it
-  all_behind : (x : K) (es : List (K × X)) → R k x ≡ Less → T (below_all R x es) → AllAt Less es
-  all_behind x [] l is = tt
-  all_behind x (e ∷ es) l is = let parts = parts_of _ _ is in (o.trans k x e.0 l (less_of _ parts.0), all_behind x es l parts.1)
+  all_after : (x : K) (es : List (K × X)) → R k x ≡ Less → T (below_all R x es) → AllAt Less es
+  all_after x [] l is = tt
+  all_after x (e ∷ es) l is = let parts = parts_of _ _ is in (o.trans k x e.0 l (less_of _ parts.0), all_after x es l parts.1)
 
   sorted_back : (xs ys : List (K × X)) → T (is_sorted R (xs ++ ys)) → T (is_sorted R ys)
   sorted_back [] ys is = is
@@ -128,23 +128,23 @@ module _ {K X : Type 0} {R : K → K → Ordering} (o : IsTotalOrder R) (k : K) 
       let here = at.here (omega arith) in
       all_before (joined (take (suc i) parts)) (get_or parts (suc i) []) (joined (drop (suc (suc i)) parts)) here.0 here.1 (subst (λ z. T (is_sorted R z)) (around parts (suc i)) is)
 
-  parts_behind : (parts : List (List (K × X))) (n : ℕ) → (n < length parts → starts_behind R k (get_or parts n []) ≡ true) → T (is_sorted R (joined parts)) → AllAt Less (joined (drop n parts))
-  parts_behind [] zero next is = tt
-  parts_behind [] (suc n) next is = tt
-  parts_behind ([] ∷ parts) zero next is = absurd (cc (next (omega arith)))
-  parts_behind ((e ∷ es) ∷ parts) zero next is = let l = less_of (R k e.0) (subst T (sym (next (omega arith))) tt) in (l, all_behind e.0 (es ++ joined parts) l (parts_of _ _ is).0)
-  parts_behind (p ∷ parts) (suc n) next is = parts_behind parts n (λ h. next (omega arith)) (sorted_back p (joined parts) is)
+  parts_after : (parts : List (List (K × X))) (n : ℕ) → (n < length parts → starts_after R k (get_or parts n []) ≡ true) → T (is_sorted R (joined parts)) → AllAt Less (joined (drop n parts))
+  parts_after [] zero next is = tt
+  parts_after [] (suc n) next is = tt
+  parts_after ([] ∷ parts) zero next is = absurd (cc (next (omega arith)))
+  parts_after ((e ∷ es) ∷ parts) zero next is = let l = less_of (R k e.0) (subst T (sym (next (omega arith))) tt) in (l, all_after e.0 (es ++ joined parts) l (parts_of _ _ is).0)
+  parts_after (p ∷ parts) (suc n) next is = parts_after parts n (λ h. next (omega arith)) (sorted_back p (joined parts) is)
 
   replaced_there : (parts : List (List (K × X))) (n : ℕ) (v : Option X) → IsPlace R k parts n → T (is_sorted R (joined parts)) → with_value R (joined parts) k v ≡ joined (front_of n parts) ++ (with_value R (part_before n parts) k v ++ joined (drop n parts))
   replaced_there parts n v at is =
       ap (λ es. with_value R es k v) (around_place parts n)
-      ∙ with_around (joined (front_of n parts)) (part_before n parts) (joined (drop n parts)) v (front_before parts n at is) (parts_behind parts n at.next is)
+      ∙ with_around (joined (front_of n parts)) (part_before n parts) (joined (drop n parts)) v (front_before parts n at is) (parts_after parts n at.next is)
 
   read_there : (parts : List (List (K × X))) (n : ℕ) → IsPlace R k parts n → T (is_sorted R (joined parts)) → find R k (joined parts) ≡ find R k (part_before n parts)
   read_there parts n at is =
       ap (find R k) (around_place parts n)
       ∙ find_apart Greater (joined (front_of n parts)) (part_before n parts ++ joined (drop n parts)) refl (front_before parts n at is)
-      ∙ find_before (part_before n parts) (joined (drop n parts)) (parts_behind parts n at.next is)
+      ∙ find_before (part_before n parts) (joined (drop n parts)) (parts_after parts n at.next is)
 
   -- ---- the same, as it is read at the part itself
 
@@ -235,10 +235,10 @@ one_removed (p ∷ parts) (suc n) within =
     ap (λ z. p ++ z) (one_removed parts n (omega (arith, within))) ∙ sym (append_assoc p (joined (take n parts)) (joined (drop (suc n) parts)))
 
 -- one more behind it
-pub one_inserted : {E : Type 0} (parts : List (List E)) (n : ℕ) (behind : List E) → n < length parts →
-    joined (insert parts (suc n) behind) ≡ joined (take n parts) ++ ((get_or parts n [] ++ behind) ++ joined (drop (suc n) parts))
-one_inserted [] n behind within = absurd (omega (arith, within))
-one_inserted (p ∷ parts) zero behind within = sym (append_assoc p behind (joined parts))
-one_inserted (p ∷ parts) (suc n) behind within =
-    ap (λ z. p ++ z) (one_inserted parts n behind (omega (arith, within)))
-    ∙ sym (append_assoc p (joined (take n parts)) ((get_or parts n [] ++ behind) ++ joined (drop (suc n) parts)))
+pub one_inserted : {E : Type 0} (parts : List (List E)) (n : ℕ) (following : List E) → n < length parts →
+    joined (insert parts (suc n) following) ≡ joined (take n parts) ++ ((get_or parts n [] ++ following) ++ joined (drop (suc n) parts))
+one_inserted [] n following within = absurd (omega (arith, within))
+one_inserted (p ∷ parts) zero following within = sym (append_assoc p following (joined parts))
+one_inserted (p ∷ parts) (suc n) following within =
+    ap (λ z. p ++ z) (one_inserted parts n following (omega (arith, within)))
+    ∙ sym (append_assoc p (joined (take n parts)) ((get_or parts n [] ++ following) ++ joined (drop (suc n) parts)))

@@ -14,13 +14,13 @@ module _ {K X : Type 0} {R : K → K → Ordering} (o : IsTotalOrder R) where
   without_last [] k v is = refl
   without_last (e ∷ es) k v is = rw (below_last e es k v (first_of _ _ is)) (ap (λ l. e ∷ l) (without_last es k v (second_of _ _ is)))
 
-  put_behind : (es : List (K × X)) (k : K) (v : X) → T (is_sorted R (es ++ (k, v) ∷ [])) → put R k v es ≡ es ++ (k, v) ∷ []
-  put_behind [] k v is = refl
-  put_behind (e ∷ es) k v is = rw (below_last e es k v (first_of _ _ is)) (ap (λ l. e ∷ l) (put_behind es k v (second_of _ _ is)))
+  put_after : (es : List (K × X)) (k : K) (v : X) → T (is_sorted R (es ++ (k, v) ∷ [])) → put R k v es ≡ es ++ (k, v) ∷ []
+  put_after [] k v is = refl
+  put_after (e ∷ es) k v is = rw (below_last e es k v (first_of _ _ is)) (ap (λ l. e ∷ l) (put_after es k v (second_of _ _ is)))
 
   -- an entry behind all others stands behind them
   pub put_last : (es : List (K × X)) (k : K) (v : X) → T (is_sorted R (es ++ (k, v) ∷ [])) → with_value R es k (Some v) ≡ es ++ (k, v) ∷ []
-  put_last es k v is = ap (put R k v) (without_last es k v is) ∙ put_behind es k v is
+  put_last es k v is = ap (put R k v) (without_last es k v is) ∙ put_after es k v is
 
   -- a front of a list in order is in order
   pub sorted_front : (es fs : List (K × X)) → T (is_sorted R (es ++ fs)) → T (is_sorted R es)

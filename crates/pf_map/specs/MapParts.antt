@@ -17,13 +17,13 @@ part_before zero parts = []
 part_before (suc n) parts = get_or parts n []
 
 -- whether a key comes before a part's first entry
-abbrev pub starts_behind : {K X : Type 0} → (K → K → Ordering) → K → List (K × X) → Bool
-starts_behind R k [] = false
-starts_behind R k (e ∷ es) = is_lt (R k e.0)
+abbrev pub starts_after : {K X : Type 0} → (K → K → Ordering) → K → List (K × X) → Bool
+starts_after R k [] = false
+starts_after R k (e ∷ es) = is_lt (R k e.0)
 
 -- in a map in order, the part just before this place is the one where the key's entry is, or would be
 pub record IsPlace {K X : Type 0} (R : K → K → Ordering) (k : K) (parts : List (List (K × X))) (n : ℕ) : Type 0 where
   pub within : n ≤ length parts
   pub some : 0 < length parts → 0 < n
-  pub here : 1 < n → (0 < length (part_before n parts)) × (starts_behind R k (part_before n parts) ≡ false)
-  pub next : n < length parts → starts_behind R k (get_or parts n []) ≡ true
+  pub here : 1 < n → (0 < length (part_before n parts)) × (starts_after R k (part_before n parts) ≡ false)
+  pub next : n < length parts → starts_after R k (get_or parts n []) ≡ true

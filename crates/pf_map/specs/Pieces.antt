@@ -7,4 +7,4 @@ use Rattle.pf_map.specs.declared.pieces.Pieces.TheVariants.{Gone, One, Two}
 abbrev pub all_of : {P E : Type 0} → (P → List E) → List E → Pieces P → List E
 all_of f itself Gone = []
 all_of f itself One = itself
-all_of f itself (Two behind) = itself ++ f behind
+all_of f itself (Two following) = itself ++ f following

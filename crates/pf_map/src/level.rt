@@ -60,7 +60,7 @@ fn place_in<K: Key, V: Drop, E: Holder<K, V>, P: Part<K, V, E>, Q: Sought<K>>(
     let mut high = slots.len();
     'halving: while low < high {
         let middle = low + (high - low) / 2;
-        if slots[middle].starts_behind(hint, sought) {
+        if slots[middle].starts_after(hint, sought) {
             high = middle;
         } else {
             low = middle + 1;
@@ -119,8 +119,8 @@ fn keep<K: Key, V: Drop, E: Holder<K, V>, P: Part<K, V, E>>(
             Ok(true)
         }
         Pieces::One => Ok(true),
-        Pieces::Two(behind) => {
-            slots.insert(place + 1, Slot::new(behind))?;
+        Pieces::Two(following) => {
+            slots.insert(place + 1, Slot::new(following))?;
             Ok(true)
         }
     }
@@ -186,8 +186,8 @@ fn cut<K: Key, V: Drop, E: Holder<K, V>, P: Part<K, V, E>>(
     let Some(own) = Arc::get_mut(slots) else {
         return Ok(Pieces::One);
     };
-    let behind = own.split_off(PAGE_LIMIT / 2 + 1)?;
-    Ok(Pieces::Two(Level::of(alloc, behind)?))
+    let following = own.split_off(PAGE_LIMIT / 2 + 1)?;
+    Ok(Pieces::Two(Level::of(alloc, following)?))
 }
 
 impl<K: Key, V: Drop, E: Holder<K, V>, P: Part<K, V, E>> Level<K, V, E, P> {

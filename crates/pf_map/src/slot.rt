@@ -1,6 +1,6 @@
 //! Parts as a level holds them.
 ghost use Rattle.std.specs.{Prelude.{◌≡◌, ◌<◌, T, length, IfOk, IfSome}, FinMap.is_sorted, Option.option_map};
-ghost use Rattle.pf_map.specs.{Maps.with_value, MapParts.starts_behind, Pieces.all_of};
+ghost use Rattle.pf_map.specs.{Maps.with_value, MapParts.starts_after, Pieces.all_of};
 
 use crate::entry::Holder;
 use crate::part::Part;
@@ -89,9 +89,9 @@ impl<K: Key, V: Drop, E: Holder<K, V>, P: Part<K, V, E>> Slot<K, V, E, P> {
     }
 
     /// Whether its entries come behind a key: whether its first one does. The keys are compared only where the hints tie.
-    pub(crate) fn starts_behind<Q: Sought<K>>(&self, hint: u64, sought: &Q) -> bool
+    pub(crate) fn starts_after<Q: Sought<K>>(&self, hint: u64, sought: &Q) -> bool
         requires { hint ≡ K.hint (Q.key sought.now) }
-        ensures value { result ≡ starts_behind K.order (Q.key sought.now) self.now }
+        ensures value { result ≡ starts_after K.order (Q.key sought.now) self.now }
         ensures some { 0 < length self.now }
     {
         if hint == self.hint {

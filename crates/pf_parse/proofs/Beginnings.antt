@@ -7,7 +7,7 @@ use Rattle.pf_tokens.specs.declared.{place.Place.Place, token.Token.Token}
 use Rattle.pf_tokens.specs.Words.{is_newline, is_symbol}
 use Rattle.pf_parse.specs.declared.{fault.LeftOut.LeftOut, fault.Remark.Remark, fault.Stop.Stop, parser.Mode.Mode, parser.Mode.TheVariants.{Strict, Lenient}, parser.Rank.Rank, statements.Parsed.Parsed, tree.Product.Product, tree.Written.Written}
 use Rattle.pf_parse.specs.{States.State, Beginning.beginning, Laws.{begins_rule, BeginsAt}}
-use Rattle.pf_parse.specs.Reading.{next, first_or, newline_at, behind, rest_of, end_line, without_newlines, newlines, note, leave_out, leave_out_in, behind_line, skip_line, to_parenthesis, expect_symbol, end_parentheses, in_order, unexpected}
+use Rattle.pf_parse.specs.Reading.{next, first_or, newline_at, after_token, rest_of, end_line, without_newlines, newlines, note, leave_out, leave_out_in, after_line, skip_line, to_parenthesis, expect_symbol, end_parentheses, in_order, unexpected}
 use Rattle.pf_parse.specs.Anchors.{enter, shallow, keep_rule}
 use Rattle.pf_parse.specs.Lines.{keep_table, keep_load, keep_skip, in_main, order_matters, lines, parsed_of, parsed}
 use Rattle.pf_parse.proofs.Readers.{Kept, Follows, Keeps, Basics, keeps_lines}
@@ -21,28 +21,28 @@ end_if : (all ts us : List Token) (b : Bool) → EndOf all ts → EndOf all us �
 end_if all ts us true first other = first
 end_if all ts us false first other = other
 
-end_behind : (t : Token) (ts us : List Token) → EndOf ts us → EndOf (t ∷ ts) us
-end_behind t ts us (n, is) = (suc n, is)
+end_after : (t : Token) (ts us : List Token) → EndOf ts us → EndOf (t ∷ ts) us
+end_after t ts us (n, is) = (suc n, is)
 
 newlines_end : (ts : List Token) → EndOf ts (without_newlines ts)
 unfolding without_newlines
 newlines_end [] = (0, refl)
-newlines_end (t ∷ ts) = end_if (t ∷ ts) _ _ (is_newline t) (end_behind t ts _ (newlines_end ts)) (0, refl)
+newlines_end (t ∷ ts) = end_if (t ∷ ts) _ _ (is_newline t) (end_after t ts _ (newlines_end ts)) (0, refl)
 
 parenthesis_end : (ts : List Token) → EndOf ts (to_parenthesis ts)
 unfolding to_parenthesis
 parenthesis_end [] = (0, refl)
 parenthesis_end (t ∷ ts) =
-    end_if (t ∷ ts) _ _ (is_newline t || is_symbol (codes ")") t) (0, refl) (end_behind t ts _ (parenthesis_end ts))
+    end_if (t ∷ ts) _ _ (is_newline t || is_symbol (codes ")") t) (0, refl) (end_after t ts _ (parenthesis_end ts))
 
-line_end : (deep : ℕ) (ts : List Token) → EndOf ts (behind_line deep ts)
-unfolding behind_line
+line_end : (deep : ℕ) (ts : List Token) → EndOf ts (after_line deep ts)
+unfolding after_line
 line_end deep [] = (0, refl)
 line_end deep (t ∷ ts) =
     end_if (t ∷ ts) _ _ (is_newline t && (deep == 0)) (0, refl)
     (end_if (t ∷ ts) _ _ (is_symbol (codes "}") t)
-    (end_if (t ∷ ts) _ _ (deep == 0) (0, refl) (end_behind t ts _ (line_end (deep - 1) ts)))
-    (end_if (t ∷ ts) _ _ (is_symbol (codes "{") t) (end_behind t ts _ (line_end (deep + 1) ts)) (end_behind t ts _ (line_end deep ts))))
+    (end_if (t ∷ ts) _ _ (deep == 0) (0, refl) (end_after t ts _ (line_end (deep - 1) ts)))
+    (end_if (t ∷ ts) _ _ (is_symbol (codes "{") t) (end_after t ts _ (line_end (deep + 1) ts)) (end_after t ts _ (line_end deep ts))))
 
 -- ---- what is known between two tokens
 
@@ -78,8 +78,8 @@ rest_end : (ts : List Token) → EndOf ts (rest_of ts)
 rest_end [] = (0, refl)
 rest_end (t ∷ ts) = (1, refl)
 
-one_on : (all : List Token) (s : State) → Stands all s → Stands all (behind s)
-unfolding behind
+one_on : (all : List Token) (s : State) → Stands all s → Stands all (after_token s)
+unfolding after_token
 one_on all s stands = on all s (rest_of s.left) stands (rest_end s.left)
 
 -- what touches neither tokens nor rules
@@ -101,7 +101,7 @@ taken_or_refused : {A : Type 0} → (all : List Token) (b : Bool) (e : Stop) (x 
 taken_or_refused all true e x s stands = (refl, stands)
 taken_or_refused all false e x s stands = tt
 
-passed : (all : List Token) (b : Bool) (s : State) → Stands all s → Follows {A = Unit {0}} (standing all) (cond b (Ok (tt, behind s)) (unexpected s)) (cond b (Ok (tt, behind s)) (unexpected s))
+passed : (all : List Token) (b : Bool) (s : State) → Stands all s → Follows {A = Unit {0}} (standing all) (cond b (Ok (tt, after_token s)) (unexpected s)) (cond b (Ok (tt, after_token s)) (unexpected s))
 passed all true s stands = (refl, one_on all s stands)
 passed all false s stands = tt
 
@@ -120,7 +120,7 @@ leaves_out all p what = record { follows = λ s stands. left_out_in all s.mode p
 skips_line : (all : List Token) → Keeps (standing all) skip_line
 unfolding skip_line end_line
 skips_line all =
-    record { follows = λ s stands. passed all _ (record s { left = behind_line 0 s.left }) (on all s _ stands (line_end 0 s.left)) }
+    record { follows = λ s stands. passed all _ (record s { left = after_line 0 s.left }) (on all s _ stands (line_end 0 s.left)) }
 
 skips_parentheses : (all : List Token) → Keeps (standing all) (end_parentheses true)
 unfolding expect_symbol

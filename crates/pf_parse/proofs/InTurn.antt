@@ -64,29 +64,29 @@ skips_end ts i s past = ap (λ (us : List Token). skip_each us s) (drop_all i ts
 -- ---- hosts that are entries, from one on
 
 -- behind these
-abbrev pub behind_these : List Entry → Result (List Entry) Stop → Result (List Entry) Stop
-behind_these front (Ok es) = Ok (front ++ es)
-behind_these front (Err e) = Err e
+abbrev pub onto_these : List Entry → Result (List Entry) Stop → Result (List Entry) Stop
+onto_these front (Ok es) = Ok (front ++ es)
+onto_these front (Err e) = Err e
 
-one_more : (front : List Entry) (e : Entry) (r : Result (List Entry) Stop) → behind_these front (r >>= λ es. Ok (e ∷ es)) ≡ behind_these (front ++ e ∷ []) r
+one_more : (front : List Entry) (e : Entry) (r : Result (List Entry) Stop) → onto_these front (r >>= λ es. Ok (e ∷ es)) ≡ onto_these (front ++ e ∷ []) r
 one_more front e (Ok es) = ap (λ (xs : List Entry). Ok xs) (sym (append_assoc front (e ∷ []) es))
 one_more front e (Err stop) = refl
 
-pub entries_on : (hs : List Host) (i : ℕ) (h : Host) (e : Entry) (front : List Entry) → i < length hs → h ≡ get_or hs i h → entry_of h h.net ≡ Ok e → behind_these (front ++ e ∷ []) (entries_of (drop (i + 1) hs)) ≡ behind_these front (entries_of (drop i hs))
+pub entries_on : (hs : List Host) (i : ℕ) (h : Host) (e : Entry) (front : List Entry) → i < length hs → h ≡ get_or hs i h → entry_of h h.net ≡ Ok e → onto_these (front ++ e ∷ []) (entries_of (drop (i + 1) hs)) ≡ onto_these front (entries_of (drop i hs))
 unfolding entries_of
 entries_on hs i h e front within here is =
-    sym (ap (λ (all : List Host). behind_these front (entries_of all)) (drop_item hs i h within here) ∙ rw is (one_more front e (entries_of (drop (i + 1) hs))))
+    sym (ap (λ (all : List Host). onto_these front (entries_of all)) (drop_item hs i h within here) ∙ rw is (one_more front e (entries_of (drop (i + 1) hs))))
 
-pub entries_stop : (hs : List Host) (i : ℕ) (h : Host) (front : List Entry) (stop : Stop) → i < length hs → h ≡ get_or hs i h → entry_of h h.net ≡ Err stop → behind_these front (entries_of (drop i hs)) ≡ Err stop
+pub entries_stop : (hs : List Host) (i : ℕ) (h : Host) (front : List Entry) (stop : Stop) → i < length hs → h ≡ get_or hs i h → entry_of h h.net ≡ Err stop → onto_these front (entries_of (drop i hs)) ≡ Err stop
 unfolding entries_of
 entries_stop hs i h front stop within here is =
-    ap (λ (all : List Host). behind_these front (entries_of all)) (drop_item hs i h within here) ∙ rw is refl
+    ap (λ (all : List Host). onto_these front (entries_of all)) (drop_item hs i h within here) ∙ rw is refl
 
-pub entries_end : (hs : List Host) (i : ℕ) (front : List Entry) → length hs ≤ i → behind_these front (entries_of (drop i hs)) ≡ Ok front
+pub entries_end : (hs : List Host) (i : ℕ) (front : List Entry) → length hs ≤ i → onto_these front (entries_of (drop i hs)) ≡ Ok front
 unfolding entries_of
 entries_end hs i front past =
-    ap (λ (all : List Host). behind_these front (entries_of all)) (drop_all i hs past) ∙ ap (λ (es : List Entry). Ok es) (append-nil front)
+    ap (λ (all : List Host). onto_these front (entries_of all)) (drop_all i hs past) ∙ ap (λ (es : List Entry). Ok es) (append-nil front)
 
-pub behind_none : (r : Result (List Entry) Stop) → behind_these [] r ≡ r
-behind_none (Ok es) = refl
-behind_none (Err e) = refl
+pub after_none : (r : Result (List Entry) Stop) → onto_these [] r ≡ r
+after_none (Ok es) = refl
+after_none (Err e) = refl

@@ -5,7 +5,7 @@ use Rattle.pf_tokens.specs.declared.{place.Place.Place, token.Token.Token}
 use Rattle.pf_parse.specs.declared.{fault.LeftOut.LeftOut, fault.Stop.Stop, parser.Mode.Mode, parser.Mode.TheVariants.{Strict, Lenient}, parser.Rank.Rank, statements.Parsed.Parsed}
 use Rattle.pf_parse.specs.States.{State}
 use Rattle.pf_parse.specs.Beginning.{beginning}
-use Rattle.pf_parse.specs.Reading.{next, second, behind, end_line, newlines, note, leave_out, leave_out_in, behind_line, skip_line, to_parenthesis, expect_symbol, end_parentheses, in_order, unexpected}
+use Rattle.pf_parse.specs.Reading.{next, second, after_token, end_line, newlines, note, leave_out, leave_out_in, after_line, skip_line, to_parenthesis, expect_symbol, end_parentheses, in_order, unexpected}
 use Rattle.pf_parse.specs.Anchors.{enter, shallow, keep_rule}
 use Rattle.pf_parse.specs.Lines.{keep_table, keep_load, keep_skip, in_main, order_matters, lines, parsed_of, parsed}
 use Rattle.pf_parse.proofs.Readers.{Kept, Follows, Keeps, Basics, keeps_lines}
@@ -26,8 +26,8 @@ taken_or_refused : {A : Type 0} → (b : Bool) (e : Stop) (x : A) (s : State) �
 taken_or_refused true e x s strict = (refl, strict)
 taken_or_refused false e x s strict = tt
 
-passed : (b : Bool) (s : State) → s.mode ≡ Strict → Follows {A = Unit {0}} lenient (cond b (Ok (tt, behind s)) (unexpected s)) (cond b (Ok (tt, behind (leniently s))) (unexpected (leniently s)))
-unfolding behind
+passed : (b : Bool) (s : State) → s.mode ≡ Strict → Follows {A = Unit {0}} lenient (cond b (Ok (tt, after_token s)) (unexpected s)) (cond b (Ok (tt, after_token (leniently s))) (unexpected (leniently s)))
+unfolding after_token
 passed true s strict = (refl, strict)
 passed false s strict = tt
 
@@ -41,7 +41,7 @@ leaves_out p what = record { follows = λ s strict. left_out_in s.mode p what s 
 
 skips_line : Keeps lenient skip_line
 unfolding skip_line end_line next
-skips_line = record { follows = λ s strict. passed _ (record s { left = behind_line 0 s.left }) strict }
+skips_line = record { follows = λ s strict. passed _ (record s { left = after_line 0 s.left }) strict }
 
 skips_parentheses : Keeps lenient (end_parentheses true)
 unfolding expect_symbol next
@@ -60,7 +60,7 @@ unfolding shallow
 knows_depth p = record { follows = λ s strict. taken_or_refused _ _ s.depth s strict }
 
 basics : Basics lenient
-unfolding next second behind newlines note enter keep_rule keep_table keep_load keep_skip order_matters
+unfolding next second after_token newlines note enter keep_rule keep_table keep_load keep_skip order_matters
 basics = record {
   looks = λ s. refl;
   looks_on = λ s. refl;

@@ -6,12 +6,12 @@ use Rattle.pf_tokens.specs.Words.{is_word, is_symbol, is_newline, is_number, is_
 use Rattle.pf_lists.specs.declared.hosts.Host.{Host}
 use Rattle.pf_parse.specs.declared.{anchors.Named.Named, fault.LeftOut.LeftOut, fault.Mistake.Mistake, fault.Remark.Remark, fault.Stop.Stop, parser.Rank.Rank, lists.Operator.Operator, lists.TheConstants.LIST_LIMIT, lists.Tested.{Tested}, lists.Tested.TheVariants.{Protocol, Port}, tree.Entries.Entries, tree.Load.Load, tree.Product.Product, tree.Start.Start, tree.Start.TheVariants.{Pass, Block}, tree.Table.Table, tree.Tests.Tests, options.Options.Options}
 use Rattle.pf_parse.specs.States.{State}
-use Rattle.pf_parse.specs.Reading.{Word, Reads, giving, ◌>=>◌, refusing, looking, next, second, behind, is_at_end, token, takes_word, takes_symbol, unexpected, expect, passing, expect_word, expect_symbol, string, value, end_line, is_empty_list, newlines, note, leave_out, leave_out_next, skip_line, end_parentheses, skip_parentheses, in_order, repeating, repeated}
-use Rattle.pf_parse.specs.Lists.{looking_at, from, begin_list, behind_comma, behind_item, list_goes_on, item_more, list, one, no_list, listed_item, one_or_items, one_or_list, table_name, noted_group, not_negated, interface, interfaces, protocol, or_same, operator, compared, between, ranged, port_by, port, tested, all_tested, named_host, with_length, address, no_range, net_host, other_host, host, not_any, listed_hosts, hosts_in, hosts}
-use Rattle.pf_parse.specs.Criteria.{behind_word, tested_interfaces, family, protocols, side_hosts, side, sides, tests}
+use Rattle.pf_parse.specs.Reading.{Word, Reads, giving, ◌>=>◌, refusing, looking, next, second, after_token, is_at_end, token, takes_word, takes_symbol, unexpected, expect, passing, expect_word, expect_symbol, string, value, end_line, is_empty_list, newlines, note, leave_out, leave_out_next, skip_line, end_parentheses, skip_parentheses, in_order, repeating, repeated}
+use Rattle.pf_parse.specs.Lists.{looking_at, from, begin_list, after_comma, after_item, list_goes_on, item_more, list, one, no_list, listed_item, one_or_items, one_or_list, table_name, noted_group, not_negated, interface, interfaces, protocol, or_same, operator, compared, between, ranged, port_by, port, tested, all_tested, named_host, with_length, address, no_range, net_host, other_host, host, not_any, listed_hosts, hosts_in, hosts}
+use Rattle.pf_parse.specs.Criteria.{if_word, tested_interfaces, family, protocols, side_hosts, side, sides, tests}
 use Rattle.pf_parse.specs.Options.{once, state_options, kept, state, label_of, label, letters, flags_of, set_flags, written_flags, flags, skip_string, queue_name, queue, tag, named_priority, priority_value, priority, unexpected_option, left_out_option, option, options_more, said, closing, tests_and_options}
 use Rattle.pf_parse.specs.Openings.{skip_drop, block_policy, direction, log, log_and_quick}
-use Rattle.pf_parse.specs.Anchors.{quoted_path, anchor_name, own_name, name_alone, newline_behind_brace, next_number, enter, open_braces, braces_or_line, shallow, keep_rule, named_anchor, anchor, leave_braces, close_braces}
+use Rattle.pf_parse.specs.Anchors.{quoted_path, anchor_name, own_name, name_alone, newline_after_brace, next_number, enter, open_braces, braces_or_line, shallow, keep_rule, named_anchor, anchor, leave_braces, close_braces}
 use Rattle.pf_parse.specs.Lines.{is_rule, rule_of, rule, listed, table_part, parts_more, table_parts, keep_table, name_in_angles, table, keep_load, loaded_path, loaded_file, load, keep_skip, skip_one, skip_each, in_main, skip, order_matters, set_order, require_order, set_option, is_setting, setting, set_line, left_out_line, no_line, rule_or_anchor, filtering, line, line_in_braces, any_line, all_closed, line_more, lines_more, lines}
 use Rattle.pf_parse.specs.Laws.{begins_rule}
 
@@ -41,7 +41,7 @@ pub record Basics (k : Kept) : Type 0 where
   pub within : (s : State) → (k.other s).within ≡ s.within
   pub number : (s : State) → next_number (k.other s) ≡ next_number s
   pub left : (s : State) → (k.other s).left ≡ s.left
-  pub taken : (s : State) → k.Holds s → (behind (k.other s) ≡ k.other (behind s)) × k.Holds (behind s)
+  pub taken : (s : State) → k.Holds s → (after_token (k.other s) ≡ k.other (after_token s)) × k.Holds (after_token s)
   pub begins : (s : State) → k.Holds s → begins_rule (next s) ≡ true → k.Begins (next s).place
   pub newlines_taken : Keeps k newlines
   pub noted : (p : Place) (r : Remark) → Keeps k (note p r)
@@ -114,19 +114,19 @@ keeps_end k basics then keeps = record { follows = λ s holds. looked k then (is
 
 -- ---- tokens
 
-token_follows : (k : Kept) → Basics k → (s : State) → k.Holds s → Follows {A = Token} k (Ok (next s, behind s)) (Ok (next (k.other s), behind (k.other s)))
+token_follows : (k : Kept) → Basics k → (s : State) → k.Holds s → Follows {A = Token} k (Ok (next s, after_token s)) (Ok (next (k.other s), after_token (k.other s)))
 token_follows k basics s holds =
     let taken = basics.taken s holds in
     let pair : Token → State → Result (Token × State) Stop = λ t u. Ok (t, u) in
-    let is : pair (next (k.other s)) (behind (k.other s)) ≡ pair (next s) (k.other (behind s)) =
-    ap (λ (t : Token). pair t (behind (k.other s))) (basics.looks s) ∙ ap (pair (next s)) taken.0 in
+    let is : pair (next (k.other s)) (after_token (k.other s)) ≡ pair (next s) (k.other (after_token s)) =
+    ap (λ (t : Token). pair t (after_token (k.other s))) (basics.looks s) ∙ ap (pair (next s)) taken.0 in
     (is, taken.1)
 
 keeps_token : (k : Kept) → Basics k → Keeps k token
 unfolding token
 keeps_token k basics = record { follows = λ s holds. token_follows k basics s holds }
 
-takes_follows : (k : Kept) → Basics k → (b : Bool) (s : State) → k.Holds s → Follows {A = Bool} k (cond b (Ok (true, behind s)) (Ok (false, s))) (cond b (Ok (true, behind (k.other s))) (Ok (false, k.other s)))
+takes_follows : (k : Kept) → Basics k → (b : Bool) (s : State) → k.Holds s → Follows {A = Bool} k (cond b (Ok (true, after_token s)) (Ok (false, s))) (cond b (Ok (true, after_token (k.other s))) (Ok (false, k.other s)))
 takes_follows k basics true s holds =
     let taken = basics.taken s holds in
     let taking : State → Result (Bool × State) Stop = λ t. Ok (true, t) in
@@ -151,7 +151,7 @@ keeps_expect : (k : Kept) → Basics k → (test : Token → Bool) → Keeps k (
 keeps_expect k basics test =
     record { follows = λ s holds. rw (ap test (basics.looks s)) (expect_follows k basics (test (next s)) s holds) }
 
-passing_follows : (k : Kept) → Basics k → (b : Bool) (s : State) → k.Holds s → Follows {A = Unit {0}} k (cond b (Ok (tt, behind s)) (unexpected s)) (cond b (Ok (tt, behind (k.other s))) (unexpected (k.other s)))
+passing_follows : (k : Kept) → Basics k → (b : Bool) (s : State) → k.Holds s → Follows {A = Unit {0}} k (cond b (Ok (tt, after_token s)) (unexpected s)) (cond b (Ok (tt, after_token (k.other s))) (unexpected (k.other s)))
 passing_follows k basics true s holds =
     let taken = basics.taken s holds in
     let taking : State → Result (Unit {0} × State) Stop = λ t. Ok (tt, t) in
@@ -212,7 +212,7 @@ then_begun k t u s v then same on keeps = rw (same, on) keeps
 keeps_begun : (k : Kept) → Basics k → {A : Type 0} → (then : Token → Reads A) → ((t : Token) → k.Begins t.place → Keeps k (then t)) → KeepsBegun k (token >=> then)
 unfolding token
 keeps_begun k basics then keeps =
-    record { follows = λ s holds begins. then_begun k (next s) (next (k.other s)) (behind s) (behind (k.other s)) then (basics.looks s) (basics.taken s holds).0 ((keeps (next s) begins).follows (behind s) (basics.taken s holds).1) }
+    record { follows = λ s holds begins. then_begun k (next s) (next (k.other s)) (after_token s) (after_token (k.other s)) then (basics.looks s) (basics.taken s holds).0 ((keeps (next s) begins).follows (after_token s) (basics.taken s holds).1) }
 
 -- ---- again and again
 
@@ -238,17 +238,17 @@ keeps_begin_list : (k : Kept) → Basics k → Keeps k begin_list
 unfolding begin_list
 keeps_begin_list k basics = search steps
 
-keeps_behind_comma : (k : Kept) → Basics k → (b : Bool) → Keeps k (behind_comma b)
-keeps_behind_comma k basics false = search steps
-keeps_behind_comma k basics true = search steps
+keeps_after_comma : (k : Kept) → Basics k → (b : Bool) → Keeps k (after_comma b)
+keeps_after_comma k basics false = search steps
+keeps_after_comma k basics true = search steps
 
-keeps_behind_item : (k : Kept) → Basics k → (b : Bool) → Keeps k (behind_item b)
-keeps_behind_item k basics true = search steps
-keeps_behind_item k basics false = keeps_then k basics _ _ (keeps_takes_symbol k basics _) (keeps_behind_comma k basics)
+keeps_after_item : (k : Kept) → Basics k → (b : Bool) → Keeps k (after_item b)
+keeps_after_item k basics true = search steps
+keeps_after_item k basics false = keeps_then k basics _ _ (keeps_takes_symbol k basics _) (keeps_after_comma k basics)
 
 keeps_list_goes_on : (k : Kept) → Basics k → Keeps k list_goes_on
 unfolding list_goes_on
-keeps_list_goes_on k basics = search (steps, keeps_behind_item)
+keeps_list_goes_on k basics = search (steps, keeps_after_item)
 
 keeps_item_more : (k : Kept) → Basics k → {A : Type 0} → (item : Reads (List A)) (xs : List A) → Keeps k item → Keeps k (item_more item xs)
 keeps_item_more k basics item xs same =
@@ -385,20 +385,20 @@ keeps_hosts k basics = keeps_look k basics _ (λ t. keeps_if k basics (is_symbol
 
 -- ---- what a rule tests
 
-keeps_behind_word : (k : Kept) → Basics k → {A : Type 0} → (w : Word) (read : Reads A) (x : A) → Keeps k read → Keeps k (behind_word w read x)
-keeps_behind_word k basics w read x same = keeps_then k basics (takes_word w) _ (keeps_takes_word k basics w) (λ is. keeps_if k basics is read _ same (keeps_giving k basics x))
+keeps_after_word : (k : Kept) → Basics k → {A : Type 0} → (w : Word) (read : Reads A) (x : A) → Keeps k read → Keeps k (if_word w read x)
+keeps_after_word k basics w read x same = keeps_then k basics (takes_word w) _ (keeps_takes_word k basics w) (λ is. keeps_if k basics is read _ same (keeps_giving k basics x))
 
 keeps_tested_interfaces : (k : Kept) → Basics k → Keeps k tested_interfaces
 unfolding tested_interfaces
-keeps_tested_interfaces k basics = search (steps, keeps_behind_word, keeps_interfaces)
+keeps_tested_interfaces k basics = search (steps, keeps_after_word, keeps_interfaces)
 
 keeps_family : (k : Kept) → Basics k → Keeps k family
 unfolding family
-keeps_family k basics = search (steps, keeps_behind_word)
+keeps_family k basics = search (steps, keeps_after_word)
 
 keeps_protocols : (k : Kept) → Basics k → Keeps k protocols
 unfolding protocols
-keeps_protocols k basics = search (steps, keeps_behind_word, keeps_all_tested)
+keeps_protocols k basics = search (steps, keeps_after_word, keeps_all_tested)
 
 keeps_side_hosts : (k : Kept) → Basics k → Keeps k side_hosts
 unfolding side_hosts
@@ -406,11 +406,11 @@ keeps_side_hosts k basics = search (steps, keeps_hosts) depth 10
 
 keeps_side : (k : Kept) → Basics k → Keeps k side
 unfolding side
-keeps_side k basics = search (steps, keeps_side_hosts, keeps_behind_word, keeps_all_tested) depth 10
+keeps_side k basics = search (steps, keeps_side_hosts, keeps_after_word, keeps_all_tested) depth 10
 
 keeps_sides : (k : Kept) → Basics k → Keeps k sides
 unfolding sides
-keeps_sides k basics = search (steps, keeps_behind_word, keeps_side) depth 10
+keeps_sides k basics = search (steps, keeps_after_word, keeps_side) depth 10
 
 keeps_tests : (k : Kept) → Basics k → Keeps k tests
 unfolding tests
@@ -557,16 +557,16 @@ unfolding name_alone
 keeps_name_alone k basics p None = search steps
 keeps_name_alone k basics p (Some t) = search steps
 
-keeps_newline_behind_brace : (k : Kept) → Basics k → Keeps k newline_behind_brace
-unfolding newline_behind_brace
-keeps_newline_behind_brace k basics = search steps
+keeps_newline_after_brace : (k : Kept) → Basics k → Keeps k newline_after_brace
+unfolding newline_after_brace
+keeps_newline_after_brace k basics = search steps
 
 keeps_enter : (k : Kept) → Basics k → (p : Place) (depth : ℕ) (name : Word) → Keeps k (enter p depth name)
 keeps_enter k basics p depth name = basics.entered p depth name
 
 keeps_open_braces : (k : Kept) → Basics k → (p : Place) (depth : ℕ) (name : Option Token) → Keeps k (open_braces p depth name)
 unfolding open_braces
-keeps_open_braces k basics p depth name = search (steps, keeps_newline_behind_brace, keeps_enter)
+keeps_open_braces k basics p depth name = search (steps, keeps_newline_after_brace, keeps_enter)
 
 keeps_braces_or_line : (k : Kept) → Basics k → (p : Place) (depth : ℕ) (name : Option Token) → Keeps k (braces_or_line p depth name)
 unfolding braces_or_line
@@ -583,13 +583,13 @@ unfolding named_anchor
 keeps_named_anchor k basics p depth name begins =
     search (steps, keeps_direction, keeps_tests_and_options, keeps_braces_or_line, keeps_keep_rule) depth 12
 
-keeps_anchor_behind : (k : Kept) → Basics k → (t : Token) → k.Begins t.place → Keeps k (shallow t.place >=> λ depth. own_name >=> named_anchor t.place depth)
-keeps_anchor_behind k basics t begins =
+keeps_anchor_after : (k : Kept) → Basics k → (t : Token) → k.Begins t.place → Keeps k (shallow t.place >=> λ depth. own_name >=> named_anchor t.place depth)
+keeps_anchor_after k basics t begins =
     keeps_then k basics _ _ (keeps_shallow k basics t.place) (λ depth. keeps_then k basics own_name _ (keeps_own_name k basics) (λ name. keeps_named_anchor k basics t.place depth name begins))
 
 keeps_anchor : (k : Kept) → Basics k → KeepsBegun k anchor
 unfolding anchor
-keeps_anchor k basics = keeps_begun k basics _ (keeps_anchor_behind k basics)
+keeps_anchor k basics = keeps_begun k basics _ (keeps_anchor_after k basics)
 
 keeps_leave_braces : (k : Kept) → Basics k → Keeps k leave_braces
 keeps_leave_braces k basics = basics.braces_left
@@ -605,15 +605,15 @@ unfolding rule_of
 keeps_rule_of k basics start first p begins =
     search (steps, keeps_direction, keeps_log_and_quick, keeps_tests_and_options, keeps_keep_rule) depth 12
 
-keeps_rule_behind : (k : Kept) → Basics k → (t : Token) → k.Begins t.place → Keeps k (cond (is_word (codes "block") t) (block_policy >=> λ _. rule_of Block (codes "block") t.place) (rule_of Pass (codes "pass") t.place))
-keeps_rule_behind k basics t begins =
+keeps_rule_after : (k : Kept) → Basics k → (t : Token) → k.Begins t.place → Keeps k (cond (is_word (codes "block") t) (block_policy >=> λ _. rule_of Block (codes "block") t.place) (rule_of Pass (codes "pass") t.place))
+keeps_rule_after k basics t begins =
     keeps_if k basics (is_word (codes "block") t) _ _
     (keeps_then k basics block_policy _ (keeps_block_policy k basics) (λ _. keeps_rule_of k basics Block (codes "block") t.place begins))
     (keeps_rule_of k basics Pass (codes "pass") t.place begins)
 
 keeps_rule : (k : Kept) → Basics k → KeepsBegun k rule
 unfolding rule
-keeps_rule k basics = keeps_begun k basics _ (keeps_rule_behind k basics)
+keeps_rule k basics = keeps_begun k basics _ (keeps_rule_after k basics)
 
 keeps_listed : (k : Kept) → Basics k → Keeps k listed
 unfolding listed

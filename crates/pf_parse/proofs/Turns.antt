@@ -3,7 +3,7 @@ use Rattle.std.proofs.Common.{◌≡◌, ℕ, zero, suc, ◌+◌, ◌-◌, ◌<�
 use Rattle.pf_parse.specs.declared.fault.{Mistake.TheVariants.DeepList, Stop.Stop, Stop.TheVariants.{Faulty, Needs, Memory}}
 use Rattle.pf_parse.specs.Stops.{fault_at}
 use Rattle.pf_parse.specs.States.{State}
-use Rattle.pf_parse.specs.Reading.{Reads, Takes, TakesOn, next, behind, token, unexpected_at, repeating}
+use Rattle.pf_parse.specs.Reading.{Reads, Takes, TakesOn, next, after_token, token, unexpected_at, repeating}
 use Rattle.pf_parse.specs.Lists.{begin_list, item_more, list, listed_hosts, hosts_in}
 
 turned : {A : Type 0} → (again : A → Reads (A × Bool)) (n : ℕ) (x y : A) (s t : State) → again x s ≡ Ok ((y, true), t) → repeating again (suc n) x s ≡ repeating again n y t
@@ -66,12 +66,12 @@ unfolding hosts_in
 too_deep zero s is = refl
 too_deep (suc deep) s is = absurd (omega arith)
 
-pub hosts_stop : (deep : ℕ) (s : State) (e : Stop) → 0 < deep → begin_list (behind s) ≡ Err e → hosts_in deep s ≡ Err e
+pub hosts_stop : (deep : ℕ) (s : State) (e : Stop) → 0 < deep → begin_list (after_token s) ≡ Err e → hosts_in deep s ≡ Err e
 unfolding hosts_in token
 hosts_stop zero s e some is = absurd (omega arith)
 hosts_stop (suc deep) s e some is = rw is refl
 
-pub hosts_begun : (deep : ℕ) (s t : State) → 0 < deep → begin_list (behind s) ≡ Ok (tt, t) → hosts_in deep s ≡ repeating (item_more (listed_hosts (hosts_in (deep - 1)))) (length t.left + 1) [] t
+pub hosts_begun : (deep : ℕ) (s t : State) → 0 < deep → begin_list (after_token s) ≡ Ok (tt, t) → hosts_in deep s ≡ repeating (item_more (listed_hosts (hosts_in (deep - 1)))) (length t.left + 1) [] t
 unfolding hosts_in token
 hosts_begun zero s t some is = absurd (omega arith)
 hosts_begun (suc deep) s t some is =

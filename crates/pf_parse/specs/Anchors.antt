@@ -67,8 +67,8 @@ abbrev pub name_in_braces : ℕ → Option Token → Result Word Stop
 name_in_braces number None = Ok (codes "_" ++ decimal number)
 name_in_braces number (Some t) = if has_slash (text_of t.text) then Err (fault_at t.place mistakes.PathOfBraces) else Ok (text_of t.text)
 
-unfoldable pub newline_behind_brace : Reads (Unit {0})
-newline_behind_brace = looking_at >=> λ t. if is_newline t then (token >=> λ _. giving tt) else refusing t.place mistakes.BehindBrace
+unfoldable pub newline_after_brace : Reads (Unit {0})
+newline_after_brace = looking_at >=> λ t. if is_newline t then (token >=> λ _. giving tt) else refusing t.place mistakes.AfterBrace
 
 -- the number of the braces that open next
 abbrev pub next_number : State → ℕ
@@ -82,7 +82,7 @@ enter p depth name s =
 
 unfoldable pub open_braces : Place → ℕ → Option Token → Reads Word
 open_braces p depth name =
-    newline_behind_brace >=> λ _. looking next_number
+    newline_after_brace >=> λ _. looking next_number
     >=> λ number. from (name_in_braces number name) >=> λ n. enter p depth n >=> λ _. giving n
 
 unfoldable pub braces_or_line : Place → ℕ → Option Token → Reads Word

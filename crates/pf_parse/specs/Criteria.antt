@@ -27,19 +27,19 @@ abbrev pub interface_words : List Token → List (List Word)
 interface_words ts = map interface_word ts
 
 -- if this word comes next, what follows it; else what holds without it
-abbrev pub behind_word : {A : Type 0} → Word → Reads A → A → Reads A
-behind_word w read otherwise = takes_word w >=> λ is. if is then read else giving otherwise
+abbrev pub if_word : {A : Type 0} → Word → Reads A → A → Reads A
+if_word w read otherwise = takes_word w >=> λ is. if is then read else giving otherwise
 
 unfoldable pub tested_interfaces : Reads (List (List Word))
-tested_interfaces = behind_word (codes "on") (interfaces >=> λ is. giving (interface_words is)) nothing
+tested_interfaces = if_word (codes "on") (interfaces >=> λ is. giving (interface_words is)) nothing
 
 unfoldable pub family : Reads (List Word)
 family =
     takes_word (codes "inet") >=> λ is_v4. if is_v4 then giving (codes "inet" ∷ [])
-    else behind_word (codes "inet6") (giving (codes "inet6" ∷ [])) []
+    else if_word (codes "inet6") (giving (codes "inet6" ∷ [])) []
 
 unfoldable pub protocols : Reads (List (List Word))
-protocols = behind_word (codes "proto") (all_tested Protocol) nothing
+protocols = if_word (codes "proto") (all_tested Protocol) nothing
 
 unfoldable pub side_hosts : Reads (List (List Word))
 side_hosts =
@@ -47,12 +47,12 @@ side_hosts =
     else (takes_word (codes "any") >=> λ is. if is then giving any_host else (hosts >=> λ hs. giving (map host_words hs)))
 
 unfoldable pub side : Reads Side
-side = side_hosts >=> λ hs. behind_word (codes "port") (all_tested Port) nothing >=> λ ps. giving (record { hosts = hs; ports = ps })
+side = side_hosts >=> λ hs. if_word (codes "port") (all_tested Port) nothing >=> λ ps. giving (record { hosts = hs; ports = ps })
 
 unfoldable pub sides : Reads (Side × Side)
 sides =
     takes_word (codes "all") >=> λ is_all. if is_all then giving (any_side, any_side)
-    else (behind_word (codes "from") side any_side >=> λ source. behind_word (codes "to") side any_side >=> λ destination. giving (source, destination))
+    else (if_word (codes "from") side any_side >=> λ source. if_word (codes "to") side any_side >=> λ destination. giving (source, destination))
 
 unfoldable pub tests : Reads Tests
 tests =

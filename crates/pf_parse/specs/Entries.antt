@@ -3,7 +3,7 @@ use Rattle.std.specs.Prelude.{◌≡◌, ℕ, zero, suc, ◌-◌, ◌==◌, nat_
 use Rattle.std.specs.Option.{option_to_list}
 use Rattle.pf_form.specs.Form.Forms.{◌>>=◌}
 use Rattle.pf_tokens.specs.declared.place.Place.{Place}
-use Rattle.pf_tokens.specs.Places.{start_of, behind}
+use Rattle.pf_tokens.specs.Places.{start_of, place_after}
 use Rattle.pf_tokens.specs.declared.fault.Mistake.TheVariants as token_mistakes
 use Rattle.pf_parse.specs.declared.{fault.Stop.Stop, fault.Stop.TheVariants.{Faulty, Needs, Memory}, entries.Front.Front, tree.Entry.Entry}
 use Rattle.pf_parse.specs.declared.fault.Mistake.TheVariants as mistakes
@@ -37,8 +37,8 @@ front_of p (b ∷ bs) =
 -- the entries, behind so many bytes that belong to what stands before
 unfoldable pub entries_from : ℕ → Place → Word → Result (List Entry) Stop
 entries_from more p [] = Ok []
-entries_from (suc more) p (b ∷ bs) = entries_from more (behind b p) bs
-entries_from zero p (b ∷ bs) = front_of p (b ∷ bs) >>= λ f. entries_from f.more (behind b p) bs >>= λ es. Ok (option_to_list f.entry ++ es)
+entries_from (suc more) p (b ∷ bs) = entries_from more (place_after b p) bs
+entries_from zero p (b ∷ bs) = front_of p (b ∷ bs) >>= λ f. entries_from f.more (place_after b p) bs >>= λ es. Ok (option_to_list f.entry ++ es)
 
 abbrev pub file_entries : ℕ → Word → Result (List Entry) Stop
 file_entries number text = entries_from 0 (start_of number) text
@@ -58,7 +58,7 @@ Appends (Err Memory) old new wanted = Unit {0}
 -- A function that takes the first byte appends the entry that begins with it, and says how many bytes belong to that.
 abbrev pub AppendsFirst : Result ℕ Stop → Place → ℕ → Word → List Entry → List Entry → Type 0
 AppendsFirst (Ok left) p more text old new =
-    onto old (entries_from more p text) ≡ onto new (entries_from left (behind (slice_index text 0) p) (drop 1 text))
+    onto old (entries_from more p text) ≡ onto new (entries_from left (place_after (slice_index text 0) p) (drop 1 text))
 AppendsFirst (Err (Faulty f)) p more text old new = entries_from more p text ≡ Err (Faulty f)
 AppendsFirst (Err (Needs name)) p more text old new = entries_from more p text ≡ Err (Needs name)
 AppendsFirst (Err Memory) p more text old new = Unit {0}

@@ -30,17 +30,17 @@ from (Err e) s = Err e
 unfoldable pub begin_list : Reads (Unit {0})
 begin_list = newlines >=> λ _. looking_at >=> λ t. if is_symbol (codes "}") t then refusing t.place mistakes.EmptyList else giving tt
 
-abbrev pub behind_comma : Bool → Reads Bool
-behind_comma false = giving true
-behind_comma true = looking_at >=> λ t. if is_newline t then refusing t.place mistakes.NewlineBehindComma else giving true
+abbrev pub after_comma : Bool → Reads Bool
+after_comma false = giving true
+after_comma true = looking_at >=> λ t. if is_newline t then refusing t.place mistakes.NewlineAfterComma else giving true
 
-abbrev pub behind_item : Bool → Reads Bool
-behind_item true = giving false
-behind_item false = takes_symbol (codes ",") >=> behind_comma
+abbrev pub after_item : Bool → Reads Bool
+after_item true = giving false
+after_item false = takes_symbol (codes ",") >=> after_comma
 
 -- whether another item follows
 unfoldable pub list_goes_on : Reads Bool
-list_goes_on = newlines >=> λ _. takes_symbol (codes "}") >=> behind_item
+list_goes_on = newlines >=> λ _. takes_symbol (codes "}") >=> after_item
 
 -- one more item, or several, behind those of a list
 abbrev pub item_more : {A : Type 0} → Reads (List A) → List A → Reads (List A × Bool)

@@ -71,8 +71,8 @@ next s = first_or (newline_at s.end_place) s.left
 unfoldable pub second : State → Token
 second s = first_or (newline_at s.end_place) (rest_of s.left)
 
-unfoldable pub behind : State → State
-behind s = record s { left = rest_of s.left }
+unfoldable pub after_token : State → State
+after_token s = record s { left = rest_of s.left }
 
 abbrev pub is_at_end : State → Bool
 is_at_end s = length s.left == 0
@@ -82,11 +82,11 @@ looking f s = Ok (f s, s)
 
 -- takes the next token
 unfoldable pub token : Reads Token
-token s = Ok (next s, behind s)
+token s = Ok (next s, after_token s)
 
 -- whether the next token passes; if so, it is taken
 abbrev pub takes : (Token → Bool) → Reads Bool
-takes test s = if test (next s) then Ok (true, behind s) else Ok (false, s)
+takes test s = if test (next s) then Ok (true, after_token s) else Ok (false, s)
 
 unfoldable pub takes_word : Word → Reads Bool
 takes_word w = takes (is_word w)
@@ -131,7 +131,7 @@ abbrev pub expect : (Token → Bool) → Reads Token
 expect test s = if test (next s) then token s else unexpected s
 
 abbrev pub passing : (Token → Bool) → Reads (Unit {0})
-passing test s = if test (next s) then Ok (tt, behind s) else unexpected s
+passing test s = if test (next s) then Ok (tt, after_token s) else unexpected s
 
 unfoldable pub expect_word : Word → Reads (Unit {0})
 expect_word w = passing (is_word w)
@@ -185,16 +185,16 @@ unfoldable pub leave_out_next : Reads (Unit {0})
 leave_out_next = token >=> λ t. leave_out t.place (left_out.Word (text_of t.text))
 
 -- what is left of a line behind lists that are this deep; none if its end doesn't come
-unfoldable pub behind_line : ℕ → List Token → List Token
-behind_line deep [] = []
-behind_line deep (t ∷ ts) =
+unfoldable pub after_line : ℕ → List Token → List Token
+after_line deep [] = []
+after_line deep (t ∷ ts) =
     if is_newline t && (deep == 0) then t ∷ ts
-    else if is_symbol (codes "}") t then (if deep == 0 then t ∷ ts else behind_line (deep - 1) ts)
-    else if is_symbol (codes "{") t then behind_line (deep + 1) ts
-    else behind_line deep ts
+    else if is_symbol (codes "}") t then (if deep == 0 then t ∷ ts else after_line (deep - 1) ts)
+    else if is_symbol (codes "{") t then after_line (deep + 1) ts
+    else after_line deep ts
 
 unfoldable pub skip_line : Reads (Unit {0})
-skip_line s = end_line (record s { left = behind_line 0 s.left })
+skip_line s = end_line (record s { left = after_line 0 s.left })
 
 -- up to the closing parenthesis on the same line
 unfoldable pub to_parenthesis : List Token → List Token

@@ -1,8 +1,8 @@
 -- Why a part of a file isn't read, and when a function gives what is wanted.
 use Rattle.std.specs.Prelude.{◌≡◌, Result, Ok, Err}
 use Rattle.pf_tokens.specs.declared.place.Place.{Place}
-use Rattle.pf_tokens.specs.declared.fault.Stop.{Stop as TokenStop}
-use Rattle.pf_tokens.specs.declared.fault.Stop.TheVariants as token_stops
+use Rattle.pf_tokens.specs.declared.fault.TokenStop.{TokenStop}
+use Rattle.pf_tokens.specs.declared.fault.TokenStop.TheVariants as token_stops
 use Rattle.pf_parse.specs.declared.{fault.Mistake.Mistake, fault.Stop.Stop, fault.Stop.TheVariants.{Faulty, Needs, Memory}}
 use Rattle.pf_parse.specs.declared.fault.Mistake.TheVariants as mistakes
 
@@ -23,7 +23,7 @@ Gives (Err (Needs name)) wanted = wanted ≡ Err (Needs name)
 Gives (Err Memory) wanted = Unit {0}
 
 -- A function that tells a fault tells what is wanted, unless memory runs out.
-abbrev pub Told : Stop → Stop → Type 0
-Told (Faulty f) wanted = wanted ≡ Faulty f
-Told (Needs name) wanted = wanted ≡ Needs name
-Told Memory wanted = Unit {0}
+abbrev pub TellsStop : Stop → Stop → Type 0
+TellsStop (Faulty f) wanted = wanted ≡ Faulty f
+TellsStop (Needs name) wanted = wanted ≡ Needs name
+TellsStop Memory wanted = Unit {0}

@@ -3,7 +3,7 @@ ghost use Rattle.std.specs.Prelude.{◌≡◌, ◌<◌, ◌++◌, IfOk, codes, d
 ghost use Rattle.std.specs.List.{list_any};
 ghost use Rattle.pf_addr.specs.Path.Paths.{components};
 ghost use Rattle.pf_parse.specs.{Stops.Gives, Reading.Takes};
-ghost use Rattle.pf_parse.specs.Anchors.{is_reserved, in_quotes, anchor_opening, name_fault, path_checked, quoted_path, anchor_name, own_name, shallow, name_alone, has_slash, name_in_braces, newline_behind_brace, enter, next_number, open_braces, braces_or_line, keep_rule, named_anchor, anchor, around, close_braces};
+ghost use Rattle.pf_parse.specs.Anchors.{is_reserved, in_quotes, anchor_opening, name_fault, path_checked, quoted_path, anchor_name, own_name, shallow, name_alone, has_slash, name_in_braces, newline_after_brace, enter, next_number, open_braces, braces_or_line, keep_rule, named_anchor, anchor, around, close_braces};
 
 use crate::fault::{Mistake, Stop, refusal};
 use crate::openings::{Direction, opening};
@@ -249,18 +249,18 @@ impl Parser<'_> {
         requires { depth < DEPTH_LIMIT }
         ensures { Takes result self.new (open_braces place depth name self.old) }
     {
-        self.newline_behind_brace()?;
+        self.newline_after_brace()?;
         let name = name_in_braces(self.alloc(), self.next_number(), name)?;
         self.enter(place, depth, name.as_slice())?;
         Ok(name)
     }
 
-    #[tactic(auto, unfolding(crate::specs::Anchors::newline_behind_brace, crate::specs::Reading::token))]
-    fn newline_behind_brace(&mut self) -> Result<(), Stop>
-        ensures { Takes result self.new (newline_behind_brace self.old) }
+    #[tactic(auto, unfolding(crate::specs::Anchors::newline_after_brace, crate::specs::Reading::token))]
+    fn newline_after_brace(&mut self) -> Result<(), Stop>
+        ensures { Takes result self.new (newline_after_brace self.old) }
     {
         if !self.next_is_newline() {
-            return Err(refusal(self.place(), Mistake::BehindBrace));
+            return Err(refusal(self.place(), Mistake::AfterBrace));
         }
         self.take();
         Ok(())

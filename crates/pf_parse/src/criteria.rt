@@ -3,7 +3,7 @@ ghost use Rattle.std.specs.Prelude.{◌≡◌, ◌∷◌, [], IfOk};
 ghost use Rattle.pf_form.specs.Form.Words.{texts};
 ghost use Rattle.pf_parse.specs.Reading.{Takes};
 ghost use Rattle.pf_parse.specs.Lists.{all_tested};
-ghost use Rattle.pf_parse.specs.Criteria.{nothing, behind_word, any_side, no_tests, interface_word, interface_words, tested_interfaces, family, protocols, side_hosts, side, sides, tests};
+ghost use Rattle.pf_parse.specs.Criteria.{nothing, if_word, any_side, no_tests, interface_word, interface_words, tested_interfaces, family, protocols, side_hosts, side, sides, tests};
 
 use crate::fault::Stop;
 use crate::lists::Tested;
@@ -108,8 +108,8 @@ impl Parser<'_> {
     }
 
     /// What is tested behind this word. Nothing is, if the word doesn't come next.
-    fn tested_behind(&mut self, word: &[u8], what: Tested) -> Result<Items<Words>, Stop>
-        ensures { Takes result self.new (behind_word word.now (all_tested what) nothing self.old) }
+    fn tested_after(&mut self, word: &[u8], what: Tested) -> Result<Items<Words>, Stop>
+        ensures { Takes result self.new (if_word word.now (all_tested what) nothing self.old) }
     {
         if self.takes_word(word) {
             return self.tested(what);
@@ -121,7 +121,7 @@ impl Parser<'_> {
     fn protocols(&mut self) -> Result<Items<Words>, Stop>
         ensures { Takes result self.new (protocols self.old) }
     {
-        self.tested_behind(b"proto", Tested::Protocol)
+        self.tested_after(b"proto", Tested::Protocol)
     }
 
     /// The source and the destination.
@@ -132,14 +132,14 @@ impl Parser<'_> {
         if self.takes_word(b"all") {
             return Ok((any_side(self.alloc())?, any_side(self.alloc())?));
         }
-        let source = self.side_behind(b"from")?;
-        let destination = self.side_behind(b"to")?;
+        let source = self.side_after(b"from")?;
+        let destination = self.side_after(b"to")?;
         Ok((source, destination))
     }
 
     /// The side behind this word. It is any, if the word doesn't come next.
-    fn side_behind(&mut self, word: &[u8]) -> Result<Side, Stop>
-        ensures { Takes result self.new (behind_word word.now side any_side self.old) }
+    fn side_after(&mut self, word: &[u8]) -> Result<Side, Stop>
+        ensures { Takes result self.new (if_word word.now side any_side self.old) }
     {
         if self.takes_word(word) {
             return self.side();
@@ -153,7 +153,7 @@ impl Parser<'_> {
         ensures { Takes result self.new (side self.old) }
     {
         let hosts = self.side_hosts()?;
-        let ports = self.tested_behind(b"port", Tested::Port)?;
+        let ports = self.tested_after(b"port", Tested::Port)?;
         Ok(Side { hosts, ports })
     }
 

@@ -1,6 +1,6 @@
 //! Files of a table's entries.
 ghost use Rattle.std.specs.{Prelude.{◌≡◌, ◌≤◌, ◌<◌, ◌+◌, ◌^◌, ◌++◌, length, take_while, OnOk}, Option.option_to_list};
-ghost use Rattle.pf_tokens.specs.Places.{behind};
+ghost use Rattle.pf_tokens.specs.Places.{place_after};
 ghost use Rattle.pf_parse.specs.{Stops.Gives, Entries.{is_space, in_word, in_line, entry_of, front_of, file_entries, Appends, AppendsFirst}};
 
 use crate::fault::{Mistake, Stop, refusal};
@@ -93,10 +93,10 @@ fn front_of(alloc: Global, place: Place, text: &[u8]) -> Result<Front, Stop>
 }
 
 /// Where the byte behind this one stands.
-fn behind(byte: u8, place: Place) -> Place
+fn place_after(byte: u8, place: Place) -> Place
     requires line { place.line + 1 < 2 ^ 32 }
     requires column { place.column + 1 < 2 ^ 32 }
-    ensures { result ≡ behind byte place }
+    ensures { result ≡ place_after byte place }
 {
     let (line, column) = if byte == b'\n' {
         (place.line + 1, 1)
@@ -158,7 +158,7 @@ pub fn read_entries(
     let mut more: usize = 0;
     for at in 0..text.len() {
         more = take_byte(alloc, place, more, &text[at..], entries)?;
-        place = behind(text[at], place);
+        place = place_after(text[at], place);
     }
     Ok(())
 }

@@ -109,7 +109,7 @@ pub enum Mistake {
     Misplaced(Bytes),
     EmptyList,
     InnerList,
-    NewlineBehindComma,
+    NewlineAfterComma,
     AnyInList,
     DeepList,
     LongInterface,
@@ -138,7 +138,7 @@ pub enum Mistake {
     LongPath,
     Path(Bytes),
     PathOfBraces,
-    BehindBrace,
+    AfterBrace,
     UnnamedAnchor,
     Lists(pf_lists::Mistake),
     ManyRules,
@@ -185,7 +185,7 @@ impl Mistake {
             Mistake::Misplaced(name) => Text::Named("'", name, "' can't stand here"),
             Mistake::EmptyList => Text::Plain("a list is empty"),
             Mistake::InnerList => Text::Plain("a list can't stand within this list"),
-            Mistake::NewlineBehindComma => Text::Plain(
+            Mistake::NewlineAfterComma => Text::Plain(
                 "behind a comma a line goes on by a backslash alone",
             ),
             Mistake::AnyInList => Text::Plain(
@@ -228,7 +228,7 @@ impl Mistake {
             Mistake::LongPath => Text::Plain("an anchor's path is too long"),
             Mistake::Path(name) => Text::Named("'", name, "' is no anchor's path"),
             Mistake::PathOfBraces => Text::Plain("rules in braces have a name without '/'"),
-            Mistake::BehindBrace => Text::Plain("a new line has to begin behind '{'"),
+            Mistake::AfterBrace => Text::Plain("a new line has to begin behind '{'"),
             Mistake::UnnamedAnchor => Text::Plain(
                 "an anchor without rules in braces has to have a name",
             ),
@@ -249,8 +249,11 @@ impl Display for Mistake {
     fn fmt<W: Write>(&self, f: &mut Formatter<W>) -> fmt::Result {
         match self.text() {
             Text::Plain(text) => write!(f, "{text}"),
-            Text::Named(before, name, behind) => write!(f, "{before}{name}{behind}"),
-            Text::Flags(before, flags, of, behind) => write!(f, "{before}{flags}/{of}{behind}"),
+            Text::Named(before, name, following) => write!(f, "{before}{name}{following}"),
+            Text::Flags(before, flags, of, following) => write!(
+                f,
+                "{before}{flags}/{of}{following}"
+            ),
             Text::Refused(word, reason) => write!(f, "'{word}' isn't there: {reason}"),
             Text::LeftOut(what) => {
                 let effect = Effect(what);
@@ -344,14 +347,17 @@ pub fn refusal(place: Place, mistake: Mistake) -> Stop
     Stop::Faulty(At { place, is })
 }
 
-impl From<pf_tokens::Stop> for Stop {
+impl From<pf_tokens::TokenStop> for Stop {
     ghost from_gives = { λ stop result. result ≡ stop_of stop };
 
-    fn from(stop: pf_tokens::Stop) -> Stop {
+    fn from(stop: pf_tokens::TokenStop) -> Stop {
         match stop {
-            pf_tokens::Stop::Faulty(fault) => refusal(fault.place, Mistake::Token(fault.mistake)),
-            pf_tokens::Stop::Needs(name) => Stop::Needs(name),
-            pf_tokens::Stop::Memory => Stop::Memory,
+            pf_tokens::TokenStop::Faulty(fault) => refusal(
+                fault.place,
+                Mistake::Token(fault.mistake),
+            ),
+            pf_tokens::TokenStop::Needs(name) => Stop::Needs(name),
+            pf_tokens::TokenStop::Memory => Stop::Memory,
         }
     }
 }

@@ -1,6 +1,6 @@
 //! Lists in braces, and what stands in them.
 ghost use Rattle.std.specs.Prelude.{◌≡◌, ◌++◌, decimal, Some, IfOk, OnOk, Ok};
-ghost use Rattle.pf_parse.specs.{Stops.{Gives, Told, fault_at}, Reading.{Takes, TakesOn}, Values.{shown_as, protocol_of, protocol_words, operand, port_range, port_words, net_at_place}};
+ghost use Rattle.pf_parse.specs.{Stops.{Gives, TellsStop, fault_at}, Reading.{Takes, TakesOn}, Values.{shown_as, protocol_of, protocol_words, operand, port_range, port_words, net_at_place}};
 ghost use Rattle.pf_parse.specs.Lists.{begin_list, list_goes_on, item_more, listed_item, list, no_list, table_name, ends_in_digit, noted_group, not_negated, interface_checked, table_checked, interface, interfaces, protocol, text_of_operator, one_port, two_ports, or_same, operator, compared, between, ranged, port, tested, all_tested, table_word, table_host, named_host, with_slash, address, no_range, net_host, other_host, host, not_any, listed_hosts, hosts_in, host_list, hosts};
 
 use crate::fault::{Mistake, Reason, Remark, Stop, refusal};
@@ -56,7 +56,7 @@ impl Operator {
 
 /// The fault of a text that is no value, which a user is shown as this.
 fn no_value(alloc: Global, place: Place, mistake: NoValue, shown: &[u8]) -> Stop
-    ensures { Told result (fault_at place (shown_as shown.now mistake)) }
+    ensures { TellsStop result (fault_at place (shown_as shown.now mistake)) }
 {
     let Ok(shown) = Items::copied(alloc, shown) else {
         return Stop::Memory;
@@ -267,7 +267,7 @@ impl Parser<'_> {
             return Ok(false);
         }
         if self.takes_symbol(b",") && self.next_is_newline() {
-            return Err(refusal(self.place(), Mistake::NewlineBehindComma));
+            return Err(refusal(self.place(), Mistake::NewlineAfterComma));
         }
         Ok(true)
     }

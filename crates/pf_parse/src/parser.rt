@@ -2,8 +2,8 @@
 ghost use Rattle.std.specs.Prelude.{◌≡◌, ◌≤◌, ◌+◌, drop, length, Ok, IfOk};
 ghost use Rattle.pf_form.specs.Form.Words.{texts};
 ghost use Rattle.pf_tokens.specs.{Places.text_of, Words.{is_newline, is_word, is_symbol}};
-ghost use Rattle.pf_parse.specs.{Beginning.{beginning, end_of}, Stops.Told};
-ghost use Rattle.pf_parse.specs.Reading.{Takes, rank_number, refusals_of, refusals_in, reason_in, next, second, behind, is_at_end, takes_word, takes_symbol, expect_word, expect_symbol, string, value, token, end_line, newlines, unexpected_at, refused_at, behind_line, skip_line, to_parenthesis, skip_parentheses, note, leave_out, leave_out_next, in_order, without_newlines, is_closing, is_empty_list};
+ghost use Rattle.pf_parse.specs.{Beginning.{beginning, end_of}, Stops.TellsStop};
+ghost use Rattle.pf_parse.specs.Reading.{Takes, rank_number, refusals_of, refusals_in, reason_in, next, second, after_token, is_at_end, takes_word, takes_symbol, expect_word, expect_symbol, string, value, token, end_line, newlines, unexpected_at, refused_at, after_line, skip_line, to_parenthesis, skip_parentheses, note, leave_out, leave_out_next, in_order, without_newlines, is_closing, is_empty_list};
 
 use crate::fault::{At, LeftOut, Mistake, Reason, Remark, Stop, refusal};
 use crate::tree::Tree;
@@ -227,9 +227,9 @@ impl<'a> Parser<'a> {
     }
 
     /// Takes the next token.
-    #[tactic(auto, using(crate::proofs::Steps::rest_at, crate::proofs::Steps::rest_past), unfolding(crate::specs::Reading::behind))]
+    #[tactic(auto, using(crate::proofs::Steps::rest_at, crate::proofs::Steps::rest_past), unfolding(crate::specs::Reading::after_token))]
     pub(crate) fn take(&mut self)
-        ensures { self.new ≡ behind self.old }
+        ensures { self.new ≡ after_token self.old }
     {
         if self.at < self.tokens.len() {
             self.at += 1;
@@ -240,7 +240,7 @@ impl<'a> Parser<'a> {
     #[tactic(auto, unfolding(crate::specs::Reading::token))]
     pub(crate) fn take_place(&mut self) -> Place
         ensures place { result ≡ (next self.old).place }
-        ensures taken { self.new ≡ behind self.old }
+        ensures taken { self.new ≡ after_token self.old }
     {
         let place = self.place();
         self.take();
@@ -353,7 +353,7 @@ impl<'a> Parser<'a> {
     /// The fault of a next token at which no text can go on.
     #[tactic(auto, unfolding(crate::specs::Reading::unexpected_at))]
     pub(crate) fn unexpected(&self) -> Stop
-        ensures { Told result (unexpected_at (next self.now)) }
+        ensures { TellsStop result (unexpected_at (next self.now)) }
     {
         if self.next_is_newline() {
             return refusal(self.place(), Mistake::LineEnds);
@@ -370,7 +370,7 @@ impl<'a> Parser<'a> {
     /// The fault of a next token that isn't there for this reason.
     #[tactic(auto, unfolding(crate::specs::Reading::refused_at))]
     pub(crate) fn refused(&self, reason: Reason) -> Stop
-        ensures { Told result (refused_at reason (next self.now)) }
+        ensures { TellsStop result (refused_at reason (next self.now)) }
     {
         match self.text() {
             Ok(text) => refusal(self.place(), Mistake::Refused(text, reason)),
@@ -417,7 +417,7 @@ impl<'a> Parser<'a> {
         ensures { result ≡ is_empty_list self.now.left }
     {
         match self.tokens_left() {
-            [_, behind @ ..] => closes_list(behind),
+            [_, after_token @ ..] => closes_list(after_token),
             [] => false,
         }
     }
@@ -510,9 +510,9 @@ fn newlines_before(tokens: &[Token]) -> usize
 }
 
 /// How many tokens stand before the end of a line, which may have lists.
-#[tactic(auto, using(crate::proofs::Steps::drop_item, std::proofs::lemmas::List::drop_all), unfolding(crate::specs::Reading::behind_line))]
+#[tactic(auto, using(crate::proofs::Steps::drop_item, std::proofs::lemmas::List::drop_all), unfolding(crate::specs::Reading::after_line))]
 fn length_of_line(tokens: &[Token]) -> usize
-    ensures rest { drop result tokens.now ≡ behind_line 0 tokens.now }
+    ensures rest { drop result tokens.now ≡ after_line 0 tokens.now }
     ensures bound { result ≤ length tokens.now }
 {
     let mut deep: usize = 0;

@@ -35,7 +35,7 @@ impl<K: Numbering, B: RunsTogether> Model for Waiting<K, B> {
 #[derive(Clone, Copy, Debug, PartialEq, Eq, Drop)]
 pub(crate) struct Comer {
     number: u64,
-    behind: u64,
+    jobs_before: u64,
 }
 
 /// The jobs and the callers that wait, in the order in which they came.
@@ -102,7 +102,7 @@ impl<K: Numbering, B: RunsTogether> Line<K, B> {
         self.turns.reserve(1)?;
         let turn = Comer {
             number: self.next_turn,
-            behind: self.next_job,
+            jobs_before: self.next_job,
         };
         self.next_turn = self.next_turn.wrapping_add(1);
         self.turns.push_back_reserved(turn);
@@ -113,7 +113,7 @@ impl<K: Numbering, B: RunsTogether> Line<K, B> {
     pub(crate) fn ready(&self) -> usize {
         match self.turns.front() {
             Some(turn) => {
-                let ahead = turn.behind.saturating_sub(self.moved_out);
+                let ahead = turn.jobs_before.saturating_sub(self.moved_out);
                 usize::try_from(ahead)
                     .unwrap_or(usize::MAX)
                     .min(self.jobs.len())

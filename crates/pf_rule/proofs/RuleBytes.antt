@@ -4,7 +4,7 @@ use Rattle.std.specs.{Prelude.{unwrap_or, is_none, is_ok, IfSome, not, if◌then
 use Rattle.byteorder.specs.Endian.{big_bytes}
 use Rattle.pf_addr.specs.declared.{addr.Family.{Family, TheVariants.V4, TheVariants.V6}, path.limits.TheConstants.TABLE_NAME_LIMIT}
 use Rattle.pf_addr.specs.{Address.PlainNet, NetForms.{family, family_byte, address_in, first_number}, Path.{Names.{is_name_byte, IsName}, PathForms.{is_name, name_field, reference_form}}, Spelling.first_addr, Laws.NetForms.{family_fits, length_fits, address_fits, network_is, network_again}}
-use Rattle.pf_form.specs.{Bytes.{BasicForms.{Bytes, number_bytes, begins_otherwise, constant_at}, Forms.{Shape, nat, both, Value, Form, Fits, Spells, number, front, pair, pair_by, times, writes, reads, onto, length_of}, Codes.{below, flag, flag_byte}}, Laws.Bytes.{Codes.{flag_fits, flag_again}, Lengths.length_is, Onto.onto_is, Steps.leaves, Texts.one_value}}
+use Rattle.pf_form.specs.{Bytes.{BasicForms.{Bytes, number_bytes, begins_otherwise, constant_at}, Forms.{Shape, nat, both, Value, ByteForm, Fits, Spells, number, front, pair, pair_by, times, writes, reads, onto, length_of}, Codes.{below, flag, flag_byte}}, Laws.Bytes.{Codes.{flag_fits, flag_again}, Lengths.length_is, Onto.onto_is, Steps.leaves, Texts.one_value}}
 use Rattle.pf_form.specs.Bytes.Names as fields
 use Rattle.pf_addr.proofs.{NamesRead.name_only, PathBytes.{name_fits, name_again, reference_fits, reference_again}}
 use Rattle.pf_form.proofs.BytesRead.{written_bytes}
@@ -399,11 +399,11 @@ same_form r s p q e =
 
 -- ---- reading a rule, part by part
 
-next : {a b : Shape} (f : Form a) (g : Value a → Form b) (before mid after : List ℕ) (x : Value a) (y : Value b) → reads f before ≡ leaves x mid → reads (g x) mid ≡ leaves y after → reads (pair_by f g) before ≡ leaves (x, y) after
+next : {a b : Shape} (f : ByteForm a) (g : Value a → ByteForm b) (before mid after : List ℕ) (x : Value a) (y : Value b) → reads f before ≡ leaves x mid → reads (g x) mid ≡ leaves y after → reads (pair_by f g) before ≡ leaves (x, y) after
 next f g before mid after x y e h = rw (e, h) refl
 
-behind : {a : Shape} (k : List ℕ) (f : Form a) (before mid after : List ℕ) (x : Value a) → constant_at k before ≡ leaves tt mid → reads f mid ≡ leaves x after → reads (front k f) before ≡ leaves x after
-behind k f before mid after x e h = rw (e, h) refl
+read_constant_first : {a : Shape} (k : List ℕ) (f : ByteForm a) (before mid after : List ℕ) (x : Value a) → constant_at k before ≡ leaves tt mid → reads f mid ≡ leaves x after → reads (front k f) before ≡ leaves x after
+read_constant_first k f before mid after x e h = rw (e, h) refl
 
 flag_of : (n limit : ℕ) → n < limit → limit ≤ 2 → flag_byte (n == 1) ≡ n
 flag_of zero limit lt le = refl
@@ -421,23 +421,23 @@ body_read labels anchors ports f b c d e g i s t n at_interface at_source at_des
     next interface (λ x. pair (end ports f) (pair (end ports f) (named labels anchors))) b c g i (s, (t, n)) at_interface
     (next (end ports f) (λ x. pair (end ports f) (named labels anchors)) c d g s (t, n) at_source (next (end ports f) (λ x. named labels anchors) d e g t n at_destination at_names))
 
-abbrev behind_protocol : Bool → ℕ → Value FamilyShape → ℕ → Form BodyShape
-behind_protocol labels kind f p = front (0 ∷ 0 ∷ []) (body labels (kind == 2) (has_ports p) f)
+abbrev after_protocol : Bool → ℕ → Value FamilyShape → ℕ → ByteForm BodyShape
+after_protocol labels kind f p = front (0 ∷ 0 ∷ []) (body labels (kind == 2) (has_ports p) f)
 
-abbrev behind_family : Bool → ℕ → Value FamilyShape → Form (both nat BodyShape)
-behind_family labels kind f = pair_by (number 1) (behind_protocol labels kind f)
+abbrev after_family : Bool → ℕ → Value FamilyShape → ByteForm (both nat BodyShape)
+after_family labels kind f = pair_by (number 1) (after_protocol labels kind f)
 
-abbrev behind_keeps : Bool → ℕ → Form (both FamilyShape (both nat BodyShape))
-behind_keeps labels kind = pair_by some_family (behind_family labels kind)
+abbrev after_keeps : Bool → ℕ → ByteForm (both FamilyShape (both nat BodyShape))
+after_keeps labels kind = pair_by some_family (after_family labels kind)
 
-abbrev behind_quick : Bool → ℕ → Form (both nat (both FamilyShape (both nat BodyShape)))
-behind_quick labels kind = pair (below (if kind == 1 then 2 else 1)) (behind_keeps labels kind)
+abbrev after_quick : Bool → ℕ → ByteForm (both nat (both FamilyShape (both nat BodyShape)))
+after_quick labels kind = pair (below (if kind == 1 then 2 else 1)) (after_keeps labels kind)
 
-abbrev behind_direction : Bool → ℕ → Form (both nat (both nat (both FamilyShape (both nat BodyShape))))
-behind_direction labels kind = pair flag (behind_quick labels kind)
+abbrev after_direction : Bool → ℕ → ByteForm (both nat (both nat (both FamilyShape (both nat BodyShape))))
+after_direction labels kind = pair flag (after_quick labels kind)
 
-abbrev behind_kind : Bool → ℕ → Form (both nat (both nat (both nat (both FamilyShape (both nat BodyShape)))))
-behind_kind labels kind = pair (below 3) (behind_direction labels kind)
+abbrev after_kind : Bool → ℕ → ByteForm (both nat (both nat (both nat (both FamilyShape (both nat BodyShape)))))
+after_kind labels kind = pair (below 3) (after_direction labels kind)
 
 pub rule_read : (version : ℕ) (r : PlainRule) (kind keeps limit : ℕ) (b1 b2 b3 b4 b5 b6 b7 b8 b9 : List ℕ) → effect_byte r.effect ≡ kind → keeps_state r.effect ≡ (keeps == 1) → keeps < limit → limit ≤ 2 → limit ≡ (if kind == 1 then 2 else 1)
     → reads (below 3) b1 ≡ leaves kind b2 → reads (below 3) b2 ≡ leaves (direction_byte r.direction) b3 → reads flag b3 ≡ leaves (flag_byte r.quick) b4
@@ -450,13 +450,13 @@ rule_read version r kind keeps limit b1 b2 b3 b4 b5 b6 b7 b8 b9 e k lt le is at_
     let same = plain_is r kind keeps e (ap flag_byte k ∙ flag_of keeps limit lt le) in
     let labels : Bool = has_labels version in
     let keeping = rw is at at_keeps in
-    next (below 3) (behind_kind labels) b1 b2 b9 kind _ at_kind
-    (next (below 3) (λ d. behind_direction labels kind) b2 b3 b9 (direction_byte r.direction) _ at_direction
-    (next flag (λ q. behind_quick labels kind) b3 b4 b9 (flag_byte r.quick) _ at_quick
-    (next (below (if kind == 1 then 2 else 1)) (λ k. behind_keeps labels kind) b4 b5 b9 keeps _ keeping
-    (next some_family (behind_family labels kind) b5 b6 b9 (plain_family r.family) _ at_family
-    (next (number 1) (behind_protocol labels kind (plain_family r.family)) b6 b7 b9 (unwrap_or r.protocol 0) _ at_protocol
-    (behind (0 ∷ 0 ∷ []) (body labels (kind == 2) (has_ports (unwrap_or r.protocol 0)) (plain_family r.family)) b7 b8 b9 _ at_zeros at_body))))))
+    next (below 3) (after_kind labels) b1 b2 b9 kind _ at_kind
+    (next (below 3) (λ d. after_direction labels kind) b2 b3 b9 (direction_byte r.direction) _ at_direction
+    (next flag (λ q. after_quick labels kind) b3 b4 b9 (flag_byte r.quick) _ at_quick
+    (next (below (if kind == 1 then 2 else 1)) (λ k. after_keeps labels kind) b4 b5 b9 keeps _ keeping
+    (next some_family (after_family labels kind) b5 b6 b9 (plain_family r.family) _ at_family
+    (next (number 1) (after_protocol labels kind (plain_family r.family)) b6 b7 b9 (unwrap_or r.protocol 0) _ at_protocol
+    (read_constant_first (0 ∷ 0 ∷ []) (body labels (kind == 2) (has_ports (unwrap_or r.protocol 0)) (plain_family r.family)) b7 b8 b9 _ at_zeros at_body))))))
     ∙ ap (λ (x : Value RuleShape). leaves x b9) same
 
 -- ---- how long a form is

@@ -75,7 +75,7 @@ start_kept w s e = by (position is_colon w) e where
   by None e = alone (port_of true w) (number_is w) e
   by (Some i) e = both_are (port_of true (take i w)) (port_of true (drop (i + 1) w)) s (number_is (take i w)) (number_is (drop (i + 1) w)) e
 
-range_end_is : (behind : Bool) (o : Option (PortRange × ℕ)) (ws : List Word) → Spells (range_end behind) o ws → IfSome o (λ x. x.1 < 65536)
+range_end_is : (following : Bool) (o : Option (PortRange × ℕ)) (ws : List Word) → Spells (range_end following) o ws → IfSome o (λ x. x.1 < 65536)
 unfolding range_end
 range_end_is true o ws s = grind (arith, port_kept)
 range_end_is false o ws s = grind arith

@@ -16,18 +16,18 @@ fault_for mistakes.MixedFamily = MixedFamily
 fault_for mistakes.PortNeedsProto = PortNeedsProto
 
 -- the result of reading `count` words, which may all be good and still make a mistake
-abbrev pub told : {A : Type 0} → ℕ → Result (Result A Mistake) (Kind × List Word) → Result A TextFault
-told count (Ok (Ok x)) = Ok x
-told count (Ok (Err mistake)) = Err (fault_for mistake)
-told count (Err e) = Err (fault_at e.0 (count - length e.1))
+abbrev pub text_result : {A : Type 0} → ℕ → Result (Result A Mistake) (Kind × List Word) → Result A TextFault
+text_result count (Ok (Ok x)) = Ok x
+text_result count (Ok (Err mistake)) = Err (fault_for mistake)
+text_result count (Err e) = Err (fault_at e.0 (count - length e.1))
 
 -- the result of a reader after which no word may be left
-abbrev pub told_by : {A : Type 0} → ℕ → Reader (Result A Mistake) → List Word → Result A TextFault
-told_by count read ws = told count (read ws >>= ended)
+abbrev pub text_result_by : {A : Type 0} → ℕ → Reader (Result A Mistake) → List Word → Result A TextFault
+text_result_by count read ws = text_result count (read ws >>= ended)
 
 -- the result for the words of a text
 unfoldable pub reading : {A : Type 0} → Form (Result A Mistake) → List Word → Result A TextFault
-reading text ws = told_by (length ws) (reads text) ws
+reading text ws = text_result_by (length ws) (reads text) ws
 
 -- The result is the expected one, unless it ran out of memory.
 abbrev pub Answers : {A : Type 0} → Result A TextFault → Result A TextFault → Type 0

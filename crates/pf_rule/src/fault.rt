@@ -2,10 +2,10 @@
 ghost use Rattle.std.specs.Prelude.{◌≡◌, ◌-◌, List, Result};
 ghost use denote.Ref.{Bor};
 ghost use Rattle.pf_form.specs.{Form.Forms.Reader, Form.Readers.MovesBy, Form.Words.{Word, texts}};
-ghost use Rattle.pf_rule.specs.Refusals.{fault_at, fault_for, told_by};
+ghost use Rattle.pf_rule.specs.Refusals.{fault_at, fault_for, text_result_by};
 ghost use Rattle.pf_rule.specs.declared.{fault.Mistake.Mistake, fault.TextFault.TheVariants.Memory};
 
-use pf_form::form::{Kind, Stop, Words, end};
+use pf_form::form::{Kind, WordFault, Words, end};
 use std::alloc::AllocError;
 use thiserror::Error;
 
@@ -42,7 +42,7 @@ pub enum TextFault {
 }
 
 /// The fault for a text of `count` words whose reading stopped there.
-fn fault_of(stop: Stop, count: usize) -> TextFault
+fn fault_of(stop: WordFault, count: usize) -> TextFault
     ensures { result ≡ fault_at stop.kind (count - stop.left) }
 {
     let at = count.saturating_sub(stop.left);
@@ -64,11 +64,11 @@ fn fault_for(mistake: Mistake) -> TextFault
 
 /// The result for a text of `count` words, from what was read of it and the words that are left.
 pub(crate) fn tell<T: Copy>(
-    read: Result<Result<T, Mistake>, Stop>,
+    read: Result<Result<T, Mistake>, WordFault>,
     rest: Words<'_>,
     count: usize,
 ) -> Result<T, TextFault>
-    ensures { (at : Reader (Result T Mistake)) (ws : List (Bor Word)) → MovesBy at read ws rest.now → result ≡ told_by count at (texts ws) }
+    ensures { (at : Reader (Result T Mistake)) (ws : List (Bor Word)) → MovesBy at read ws rest.now → result ≡ text_result_by count at (texts ws) }
 {
     match (read, end(rest)) {
         (Err(stop), _) | (Ok(_), Err(stop)) => Err(fault_of(stop, count)),

@@ -8,7 +8,7 @@ use crate::value::{
     Direction, Interface, Protocol, address_word, interface_word, port_word, protocol_word,
 };
 use pf_addr::Addr;
-use pf_form::form::{Stop, Words, expect, takes, words};
+use pf_form::form::{WordFault, Words, expect, takes, words};
 use std::alloc::Global;
 use std::marker::Model;
 
@@ -70,7 +70,7 @@ impl Packet {
     /// says how many words were left, including the one at fault. Which words remain after a refusal is unspecified. The only mistake is
     /// that the addresses are of different families.
     #[tactic(auto, unfolding(crate::specs::PacketGrammar::packet))]
-    pub fn read<'a>(words: &mut Words<'a>) -> Result<Result<Packet, Mistake>, Stop>
+    pub fn read<'a>(words: &mut Words<'a>) -> Result<Result<Packet, Mistake>, WordFault>
         ensures { Moves packet result words.old.now words.new.now }
     {
         let direction = read_way(words)?;
@@ -172,7 +172,7 @@ impl Packet {
 
 /// The direction, which every packet has.
 #[tactic(auto, unfolding(crate::specs::PacketGrammar::way))]
-fn read_way<'a>(words: &mut Words<'a>) -> Result<Direction, Stop>
+fn read_way<'a>(words: &mut Words<'a>) -> Result<Direction, WordFault>
     ensures { Moves way result words.old.now words.new.now }
 {
     if takes(words, b"in") {

@@ -13,7 +13,7 @@ use crate::value::{
 };
 use pf_addr::Family;
 use pf_addr::path::Reference;
-use pf_form::form::{Stop, Words, takes, words};
+use pf_form::form::{WordFault, Words, takes, words};
 use std::alloc::Global;
 use std::marker::Model;
 
@@ -164,7 +164,7 @@ impl Rule {
     /// how many words were left, including the one at fault. Which words remain after a refusal is unspecified. If there are two
     /// mistakes, different families come first.
     #[tactic(auto, unfolding(crate::specs::RuleGrammar::rule))]
-    pub fn read<'a>(words: &mut Words<'a>) -> Result<Result<Rule, Mistake>, Stop>
+    pub fn read<'a>(words: &mut Words<'a>) -> Result<Result<Rule, Mistake>, WordFault>
         ensures { Moves rule result words.old.now words.new.now }
     {
         let opening = read_opening(words)?;

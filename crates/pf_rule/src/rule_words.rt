@@ -5,7 +5,7 @@ ghost use Rattle.pf_rule.specs.RuleGrammar.{a_reference, label, opening, state};
 use crate::take_word;
 use crate::value::{Label, label_word};
 use pf_addr::path::Reference;
-use pf_form::form::{Stop, Words, expect, takes};
+use pf_form::form::{WordFault, Words, expect, takes};
 
 /// How a rule's text begins.
 #[derive(Clone, Copy)]
@@ -18,7 +18,7 @@ pub(crate) enum RuleStart {
     Anchor(Reference),
 }
 
-fn reference_word<'a>(words: &mut Words<'a>) -> Result<Reference, Stop>
+fn reference_word<'a>(words: &mut Words<'a>) -> Result<Reference, WordFault>
     ensures { Moves a_reference result words.old.now words.new.now }
 {
     take_word!(words, word => Reference::from_ascii(word))
@@ -26,7 +26,7 @@ fn reference_word<'a>(words: &mut Words<'a>) -> Result<Reference, Stop>
 
 /// How a rule begins.
 #[tactic(auto, unfolding(crate::specs::RuleGrammar::opening))]
-pub(crate) fn read_opening<'a>(words: &mut Words<'a>) -> Result<RuleStart, Stop>
+pub(crate) fn read_opening<'a>(words: &mut Words<'a>) -> Result<RuleStart, WordFault>
     ensures { Moves opening result words.old.now words.new.now }
 {
     if takes(words, b"pass") {
@@ -42,7 +42,7 @@ pub(crate) fn read_opening<'a>(words: &mut Words<'a>) -> Result<RuleStart, Stop>
 
 /// Whether a rule keeps state. Only a pass rule has the option, and it keeps state if nothing is said.
 #[tactic(auto, unfolding(crate::specs::RuleGrammar::state))]
-pub(crate) fn read_state<'a>(passes: bool, words: &mut Words<'a>) -> Result<bool, Stop>
+pub(crate) fn read_state<'a>(passes: bool, words: &mut Words<'a>) -> Result<bool, WordFault>
     ensures { Moves (state passes) result words.old.now words.new.now }
 {
     if !passes {
@@ -61,7 +61,10 @@ pub(crate) fn read_state<'a>(passes: bool, words: &mut Words<'a>) -> Result<bool
 
 /// The label of a rule, if there is one. Only a rule that decides has the option.
 #[tactic(auto, unfolding(crate::specs::RuleGrammar::label))]
-pub(crate) fn read_label<'a>(decides: bool, words: &mut Words<'a>) -> Result<Option<Label>, Stop>
+pub(crate) fn read_label<'a>(
+    decides: bool,
+    words: &mut Words<'a>,
+) -> Result<Option<Label>, WordFault>
     ensures { Moves (label decides) result words.old.now words.new.now }
 {
     if !decides || !takes(words, b"label") {

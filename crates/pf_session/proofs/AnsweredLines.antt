@@ -88,15 +88,15 @@ module _ {S : Type 0} (Takes : List ℕ → S → S → List ℕ → Type 0) whe
 
   -- ---- lines behind lines
 
-  pub answered-behind : {xs ys : List (List ℕ)} {a b c : S} {h i j : Option (List ℕ)} → Answered (Chain Takes) xs a b h i → Answered (Chain Takes) ys b c i j → Answered (Chain Takes) (xs ++ ys) a c h j
-  answered-behind {xs} {ys} {a} {b} {c} {h} {i} {j} p q = record {
+  pub answered-onto : {xs ys : List (List ℕ)} {a b c : S} {h i j : Option (List ℕ)} → Answered (Chain Takes) xs a b h i → Answered (Chain Takes) ys b c i j → Answered (Chain Takes) (xs ++ ys) a c h j
+  answered-onto {xs} {ys} {a} {b} {c} {h} {i} {j} p q = record {
     text = p.text ++ q.text;
     served = chain-then Takes a b c xs ys p.text q.text p.served q.served;
     written = Appends-trans h i j p.text q.text p.written q.written;
   }
 
-  pub cut-behind : {xs ys : List (List ℕ)} {a b c : S} {h i j : Option (List ℕ)} → Answered (Chain Takes) xs a b h i → CutOff (Chain Takes) ys b c i j → CutOff (Chain Takes) (xs ++ ys) a c h j
-  cut-behind {xs} p q = record {
+  pub cut-onto : {xs ys : List (List ℕ)} {a b c : S} {h i j : Option (List ℕ)} → Answered (Chain Takes) xs a b h i → CutOff (Chain Takes) ys b c i j → CutOff (Chain Takes) (xs ++ ys) a c h j
+  cut-onto {xs} p q = record {
     earlier = xs ++ q.earlier;
     last = q.last;
     others = q.others;
@@ -104,7 +104,7 @@ module _ {S : Type 0} (Takes : List ℕ → S → S → List ℕ → Type 0) whe
     one = q.one;
     before = q.before;
     mid = q.mid;
-    answered = answered-behind p q.answered;
+    answered = answered-onto p q.answered;
     text = q.text;
     served = q.served;
     front = q.front;
@@ -131,9 +131,9 @@ module _ {S : Type 0} (Takes : List ℕ → S → S → List ℕ → Type 0) whe
       let (others, rest, cut) = cut-more more f.cut in
       record { lines = f.lines ++ others; rest = rest; cut = cut; cut_off = cut-longer others f.cut_off }
 
-  pub answers-behind : {A E : Type 0} (r : Result A E) {xs : List (List ℕ)} (ys : List (List ℕ)) {a b : S} (c : S) {h i : Option (List ℕ)} (j : Option (List ℕ)) → Answered (Chain Takes) xs a b h i → Answers (Chain Takes) r ys b c i j → Answers (Chain Takes) r (xs ++ ys) a c h j
-  answers-behind (Ok x) ys c j p q = answered-behind p q
-  answers-behind (Err e) {xs} ys c j p q = cut-behind p q
+  pub answers-onto : {A E : Type 0} (r : Result A E) {xs : List (List ℕ)} (ys : List (List ℕ)) {a b : S} (c : S) {h i : Option (List ℕ)} (j : Option (List ℕ)) → Answered (Chain Takes) xs a b h i → Answers (Chain Takes) r ys b c i j → Answers (Chain Takes) r (xs ++ ys) a c h j
+  answers-onto (Ok x) ys c j p q = answered-onto p q
+  answers-onto (Err e) {xs} ys c j p q = cut-onto p q
 
   -- one line by itself
   pub line-answers : {A E : Type 0} (r : Result A E) {a b : S} (h i : Option (List ℕ)) (line text : List ℕ) → Takes line a b text → Writes r h i text → Answers (Chain Takes) r (line ∷ []) a b h i
@@ -166,28 +166,28 @@ module _ {S : Type 0} (Takes : List ℕ → S → S → List ℕ → Type 0) whe
       earlier = lines ++ t.earlier;
       others = t.others;
       lines_are = ap (λ (l : List (List ℕ)). lines ++ l) t.lines_are ∙ sym (append_assoc lines t.earlier t.others);
-      answered = answered-behind p t.answered;
+      answered = answered-onto p t.answered;
       waits = t.waits;
     }
-    taken-then (Err e) more c w j p cut = cut-behind p cut
+    taken-then (Err e) more c w j p cut = cut-onto p cut
 
     -- none was answered yet
     pub still-waiting : {lines : List (List ℕ)} (state : S) {w : Q} (held : Option (List ℕ)) → Waits lines w → Taken (Chain Takes) Waits lines state state w held held
     still-waiting {lines} state held waits = record { earlier = []; others = lines; lines_are = refl; answered = record { text = []; served = chain-none Takes state; written = Appends-nil held }; waits = waits }
 
-    taken-behind : {lines : List (List ℕ)} (more : List (List ℕ)) {a b c : S} {w w' : Q} {h i j : Option (List ℕ)} (t : Taken (Chain Takes) Waits lines a b w h i) → Taken (Chain Takes) Waits (t.others ++ more) b c w' i j → Taken (Chain Takes) Waits (lines ++ more) a c w' h j
-    taken-behind {lines} more t u = record {
+    taken-onto : {lines : List (List ℕ)} (more : List (List ℕ)) {a b c : S} {w w' : Q} {h i j : Option (List ℕ)} (t : Taken (Chain Takes) Waits lines a b w h i) → Taken (Chain Takes) Waits (t.others ++ more) b c w' i j → Taken (Chain Takes) Waits (lines ++ more) a c w' h j
+    taken-onto {lines} more t u = record {
       earlier = t.earlier ++ u.earlier;
       others = u.others;
       lines_are = ap (λ (l : List (List ℕ)). l ++ more) t.lines_are ∙ append_assoc t.earlier t.others more ∙ ap (λ (l : List (List ℕ)). t.earlier ++ l) u.lines_are ∙ sym (append_assoc t.earlier u.earlier u.others);
-      answered = answered-behind t.answered u.answered;
+      answered = answered-onto t.answered u.answered;
       waits = u.waits;
     }
 
     taken-cut : {lines : List (List ℕ)} (more : List (List ℕ)) {a b c : S} {w : Q} {h i j : Option (List ℕ)} (t : Taken (Chain Takes) Waits lines a b w h i) → CutOff (Chain Takes) (t.others ++ more) b c i j → CutOff (Chain Takes) (lines ++ more) a c h j
     taken-cut {lines} more {a = a} {c = c} {h = h} {j = j} t cut =
         let whole : t.earlier ++ (t.others ++ more) ≡ lines ++ more = sym (ap (λ (l : List (List ℕ)). l ++ more) t.lines_are ∙ append_assoc t.earlier t.others more) in
-        subst (λ (ls : List (List ℕ)). CutOff (Chain Takes) ls a c h j) whole (cut-behind t.answered cut)
+        subst (λ (ls : List (List ℕ)). CutOff (Chain Takes) ls a c h j) whole (cut-onto t.answered cut)
 
     -- the whole lines of the input were taken, and as much as is looked at is kept of the rest
     pub record TakenSoFar (input kept : List ℕ) (old new : S) (waiting : Q) (held held' : Option (List ℕ)) : Type 0 where
@@ -216,7 +216,7 @@ module _ {S : Type 0} (Takes : List ℕ → S → S → List ℕ → Type 0) whe
       rest = [];
       cut = cut-newline s.cut;
       kept_is = refl;
-      taken = taken-behind (s.rest ∷ []) s.taken (next s.taken.others s.rest s.taken.waits s.kept_is);
+      taken = taken-onto (s.rest ∷ []) s.taken (next s.taken.others s.rest s.taken.waits s.kept_is);
     }
 
     pub line-failed : {text kept : List ℕ} (more : List ℕ) {a b : S} (c : S) {w : Q} {h i : Option (List ℕ)} (j : Option (List ℕ))
@@ -232,7 +232,7 @@ module _ {S : Type 0} (Takes : List ℕ → S → S → List ℕ → Type 0) whe
       rest = s.rest;
       cut = s.cut;
       kept_is = s.kept_is;
-      answered = subst (λ (ls : List (List ℕ)). Answered (Chain Takes) ls a c h j) (sym s.taken.lines_are) (answered-behind s.taken.answered (all s.taken.others s.taken.waits));
+      answered = subst (λ (ls : List (List ℕ)). Answered (Chain Takes) ls a c h j) (sym s.taken.lines_are) (answered-onto s.taken.answered (all s.taken.others s.taken.waits));
     }
 
     pub wait-failed : {text kept : List ℕ} {a b : S} (c : S) {w : Q} {h i : Option (List ℕ)} (j : Option (List ℕ))
@@ -241,5 +241,5 @@ module _ {S : Type 0} (Takes : List ℕ → S → S → List ℕ → Type 0) whe
       lines = s.lines;
       rest = s.rest;
       cut = s.cut;
-      cut_off = subst (λ (ls : List (List ℕ)). CutOff (Chain Takes) ls a c h j) (sym s.taken.lines_are) (cut-behind s.taken.answered (all s.taken.others s.taken.waits));
+      cut_off = subst (λ (ls : List (List ℕ)). CutOff (Chain Takes) ls a c h j) (sym s.taken.lines_are) (cut-onto s.taken.answered (all s.taken.others s.taken.waits));
     }

@@ -1,18 +1,18 @@
 -- A session that asks: its calls change nothing, and what its lines do.
 use Rattle.std.proofs.Common.{◌≡◌, ◌∙◌, ℕ, ◌++◌, Bool, true, false, List, [], ◌∷◌, Option, Some, None, Result, Ok, Err, inl, inr, refl, sym, ap, subst, append-nil}
 use Rattle.std.specs.Prelude.{if◌then◌else◌}
-use Rattle.pf_core.specs.declared.{command.Command.Command, command.Command.TheVariants.{Transact, Edit, States, Ask, History}, command.HistoryCommand.TheVariants.{Log, Publish}, command.Question.Question, reply.Answer.Answer as Told, reply.Refusal.Refusal, reply.Reply.Reply, reply.Reply.TheVariants.{Answer, Applied, Stored, Refused}}
-use Rattle.pf_core.specs.{Calls.call, Commands.answer_of, Durable.Changes.{PlainDurable, PlainChange}, Worlds.{CurrentOpening, Setting, Upshot, State, down, called, acked_by, due, durable_of, group_in, heard, is_fault, pending_by, shown_by, shown_by_answer, told_of_history, IsLegal, LegalCall, LegalReply, StandsIn}}
+use Rattle.pf_core.specs.declared.{command.Command.Command, command.Command.TheVariants.{Transact, Edit, States, Ask, History}, command.HistoryCommand.TheVariants.{Log, Publish}, command.Question.Question, reply.Answer.Answer as Reported, reply.Refusal.Refusal, reply.Reply.Reply, reply.Reply.TheVariants.{Answer, Applied, Stored, Refused}}
+use Rattle.pf_core.specs.{Calls.call, Commands.answer_of, Durable.Changes.{PlainDurable, PlainChange}, Worlds.{CurrentOpening, Setting, Upshot, State, down, called, acked_by, due, durable_of, group_in, heard, is_fault, pending_by, shown_by, shown_by_answer, history_answer, IsLegal, LegalCall, LegalReply, StandsIn}}
 use Rattle.pf_core.proofs.{LongerWorlds.in-two, Showing.shows-nothing}
 use Rattle.pf_book.specs.Receipts.{PlainReceipt, IsAnswered}
 use Rattle.pf_line.specs.declared.request.Request.{Request}
 use Rattle.pf_session.specs.declared.server.asking.Asker.{Asker}
-use Rattle.pf_session.specs.{LineEngine.Chains.Chain, Telling.{IsToldBy, Says}, Server.Askings.{AsksBy, AsksOrShows, AsksLines, IsHeard, IsInquired, denied_text, is_denied}, Server.AskingRuns.{AsksInSession, IsSameAsker, TakesInAsking, place}, Server.Inquiries.is_inquiry, Server.Sittings.{Sitting, next_line}}
+use Rattle.pf_session.specs.{LineEngine.Chains.Chain, Telling.{IsReplyTo, Says}, Server.Askings.{AsksBy, AsksOrShows, AsksLines, IsHeard, IsInquired, denied_text, is_denied}, Server.AskingRuns.{AsksInSession, IsSameAsker, TakesInAsking, place}, Server.Inquiries.is_inquiry, Server.Sittings.{Sitting, next_line}}
 
 -- ---- nothing is changed
 
 -- what is asked is due an answer, which shows nothing, or want of memory stands in for it
-answer-shows : (h : CurrentOpening) (c : Command) (failed : Bool) (a : Told) → ((n : ℕ) → shown_by_answer a n ≡ n) → due h c ≡ Answer a
+answer-shows : (h : CurrentOpening) (c : Command) (failed : Bool) (a : Reported) → ((n : ℕ) → shown_by_answer a n ≡ n) → due h c ≡ Answer a
     → (r : Reply) → LegalReply h c r failed → shown_by r h.shown ≡ h.shown
 answer-shows h c failed a none is r (inl legal) = ap (λ (x : Reply). shown_by x h.shown) (legal ∙ is) ∙ none h.shown
 answer-shows h c failed a none is r (inr stands) = by r (subst (λ (x : Reply). StandsIn h c failed x r) is stands) where
@@ -38,7 +38,7 @@ harmless (History Publish) is = absurd (cc (is))
 inquiry-shows : (h : CurrentOpening) (c : Command) (r : Reply) (failed : Bool) → IsHarmless c → LegalReply h c r failed → shown_by r h.shown ≡ h.shown
 inquiry-shows h c r failed (question q) legal =
     answer-shows h (Ask q) failed (answer_of (durable_of h) q) (shows-nothing h.tickets (durable_of h) (Ask q) (answer_of (durable_of h) q) refl) refl r legal
-inquiry-shows h c r failed log legal = answer-shows h (History Log) failed (told_of_history h Log) (λ n. refl) refl r legal
+inquiry-shows h c r failed log legal = answer-shows h (History Log) failed (history_answer h Log) (λ n. refl) refl r legal
 
 same-tickets : (h : CurrentOpening) (c : Command) (r : Reply) (t : Upshot) → IsHarmless c → (heard h (call c r) t).tickets ≡ h.tickets
 same-tickets h c (Answer a) t (question q) = refl
@@ -101,7 +101,7 @@ module _ (base : PlainDurable) (setting : Setting) (c : Command) (old new : Sitt
 
   -- what is no question is denied
   pub asks-denied : is_inquiry c ≡ false → new ≡ old → text ≡ denied_text → AsksBy None (is_inquiry c) base setting c old new text
-  asks-denied is same told = by-kind false is (record { same = same; told = told })
+  asks-denied is same reported = by-kind false is (record { same = same; reported = reported })
 
 -- ---- by its lines
 
@@ -126,11 +126,11 @@ module _ {A J G : Type 0} (base : PlainDurable) (setting : Setting) where
   says-place (Err e) a b text says = (stays-same a a b says.0 (same-still a), (stays-place a b says.0, says.1))
 
   -- the reply to a line, as far as the session moves on by it
-  told-place : (line : List ℕ) (a b : Asker A J G) (text : List ℕ) → IsToldBy (AsksInSession base setting) line a b text
-      → IsSameAsker a b × IsToldBy (AsksOrShows base setting) line (place a) (place b) text
-  told-place line a b text (inl (meant, means, says)) = let (same, ran) = says-place meant a b text says in (same, inl (meant, means, ran))
-  told-place line a b text (inr none) =
-      (stays-same a a b none.same (same-still a), inr (record { speaks = none.speaks; same = stays-place a b none.same; told = none.told }))
+  reply-place : (line : List ℕ) (a b : Asker A J G) (text : List ℕ) → IsReplyTo (AsksInSession base setting) line a b text
+      → IsSameAsker a b × IsReplyTo (AsksOrShows base setting) line (place a) (place b) text
+  reply-place line a b text (inl (meant, means, says)) = let (same, ran) = says-place meant a b text says in (same, inl (meant, means, ran))
+  reply-place line a b text (inr none) =
+      (stays-same a a b none.same (same-still a), inr (record { speaks = none.speaks; same = stays-place a b none.same; reported = none.reported }))
 
 module _ {A J G : Type 0} (passed : G → ℕ → ℕ → Type 0) (base : PlainDurable) (setting : Setting) where
   -- the line that comes next, which has this number, is denied
@@ -140,22 +140,22 @@ module _ {A J G : Type 0} (passed : G → ℕ → ℕ → Type 0) (base : PlainD
     same = record { seer = refl; last = refl; number = refl; gate = refl };
     takes = record {
       gate = subst (λ (k : ℕ). passed old.gate.now old.number k) is gate;
-      told = subst (λ (d : Bool). IsHeard d base setting line (record (place old) { line = next_line old.line }) (record (place old) { line = n }) denied_text) (sym denied)
-          (record { same = ap (λ (k : ℕ). record (place old) { line = k }) is; told = refl });
+      reported = subst (λ (d : Bool). IsHeard d base setting line (record (place old) { line = next_line old.line }) (record (place old) { line = n }) denied_text) (sym denied)
+          (record { same = ap (λ (k : ℕ). record (place old) { line = k }) is; reported = refl });
     };
   }
 
   -- or it is answered
   pub answered-one : (old new : Asker A J G) (line text : List ℕ) (n : ℕ) → n ≡ next_line old.line → passed old.gate.now old.number n
-      → is_denied line ≡ false → IsToldBy (AsksInSession base setting) line (record old { line = n }) new text → TakesInAsking passed base setting line old new text
-  answered-one old new line text n is gate allowed told =
-      let (same, by) = told-place base setting line (record old { line = n }) new text told in
+      → is_denied line ≡ false → IsReplyTo (AsksInSession base setting) line (record old { line = n }) new text → TakesInAsking passed base setting line old new text
+  answered-one old new line text n is gate allowed reported =
+      let (same, by) = reply-place base setting line (record old { line = n }) new text reported in
       record {
         same = record { seer = same.seer; last = same.last; number = same.number; gate = same.gate };
         takes = record {
           gate = subst (λ (k : ℕ). passed old.gate.now old.number k) is gate;
-          told = subst (λ (d : Bool). IsHeard d base setting line (record (place old) { line = next_line old.line }) (place new) text) (sym allowed)
-              (subst (λ (k : ℕ). IsToldBy (AsksOrShows base setting) line (record (place old) { line = k }) (place new) text) is by);
+          reported = subst (λ (d : Bool). IsHeard d base setting line (record (place old) { line = next_line old.line }) (place new) text) (sym allowed)
+              (subst (λ (k : ℕ). IsReplyTo (AsksOrShows base setting) line (record (place old) { line = k }) (place new) text) is by);
         };
       }
 
@@ -163,6 +163,6 @@ module _ {A J G : Type 0} (passed : G → ℕ → ℕ → Type 0) (base : PlainD
   pub asked-all : (start a b : Asker A J G) (lines : List (List ℕ)) (text : List ℕ) → IsSameAsker start a → Chain (TakesInAsking passed base setting) a b lines text
       → AsksLines (passed start.gate.now start.number) base setting (place a) (place b) lines text × IsSameAsker start b
   asked-all start a b [] text same (is, none) = ((stays-place a b is, none), stays-same start a b is same)
-  asked-all start a b (line ∷ lines) text same (mid, first, rest, step, more, told) =
+  asked-all start a b (line ∷ lines) text same (mid, first, rest, step, more, reported) =
       let (others, still) = asked-all start mid b lines rest (same-then same step.same) more in
-      ((place mid, first, rest, rw (sym same.gate, sym same.number) step.takes, others, told), still)
+      ((place mid, first, rest, rw (sym same.gate, sym same.number) step.takes, others, reported), still)

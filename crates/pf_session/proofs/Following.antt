@@ -107,9 +107,9 @@ module _ {S : Type 0} (receipt : S → Option PlainReceipt) (Serves : S → S �
   stream-within : (result : Result (Unit {0}) EngineFault) (unread still_unread : Option (List ℕ)) (a b : S) (h i : Option (List ℕ)) → streams.IsStream Serves result unread still_unread a b h i
       → IsWithin (receipt a) (receipt b) × streams.IsStream (Within (receipt b)) result unread still_unread a b h i
   stream-within result unread still_unread a b h i s =
-      let (behind, ends) = end-within result s.left s.bytes still_unread s.mid b s.shown i s.ends in
-      let (front, answered) = answered-within receipt Serves Within both (receipt b) behind s.answered in (
-        within-then (receipt a) (receipt s.mid) (receipt b) front behind,
+      let (following, ends) = end-within result s.left s.bytes still_unread s.mid b s.shown i s.ends in
+      let (front, answered) = answered-within receipt Serves Within both (receipt b) following s.answered in (
+        within-then (receipt a) (receipt s.mid) (receipt b) front following,
         record { pieces = s.pieces; left = s.left; are = s.are; mid = s.mid; shown = s.shown; answered = answered; bytes = s.bytes; read = s.read; ends = ends },
       )
 
@@ -162,11 +162,11 @@ module _ (base : PlainDurable) (setting : Setting) where
   still-rises a b same = within-same a.last b.last (ap (λ (s : Sitting). s.last) same)
 
   line-rises : (passed : ℕ → Type 0) (line : List ℕ) (a b : Sitting) (text : List ℕ) → TakesLine passed base setting line a b text → IsWithin a.last b.last
-  line-rises passed line a b text takes = line-moves base setting (λ (s t : Sitting). IsWithin s.last t.last) still-rises runs-rise line (at_next_line a) b text takes.told
+  line-rises passed line a b text takes = line-moves base setting (λ (s t : Sitting). IsWithin s.last t.last) still-rises runs-rise line (at_next_line a) b text takes.reported
 
   part-rises : (part : Part) (a b : Option PlainReceipt) (text : List ℕ) → TakesPart base setting part a b text → IsWithin a b
   part-rises (Ok ms) a b text run = subst (λ (s : Option PlainReceipt). IsWithin a s) (sym run.kept) (group-within base setting (asked ms) a run.result run.answered).0
-  part-rises (Err f) a b text (same, told) = within-same a b same
+  part-rises (Err f) a b text (same, reported) = within-same a b same
 
   part-within : (last : Option PlainReceipt) (part : Part) (a b : Option PlainReceipt) (text : List ℕ) → TakesPart base setting part a b text → IsWithin b last → TakesPartWithin last base setting part a b text
   part-within last (Ok ms) a b text run end =
@@ -179,7 +179,7 @@ module _ (base : PlainDurable) (setting : Setting) where
 
   lines-within : (passed : ℕ → Type 0) (last : Option PlainReceipt) (a b : Sitting) (lines : List (List ℕ)) (text : List ℕ) → IsWithin b.last last → Chain (TakesLine passed base setting) a b lines text
       → IsWithin a.last b.last × ChainWithin last (λ (s : Sitting). s.last) (TakesLine passed base setting) a b lines text
-  lines-within passed = chain-both (λ (s : Sitting). s.last) (TakesLine passed base setting) (λ l line a b told. TakesLine passed base setting line a b told × IsWithin b.last l) (line-rises passed) (λ l line a b told takes end. (takes, end))
+  lines-within passed = chain-both (λ (s : Sitting). s.last) (TakesLine passed base setting) (λ l line a b reported. TakesLine passed base setting line a b reported × IsWithin b.last l) (line-rises passed) (λ l line a b reported takes end. (takes, end))
 
 pub sits-within : (passed : ℕ → Type 0) → SitsWithin passed
 sits-within passed base setting result unread still_unread old new held held' s =

@@ -47,19 +47,19 @@ module _ {S L : Type 0} (Step : PlainDurable → Setting → S → S → List L 
     along-here : (a left : S) (c : Within S) (xs ys : List L) (s t : List ℕ) → Step base setting a left xs s → TakesAlong Step Next (within base setting left) c ys t
         → TakesAlong Step Next (within base setting a) c (xs ++ ys) (s ++ t)
     along-here a left c xs ys s t step ([], (same, kept, more)) = ([], (same, kept, join a left c.here xs ys s t step more))
-    along-here a left c xs ys s t step (begun ∷ others, (mid, first, rest, said, told, more, next, goes, items, texts)) = (
+    along-here a left c xs ys s t step (begun ∷ others, (mid, first, rest, said, reported, more, next, goes, items, texts)) = (
       begun ∷ others,
       (
         mid,
         xs ++ first,
         rest,
         s ++ said,
-        told,
+        reported,
         join a left mid xs first s said step more,
         next,
         goes,
         ap (λ (l : List L). xs ++ l) items ∙ sym (append_assoc xs first rest),
-        ap (λ (l : List ℕ). s ++ l) texts ∙ sym (append_assoc s said told),
+        ap (λ (l : List ℕ). s ++ l) texts ∙ sym (append_assoc s said reported),
       ),
     )
 
@@ -106,8 +106,8 @@ ended-append : (xs ys : List (List ℕ)) → ended (xs ++ ys) ≡ ended xs ++ en
 ended-append xs ys = flat_map-append (λ (line : List ℕ). line ++ newline ∷ []) xs ys
 
 -- whole lines before a text that is cut
-cut-behind : (xs : List (List ℕ)) (text : List ℕ) (ys : List (List ℕ)) (rest : List ℕ) → All IsLine xs → IsCut text ys rest → IsCut (ended xs ++ text) (xs ++ ys) rest
-cut-behind xs text ys rest whole cut = record {
+cut-onto : (xs : List (List ℕ)) (text : List ℕ) (ys : List (List ℕ)) (rest : List ℕ) → All IsLine xs → IsCut text ys rest → IsCut (ended xs ++ text) (xs ++ ys) rest
+cut-onto xs text ys rest whole cut = record {
   joined = ap (λ (l : List ℕ). l ++ rest) (ended-append xs ys) ∙ append_assoc (ended xs) (ended ys) rest ∙ ap (λ (l : List ℕ). ended xs ++ l) cut.joined;
   whole = All-append IsLine xs ys whole cut.whole;
   unended = cut.unended;
@@ -130,7 +130,7 @@ module _ {A : Type 0} (Serves : A → A → List (List ℕ) → List ℕ → Typ
   ends-with result why input text unread whole is e = record {
     lines = xs ++ e.lines;
     rest = e.rest;
-    cut = rw is (cut-behind xs input e.lines e.rest whole e.cut);
+    cut = rw is (cut-onto xs input e.lines e.rest whole e.cut);
     ends = ends-along result why input text e.lines e.rest unread e.ends;
   }
 
@@ -141,7 +141,7 @@ module _ {A : Type 0} (Serves : A → A → List (List ℕ) → List ℕ → Typ
     so_far = record {
       lines = xs ++ s.so_far.lines;
       rest = s.so_far.rest;
-      cut = cut-behind xs s.before s.so_far.lines s.so_far.rest whole s.so_far.cut;
+      cut = cut-onto xs s.before s.so_far.lines s.so_far.rest whole s.so_far.cut;
       kept_is = s.so_far.kept_is;
       answered = answered-before s.so_far.lines s.so_far.answered;
     };
@@ -158,9 +158,9 @@ module _ {A B : Type 0} (Before : B → B → List (List ℕ) → List ℕ → T
     {old begun new : A} {held' : Option (List ℕ)}
     (answered-before : (ys : List (List ℕ)) → Answered Serves ys begun new shown held' → Answered Serves (p.leaves.so_far.lines ++ ys) old new held held')
     (cut-before : (ys : List (List ℕ)) → CutOff Serves ys begun new shown held' → CutOff Serves (p.leaves.so_far.lines ++ ys) old new held held') where
-  part-behind : (result : Result LeftOff EngineFault) (intake : PlainIntake) (still_unread : Option (List ℕ))
+  part-onto : (result : Result LeftOff EngineFault) (intake : PlainIntake) (still_unread : Option (List ℕ))
       → ((line : List ℕ) → HasBegun between line → IsPart Serves result (line ++ between.ahead) intake mid_unread still_unread begun new shown held') → IsPart Serves result text intake unread still_unread old new held held'
-  part-behind result intake still_unread others =
+  part-onto result intake still_unread others =
       let s = p.leaves.so_far in
       let q = others s.rest (s.cut.unended, s.kept_is) in
       let xs = ended s.lines in
@@ -181,13 +181,13 @@ module _ (Lines : PlainDurable → Setting → Sitting → Sitting → List (Lis
   pub goes-on-elsewhere : GoesOnElsewhere Lines
   goes-on-elsewhere base setting result text between intake unread mid_unread still_unread old left begun new held shown held' p next others =
       let first = p.leaves.so_far.answered in
-      part-behind (Lines base setting) (TakesAlong Lines Resumes) p (λ ys q. answered-along Lines Resumes base setting first next q) (λ ys q. cut-along Lines Resumes base setting first next q) result intake still_unread others
+      part-onto (Lines base setting) (TakesAlong Lines Resumes) p (λ ys q. answered-along Lines Resumes base setting first next q) (λ ys q. cut-along Lines Resumes base setting first next q) result intake still_unread others
 
   -- one part behind the other in one opening
   pub goes-on-here : ((base : PlainDurable) (setting : Setting) (a b c : Sitting) (xs ys : List (List ℕ)) (s t : List ℕ) → Lines base setting a b xs s → Lines base setting b c ys t → Lines base setting a c (xs ++ ys) (s ++ t)) → GoesOnHere Lines
   goes-on-here then base setting result text between intake unread mid_unread still_unread old left new held shown held' p others =
       let first = p.leaves.so_far.answered in
-      part-behind (Lines base setting) (TakesAlong Lines Resumes) p (λ ys q. answered-here Lines Resumes base setting (then base setting) first q) (λ ys q. cut-here Lines Resumes base setting (then base setting) first q) result intake still_unread others
+      part-onto (Lines base setting) (TakesAlong Lines Resumes) p (λ ys q. answered-here Lines Resumes base setting (then base setting) first q) (λ ys q. cut-here Lines Resumes base setting (then base setting) first q) result intake still_unread others
 
   pub is-whole : IsWhole Lines
   is-whole intake unread still_unread old new held held' p =

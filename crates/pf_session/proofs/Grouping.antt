@@ -15,25 +15,25 @@ asked-long : (commands : List Command) (ms : List Message) → commands ≡ aske
 asked-long commands ms is = sym (length-map {B = Command} ms (λ (m : Message). States (Peer m))) ∙ ap length (sym is)
 
 -- the messages of two lists of commands
-record AreAsked (front behind : List Command) (ms : List Message) : Type 0 where
+record AreAsked (front following : List Command) (ms : List Message) : Type 0 where
   pub first : List Message
   pub rest : List Message
   pub split : ms ≡ first ++ rest
   pub front_is : front ≡ asked first
-  pub behind_is : behind ≡ asked rest
+  pub following_is : following ≡ asked rest
 
-asked-split : (front behind : List Command) (ms : List Message) → front ++ behind ≡ asked ms → AreAsked front behind ms
-asked-split [] behind ms is = record { first = []; rest = ms; split = refl; front_is = refl; behind_is = is }
-asked-split (c ∷ front) behind [] is = absurd (cc (is))
-asked-split (c ∷ front) behind (m ∷ ms) is =
-    let more : AreAsked front behind ms = asked-split front behind ms (cc (is)) in
+asked-split : (front following : List Command) (ms : List Message) → front ++ following ≡ asked ms → AreAsked front following ms
+asked-split [] following ms is = record { first = []; rest = ms; split = refl; front_is = refl; following_is = is }
+asked-split (c ∷ front) following [] is = absurd (cc (is))
+asked-split (c ∷ front) following (m ∷ ms) is =
+    let more : AreAsked front following ms = asked-split front following ms (cc (is)) in
     let one : c ≡ States (Peer m) = cc (is) in
     record {
       first = m ∷ more.first;
       rest = more.rest;
       split = ap (λ (l : List Message). m ∷ l) more.split;
       front_is = cc (one, more.front_is);
-      behind_is = more.behind_is;
+      following_is = more.following_is;
     }
 
 -- one text for each
@@ -92,14 +92,14 @@ pub record IsNext (left group rest : List Command) : Type 0 where
 -- with more messages behind it, it has 64
 one-whole : (left group rest : List Command) (first others : List Message) → IsNext left group rest → group ≡ asked first → rest ≡ asked others → (groups : List (List Message)) → AreGroups groups → messages_of groups ≡ others
     → AreGroups (first ∷ groups)
-one-whole left group rest first others next front behind [] are of =
+one-whole left group rest first others next front following [] are of =
     let long = asked-long group first front in
     let cut = next.size in
     let some = next.some in (omega (arith, long, cut, some), omega (arith, long, cut))
-one-whole left group rest first others next front behind (g ∷ groups) are of =
+one-whole left group rest first others next front following (g ∷ groups) are of =
     let more = first-some g groups are in
     let long = asked-long group first front in
-    let rests = asked-long rest others behind in
+    let rests = asked-long rest others following in
     let all : length g + length (messages_of groups) ≡ length others = sym (length-append g (messages_of groups)) ∙ ap length of in
     let lefts : length left ≡ length group + length rest = ap length next.split ∙ length-append group rest in
     let cut = next.size in (omega (arith, more, long, rests, all, lefts, cut), are)
@@ -126,7 +126,7 @@ module _ (base : PlainDurable) (setting : Setting) where
         few = omega arith;
         result = result;
         answered = subst (λ (l : List Command). IsGroupAnswered base setting l result old) is answered;
-        told = refl;
+        reported = refl;
         kept = kept;
       }
 
@@ -151,7 +151,7 @@ module _ (base : PlainDurable) (setting : Setting) where
 
     it-is-whole : (parts : AreAsked group rest so_far.others) (groups : List (List Message)) → AreGroups groups → messages_of groups ≡ parts.rest → AreGroups (so_far.done ++ parts.first ∷ groups)
     it-is-whole parts =
-        still-whole so_far.done parts.first parts.rest (λ groups are of. so_far.whole groups are (of ∙ sym parts.split)) (one-whole left group rest parts.first parts.rest next parts.front_is parts.behind_is)
+        still-whole so_far.done parts.first parts.rest (λ groups are of. so_far.whole groups are (of ∙ sym parts.split)) (one-whole left group rest parts.first parts.rest next parts.front_is parts.following_is)
 
     pub one-more : RunsAsked (Appends i j) group b c → IsUnderWay ms rest a c h j
     one-more run =
@@ -162,7 +162,7 @@ module _ (base : PlainDurable) (setting : Setting) where
           others = parts.rest;
           split = so_far.split ∙ ap (λ (l : List Message). messages_of so_far.done ++ l) parts.split ∙ sym (append_assoc (messages_of so_far.done) parts.first parts.rest)
               ∙ ap (λ (l : List Message). l ++ parts.rest) (sym (messages-more so_far.done (parts.first ∷ []) ∙ ap (λ (l : List Message). messages_of so_far.done ++ l) (append-nil parts.first)));
-          left_is = parts.behind_is;
+          left_is = parts.following_is;
           whole = λ groups are of. rw (append_assoc so_far.done (parts.first ∷ []) groups) (it-is-whole parts groups are of);
           ran = rw (parts-more so_far.done (parts.first ∷ [])) (answered-then base setting so_far.ran (part-answered base setting (Ok parts.first) text ran written));
         }
@@ -171,13 +171,13 @@ module _ (base : PlainDurable) (setting : Setting) where
     one-cut e run =
         let parts : AreAsked group rest so_far.others = its in
         let (text, ran, front) = run parts.first parts.front_is in
-        let behind : AreGrouped parts.rest = grouped (length parts.rest) parts.rest (omega arith) in
+        let following : AreGrouped parts.rest = grouped (length parts.rest) parts.rest (omega arith) in
         record {
-          groups = so_far.done ++ parts.first ∷ behind.groups;
-          are = it-is-whole parts behind.groups behind.are behind.of;
-          of = messages-more so_far.done (parts.first ∷ behind.groups) ∙ ap (λ (l : List Message). messages_of so_far.done ++ (parts.first ++ l)) behind.of
+          groups = so_far.done ++ parts.first ∷ following.groups;
+          are = it-is-whole parts following.groups following.are following.of;
+          of = messages-more so_far.done (parts.first ∷ following.groups) ∙ ap (λ (l : List Message). messages_of so_far.done ++ (parts.first ++ l)) following.of
               ∙ ap (λ (l : List Message). messages_of so_far.done ++ l) (sym parts.split) ∙ sym so_far.split;
-          answers = rw (parts-more so_far.done (parts.first ∷ behind.groups)) (part-cut base setting (Ok parts.first) (map Ok behind.groups) c text so_far.ran ran front);
+          answers = rw (parts-more so_far.done (parts.first ∷ following.groups)) (part-cut base setting (Ok parts.first) (map Ok following.groups) c text so_far.ran ran front);
         }
 
   -- no command is left

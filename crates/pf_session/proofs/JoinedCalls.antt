@@ -9,17 +9,17 @@ use Rattle.pf_session.specs.Server.Sittings.{IsAnsweredInTurn, IsCommandRun, Kee
 module _ (base : PlainDurable) (setting : Setting) (c : Command) where
   in-turn : (last : Option PlainReceipt) (a : Receipted) → IsAnsweredTogether base setting (record { command = c; last = last }) (Ok a) → IsAnsweredInTurn base setting c a.0 a.1 last
   in-turn last a (inl alone) = inl alone
-  in-turn last a (inr at) = inr (record { earlier = at.earlier; later = at.later; told = at.told; others = at.others; handed = last; group = at.group; in_turn = at.in_turn; place = at.place; last_is = inl refl })
+  in-turn last a (inr at) = inr (record { earlier = at.earlier; later = at.later; reported = at.reported; others = at.others; handed = last; group = at.group; in_turn = at.in_turn; place = at.place; last_is = inl refl })
 
   -- the session handed its receipt in, and keeps the one that it got
-  pub joined-told : (old new : Sitting) (a : Receipted) (left : Option PlainReceipt) → IsAnsweredTogether base setting (record { command = c; last = old.last }) (Ok a)
+  pub joined-replied : (old new : Sitting) (a : Receipted) (left : Option PlainReceipt) → IsAnsweredTogether base setting (record { command = c; last = old.last }) (Ok a)
       → Keeps a.1 (record old { last = left }) new → RunsBy None base setting c old new (reply_text a.0)
-  joined-told old new a left answered keeps =
+  joined-replied old new a left answered keeps =
       let run : IsCommandRun base setting c old new (reply_text a.0) = record {
         reply = a.0;
         slip = a.1;
         answered = in-turn old.last a answered;
-        told = refl;
+        reported = refl;
         keeps = record { kept = keeps.kept; learnt = keeps.learnt; still = keeps.still };
       } in
       inl run

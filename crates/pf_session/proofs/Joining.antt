@@ -3,21 +3,21 @@ use Rattle.std.proofs.Common.{◌≡◌, ◌∙◌, ℕ, List, [], ◌∷◌, �
 use Rattle.std.specs.Prelude.{flat_map}
 use Rattle.pf_state.specs.declared.{peer.fault.PeerFault.PeerFault, peer.message.Message.Message}
 use Rattle.pf_state.specs.Peer.{Outcomes.{TakenAs, ending}, Streams.{Ending, Unfinished, Faulty, IsUnfinished, Reads}}
-use Rattle.pf_session.specs.{Laws.Streams.AreOneStream, Server.Streams.{ArePieces, Piece, messages_of, told}}
+use Rattle.pf_session.specs.{Laws.Streams.AreOneStream, Server.Streams.{ArePieces, Piece, messages_of, fault_parts}}
 
 reads-more : (bytes piece : List ℕ) (ms others : List Message) (rest : List ℕ) (e : Ending) → Reads bytes ms (Unfinished rest) → Reads (rest ++ piece) others e → Reads (bytes ++ piece) (ms ++ others) e
 reads-more bytes piece [] others rest e (is, unfinished) more = subst (λ (l : List ℕ). Reads (l ++ piece) others e) (sym is) more
-reads-more bytes piece (m ∷ ms) others rest e (front, behind, split, message, reads) more =
-    (front, behind ++ piece, ap (λ (l : List ℕ). l ++ piece) split ∙ append_assoc front behind piece, message, reads-more behind piece ms others rest e reads more)
+reads-more bytes piece (m ∷ ms) others rest e (front, following, split, message, reads) more =
+    (front, following ++ piece, ap (λ (l : List ℕ). l ++ piece) split ∙ append_assoc front following piece, message, reads-more following piece ms others rest e reads more)
 
 rest-unfinished : (bytes rest : List ℕ) (ms : List Message) → Reads bytes ms (Unfinished rest) → IsUnfinished rest
 rest-unfinished bytes rest [] (is, unfinished) = subst IsUnfinished is unfinished
-rest-unfinished bytes rest (m ∷ ms) (front, behind, split, message, reads) = rest-unfinished behind rest ms reads
+rest-unfinished bytes rest (m ∷ ms) (front, following, split, message, reads) = rest-unfinished following rest ms reads
 
 -- what pieces say together, behind these bytes of a message
 record AreJoined (rest : List ℕ) (pieces : List Piece) (left : Option (List ℕ)) : Type 0 where
   pub fault : Option PeerFault
-  pub one : flat_map (λ (p : Piece). told p.fault) pieces ≡ told fault
+  pub one : flat_map (λ (p : Piece). fault_parts p.fault) pieces ≡ fault_parts fault
   pub taken : TakenAs (Some rest) (flat_map (λ (p : Piece). p.bytes) pieces) left (flat_map (λ (p : Piece). messages_of p.groups) pieces) fault
 
 none-joined : (rest : List ℕ) (left : Option (List ℕ)) → IsUnfinished rest → left ≡ Some rest → AreJoined rest [] left
@@ -29,7 +29,7 @@ fault-joined : (rest : List ℕ) (p : Piece) (pieces : List Piece) (left : Optio
     → AreJoined rest (p ∷ pieces) left
 fault-joined rest p [] left f is reads none = record {
   fault = Some f;
-  one = append-nil (told p.fault) ∙ ap told is;
+  one = append-nil (fault_parts p.fault) ∙ ap fault_parts is;
   taken = ([], rw (append-nil p.bytes, append-nil (messages_of p.groups)) reads, none);
 }
 fault-joined rest p (q ∷ pieces) left f is reads (mid, next, more) = absurd next.taken
@@ -42,7 +42,7 @@ on-joined rest p pieces left next is reads more =
     let others : List Message = flat_map (λ (q : Piece). messages_of q.groups) pieces in
     record {
       fault = more.fault;
-      one = ap (λ (l : Option PeerFault). told l ++ flat_map (λ (q : Piece). told q.fault) pieces) is ∙ more.one;
+      one = ap (λ (l : Option PeerFault). fault_parts l ++ flat_map (λ (q : Piece). fault_parts q.fault) pieces) is ∙ more.one;
       taken = (
         end,
         subst (λ (l : List ℕ). Reads l (messages_of p.groups ++ others) (ending more.fault end)) (append_assoc rest p.bytes bytes)

@@ -24,7 +24,7 @@ module _ (base : PlainDurable) (setting : Setting) where
   runs-learn None c a b text (inr faulted) = same-learnt a b faulted.same
 
   line-learns : (passed : ℕ → Type 0) (line : List ℕ) (a b : Sitting) (text : List ℕ) → TakesLine passed base setting line a b text → learns-on a b
-  line-learns passed line a b text takes = line-moves base setting learns-on same-learnt runs-learn line (at_next_line a) b text takes.told
+  line-learns passed line a b text takes = line-moves base setting learns-on same-learnt runs-learn line (at_next_line a) b text takes.reported
 
   lines-learn : (passed : ℕ → Type 0) (a b : Sitting) (lines : List (List ℕ)) (text : List ℕ) → TakesLines passed base setting a b lines text → learns-on a b
   lines-learn passed = chain-moves (TakesLine passed base setting) learns-on same-learnt (λ a b c p q. prefix_trans a.seer.learnt b.seer.learnt c.seer.learnt p q) (line-learns passed)
@@ -41,7 +41,7 @@ learnt-by base setting c r slip last learnt seq outcome is knows (inl answered) 
     let number : seq ≡ length slip.front = applied-is base setting c slip last seq outcome (subst (λ (x : Reply). IsAnswered base setting c x slip last) is answered) in
     (begins, omega (arith, number, prefix_length slip.front learnt begins))
 learnt-by base setting c r slip last learnt seq outcome is knows (inr at) =
-    let log = log_of (heard_group at.group.before (at.earlier ++ c ∷ at.later) (replies_of (Ok (at.told ++ (r, slip) ∷ at.others))) at.group.came) in
+    let log = log_of (heard_group at.group.before (at.earlier ++ c ∷ at.later) (replies_of (Ok (at.reported ++ (r, slip) ∷ at.others))) at.group.came) in
     let begins : IsPrefix slip.front learnt = prefix_trans slip.front log learnt (place-shown base setting c r slip last at) (knows log (place-token base setting c r slip last at seq outcome is)) in
     let number : IsNumberOf (Applied seq outcome) slip = subst (λ (x : Reply). IsNumberOf x slip) is (place-number base setting c r slip last at) in
     (begins, omega (arith, number.0, prefix_length slip.front learnt begins))

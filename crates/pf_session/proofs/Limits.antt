@@ -4,8 +4,8 @@ use Rattle.pf_book.specs.Books.{PlainBook, world_book}
 use Rattle.pf_line.specs.declared.{request.Request.Request, request.Request.TheVariants.{Run, ShowStatus, ShowAnchors}}
 use Rattle.pf_session.specs.declared.line_engine.fault.EngineFault.{EngineFault}
 use Rattle.pf_session.specs.declared.line_engine.fault.EngineFault.TheVariants as fault
-use Rattle.pf_session.specs.{LineEngine.Sessions.{Answered, CutOff, SessionEnds}, Serving.{CallsOrShows, Serves}, Telling.IsToldBy}
-use Rattle.pf_session.proofs.{Chains.chain-moves, LineReplies.told-moves}
+use Rattle.pf_session.specs.{LineEngine.Sessions.{Answered, CutOff, SessionEnds}, Serving.{CallsOrShows, Serves}, Telling.IsReplyTo}
+use Rattle.pf_session.proofs.{Chains.chain-moves, LineReplies.reply-moves}
 
 module _ {D : Type 0} (faults : D → ℕ) where
   abbrev keeps : PlainBook D → PlainBook D → Type 0
@@ -19,11 +19,11 @@ module _ {D : Type 0} (faults : D → ℕ) where
   request-keeps ShowStatus a b text shows = same-keeps a b shows.same
   request-keeps (ShowAnchors path) a b text shows = same-keeps a b shows.same
 
-  line-keeps : (line : List ℕ) (a b : PlainBook D) (text : List ℕ) → IsToldBy (CallsOrShows faults) line a b text → keeps a b
-  line-keeps = told-moves (CallsOrShows faults) keeps same-keeps request-keeps
+  line-keeps : (line : List ℕ) (a b : PlainBook D) (text : List ℕ) → IsReplyTo (CallsOrShows faults) line a b text → keeps a b
+  line-keeps = reply-moves (CallsOrShows faults) keeps same-keeps request-keeps
 
   lines-keep : (a b : PlainBook D) (lines : List (List ℕ)) (text : List ℕ) → Serves faults a b lines text → keeps a b
-  lines-keep = chain-moves (IsToldBy (CallsOrShows faults)) keeps same-keeps (λ a b c p q. q ∙ p) line-keeps
+  lines-keep = chain-moves (IsReplyTo (CallsOrShows faults)) keeps same-keeps (λ a b c p q. q ∙ p) line-keeps
 
   answered-keeps : {lines : List (List ℕ)} {a b : PlainBook D} {held held' : Option (List ℕ)} → Answered (Serves faults) lines a b held held' → keeps a b
   answered-keeps {lines} {a} {b} answered = lines-keep a b lines answered.text answered.served

@@ -145,9 +145,9 @@ pub range-taken : (xs : List ℕ) (from to n : ℕ) → from + n ≤ to → take
 range-taken xs from to n low =
     let ys = slice_range xs from to in
     let count : n + (to - (from + n)) ≡ to - from = omega (arith, low) in
-    let behind : drop n ys ≡ slice_range xs (from + n) to =
+    let following : drop n ys ≡ slice_range xs (from + n) to =
     ap (λ (k : ℕ). drop n (take k (drop from xs))) (sym count) ∙ drop-take n (to - (from + n)) (drop from xs) ∙ ap (λ (l : List ℕ). take (to - (from + n)) l) (drop-drop n from xs) in
-    ap (λ (l : List ℕ). take n ys ++ l) (sym behind) ∙ take-append-drop n ys
+    ap (λ (l : List ℕ). take n ys ++ l) (sym following) ∙ take-append-drop n ys
 
 -- a range from the start on
 pub range-all : (xs : List ℕ) (n : ℕ) → slice_range xs 0 n ≡ take n xs

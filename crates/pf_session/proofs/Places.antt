@@ -22,9 +22,9 @@ as-many h shown changes [] answers are = ap length are
 as-many h shown changes (c ∷ commands) [] are = absurd are
 as-many h shown changes (c ∷ commands) (a ∷ answers) are = let more = as-many h shown (changes_with h changes c) commands answers are.1 in omega (arith, more)
 
-behind-all : {A : Type 0} (P : A → Type 0) (front : List A) (x : A) (xs : List A) → All P (front ++ x ∷ xs) → P x
-behind-all P [] x xs all = All-head P x xs all
-behind-all P (y ∷ front) x xs all = behind-all P front x xs (All-tail P y (front ++ x ∷ xs) all)
+all-middle : {A : Type 0} (P : A → Type 0) (front : List A) (x : A) (xs : List A) → All P (front ++ x ∷ xs) → P x
+all-middle P [] x xs all = All-head P x xs all
+all-middle P (y ∷ front) x xs all = all-middle P front x xs (All-tail P y (front ++ x ∷ xs) all)
 
 -- what a receipt says is so after these changes
 pub record IsSoBy (h : CurrentOpening) (changes : List PlainChange) (slip : PlainReceipt) : Type 0 where
@@ -51,13 +51,13 @@ module _ (h : CurrentOpening) (none : h.pending ≡ []) where
       record { begins = subst (λ (l : List PlainChange). IsPrefix slip.front l) front (prefix_self slip.front); acked = omega (arith, one.acked, ap length front) }
 
   -- so is the last receipt behind these commands
-  pub last-so : (changes shown : List PlainChange) (earlier later : List Command) (told others : List Receipted) (last : Option PlainReceipt) → length told ≡ length earlier
-      → AreAnswered h shown changes (earlier ++ later) (told ++ others) → ForSome last (λ l. IsSoBy h changes l) → ForSome (last_receipt last (Ok told)) (λ l. IsSoBy h (changes_due h changes earlier) l)
+  pub last-so : (changes shown : List PlainChange) (earlier later : List Command) (reported others : List Receipted) (last : Option PlainReceipt) → length reported ≡ length earlier
+      → AreAnswered h shown changes (earlier ++ later) (reported ++ others) → ForSome last (λ l. IsSoBy h changes l) → ForSome (last_receipt last (Ok reported)) (λ l. IsSoBy h (changes_due h changes earlier) l)
   last-so changes shown [] later [] others last place are so = so
-  last-so changes shown [] later (a ∷ told) others last place are so = absurd (omega (arith, place))
+  last-so changes shown [] later (a ∷ reported) others last place are so = absurd (omega (arith, place))
   last-so changes shown (k ∷ earlier) later [] others last place are so = absurd (omega (arith, place))
-  last-so changes shown (k ∷ earlier) later (a ∷ told) others last place are so =
-      last-so (changes_with h changes k) shown earlier later told others (Some a.1) (omega (arith, place)) are.1
+  last-so changes shown (k ∷ earlier) later (a ∷ reported) others last place are so =
+      last-so (changes_with h changes k) shown earlier later reported others (Some a.1) (omega (arith, place)) are.1
       (λ slip is. let same : a.1 ≡ slip = cc (is) in subst (λ (s : PlainReceipt). IsSoBy h (changes_with h changes k) s) same (own-so changes shown k a.0 a.1 are.0))
 
   -- what is so by some changes is so by more of them
@@ -69,21 +69,21 @@ module _ (h : CurrentOpening) (none : h.pending ≡ []) where
       }
 
   -- so is the receipt that was handed in, or the last one behind these commands
-  pub either-so : (shown : List PlainChange) (earlier later : List Command) (told others : List Receipted) (handed last : Option PlainReceipt) → length told ≡ length earlier
-      → AreAnswered h shown [] (earlier ++ later) (told ++ others) → ForSome handed (λ l. IsSoBy h [] l) → (last ≡ handed) ⊎ (last ≡ last_receipt handed (Ok told))
+  pub either-so : (shown : List PlainChange) (earlier later : List Command) (reported others : List Receipted) (handed last : Option PlainReceipt) → length reported ≡ length earlier
+      → AreAnswered h shown [] (earlier ++ later) (reported ++ others) → ForSome handed (λ l. IsSoBy h [] l) → (last ≡ handed) ⊎ (last ≡ last_receipt handed (Ok reported))
       → ForSome last (λ l. IsSoBy h (changes_due h [] earlier) l)
-  either-so shown earlier later told others handed last place are so (inl is) = λ slip some. so-more [] (changes_due h [] earlier) slip (due-more h [] earlier) (so slip (sym is ∙ some))
-  either-so shown earlier later told others handed last place are so (inr is) =
-      subst (λ (l : Option PlainReceipt). ForSome l (λ s. IsSoBy h (changes_due h [] earlier) s)) (sym is) (last-so [] shown earlier later told others handed place are so)
+  either-so shown earlier later reported others handed last place are so (inl is) = λ slip some. so-more [] (changes_due h [] earlier) slip (due-more h [] earlier) (so slip (sym is ∙ some))
+  either-so shown earlier later reported others handed last place are so (inr is) =
+      subst (λ (l : Option PlainReceipt). ForSome l (λ s. IsSoBy h (changes_due h [] earlier) s)) (sym is) (last-so [] shown earlier later reported others handed place are so)
 
   -- the answer at a place
-  pub at-place : (changes shown : List PlainChange) (earlier later : List Command) (c : Command) (told others : List Receipted) (r : Reply) (slip : PlainReceipt) → length told ≡ length earlier
-      → AreAnswered h shown changes (earlier ++ c ∷ later) (told ++ (r, slip) ∷ others) → IsAnsweredAmid (amid h (changes_due h changes earlier)) c shown r slip
+  pub at-place : (changes shown : List PlainChange) (earlier later : List Command) (c : Command) (reported others : List Receipted) (r : Reply) (slip : PlainReceipt) → length reported ≡ length earlier
+      → AreAnswered h shown changes (earlier ++ c ∷ later) (reported ++ (r, slip) ∷ others) → IsAnsweredAmid (amid h (changes_due h changes earlier)) c shown r slip
   at-place changes shown [] later c [] others r slip place are = are.0
-  at-place changes shown [] later c (a ∷ told) others r slip place are = absurd (omega (arith, place))
+  at-place changes shown [] later c (a ∷ reported) others r slip place are = absurd (omega (arith, place))
   at-place changes shown (k ∷ earlier) later c [] others r slip place are = absurd (omega (arith, place))
-  at-place changes shown (k ∷ earlier) later c (a ∷ told) others r slip place are =
-      at-place (changes_with h changes k) shown earlier later c told others r slip (omega (arith, place)) are.1
+  at-place changes shown (k ∷ earlier) later c (a ∷ reported) others r slip place are =
+      at-place (changes_with h changes k) shown earlier later c reported others r slip (omega (arith, place)) are.1
 
 module _ (base : PlainDurable) (setting : Setting) (commands : List Command) (answers : List Receipted) (last : Option PlainReceipt) (a : IsGroupAnswered base setting commands (Ok answers) last) where
   taken : IsAccepted a.before commands (map (λ (x : Receipted). x.0) answers)
@@ -119,7 +119,7 @@ module _ (base : PlainDurable) (setting : Setting) (c : Command) (r : Reply) (sl
   commands = at.earlier ++ c ∷ at.later
 
   abbrev answers : List Receipted
-  answers = at.told ++ (r, slip) ∷ at.others
+  answers = at.reported ++ (r, slip) ∷ at.others
 
   abbrev h : CurrentOpening
   h = at.group.before
@@ -134,14 +134,14 @@ module _ (base : PlainDurable) (setting : Setting) (c : Command) (r : Reply) (sl
   none = none-pending base setting commands answers at.handed at.group
 
   mine : IsAnsweredAmid (amid h so_far) c log r slip
-  mine = at-place h none [] log at.earlier at.later c at.told at.others r slip at.place at.group.receipts
+  mine = at-place h none [] log at.earlier at.later c at.reported at.others r slip at.place at.group.receipts
 
   front : slip.front ≡ log_of h ++ changes_with h so_far c
   front = front-amid h none so_far log c r slip mine
 
   last_so : ForSome last (λ l. IsSoBy h so_far l)
   last_so =
-      either-so h none log at.earlier (c ∷ at.later) at.told ((r, slip) ∷ at.others) at.handed last at.place at.group.receipts (handed-so base setting commands answers at.handed at.group) at.last_is
+      either-so h none log at.earlier (c ∷ at.later) at.reported ((r, slip) ∷ at.others) at.handed last at.place at.group.receipts (handed-so base setting commands answers at.handed at.group) at.last_is
 
   -- the last receipt's front begins that of the reply
   pub place-begins : (l : PlainReceipt) → last ≡ Some l → IsPrefix l.front slip.front
@@ -165,7 +165,7 @@ module _ (base : PlainDurable) (setting : Setting) (c : Command) (r : Reply) (sl
 
   -- a reply's number is that of its receipt
   pub place-number : IsNumberOf r slip
-  place-number = behind-all (λ (x : Receipted). IsNumberOf x.0 x.1) at.told (r, slip) at.others (numbers base setting commands answers at.handed at.group)
+  place-number = all-middle (λ (x : Receipted). IsNumberOf x.0 x.1) at.reported (r, slip) at.others (numbers base setting commands answers at.handed at.group)
 
   -- the history after the group begins with the front of the receipt
   pub place-shown : IsPrefix slip.front log

@@ -24,11 +24,11 @@ record IsFirst (lines : List (List ℕ)) (c : Command) (left : List Command) : T
   rest : List (List ℕ)
   is : lines ≡ line ∷ rest
   meant : IsMeant line c
-  behind : AreMeant rest left
+  following : AreMeant rest left
 
 first-meant : (lines : List (List ℕ)) (c : Command) (left : List Command) → AreMeant lines (c ∷ left) → IsFirst lines c left
 first-meant [] c left meant = absurd meant
-first-meant (line ∷ lines) c left meant = record { line = line; rest = lines; is = refl; meant = meant.0; behind = meant.1 }
+first-meant (line ∷ lines) c left meant = record { line = line; rest = lines; is = refl; meant = meant.0; following = meant.1 }
 
 pub one-meant : (line : List ℕ) (c : Command) → IsMeant line c → AreMeant (line ∷ []) (c ∷ [])
 one-meant line c meant = (meant, tt)
@@ -73,14 +73,14 @@ asked-first [] a left long = absurd (omega (arith, long))
 asked-first (c ∷ later) a left long = record { c = c; rest = later; is = refl; long = omega (arith, long) }
 
 -- the next of them
-record IsBehind (commands earlier later : List Command) : Type 0 where
+record IsNextOf (commands earlier later : List Command) : Type 0 where
   c : Command
   rest : List Command
   is : later ≡ c ∷ rest
 
-behind-first : (commands earlier later : List Command) (n : ℕ) → commands ≡ earlier ++ later → length earlier ≡ n → n < length commands → IsBehind commands earlier later
-behind-first commands earlier [] n split place low = absurd (omega (arith, place, low, ap length split, length-append earlier []))
-behind-first commands earlier (c ∷ later) n split place low = record { c = c; rest = later; is = refl }
+next-first : (commands earlier later : List Command) (n : ℕ) → commands ≡ earlier ++ later → length earlier ≡ n → n < length commands → IsNextOf commands earlier later
+next-first commands earlier [] n split place low = absurd (omega (arith, place, low, ap length split, length-append earlier []))
+next-first commands earlier (c ∷ later) n split place low = record { c = c; rest = later; is = refl }
 
 -- ---- the gate
 
@@ -146,7 +146,7 @@ module _ {C J G : Type 0} (passed : G → ℕ → ℕ → Type 0) (base : PlainD
       same = t.same;
       takes = record {
         gate = rw (u.same.gate, u.same.number) u.gates.0;
-        told = inl (Ok (Some (Run c)), first.meant.means, subst (λ (o : Option PlainPacket). RunsBy o base setting c (at_next_line (sitting a)) (sitting b) text) (sym first.meant.unjudged) t.runs);
+        reported = inl (Ok (Some (Run c)), first.meant.means, subst (λ (o : Option PlainPacket). RunsBy o base setting c (at_next_line (sitting a)) (sitting b) text) (sym first.meant.unjudged) t.runs);
       };
     }
 
@@ -155,7 +155,7 @@ module _ {C J G : Type 0} (passed : G → ℕ → ℕ → Type 0) (base : PlainD
       done = u.done ++ first.line ∷ [];
       others = first.rest;
       split = u.split ∙ ap (λ (l : List (List ℕ)). u.done ++ l) first.is ∙ sym (append_assoc u.done (first.line ∷ []) first.rest);
-      meant = first.behind;
+      meant = first.following;
       same = same-then u.same t.same;
       gates = subst (λ (n : ℕ). HavePassed (passed start.gate.now start.number) n (length left)) (sym (line-then c a b text t.runs)) u.gates.1;
       ran = record {
@@ -183,13 +183,13 @@ module _ {C J G : Type 0} (passed : G → ℕ → ℕ → Type 0) (base : PlainD
   -- ---- a group's answers
 
   -- some of the answers were told, and the commands of the others are those that are left
-  pub record IsTelling (lines : List (List ℕ)) (commands : List Command) (told left : List Receipted) (start now : Session C J G) (held held' : Option (List ℕ)) : Type 0 where
+  pub record IsTelling (lines : List (List ℕ)) (commands : List Command) (reported left : List Receipted) (start now : Session C J G) (held held' : Option (List ℕ)) : Type 0 where
     pub earlier : List Command
     pub later : List Command
     pub split : commands ≡ earlier ++ later
-    pub place : length told ≡ length earlier
+    pub place : length reported ≡ length earlier
     pub rest : length left ≡ length later
-    pub last : now.last.now ≡ last_receipt start.last.now (Ok told)
+    pub last : now.last.now ≡ last_receipt start.last.now (Ok reported)
     pub way : IsUnderWay lines later start now held held'
 
   pub telling-begun : (lines : List (List ℕ)) (commands : List Command) (answers : List Receipted) (start : Session C J G) (held : Option (List ℕ)) → AreMeant lines commands
@@ -204,26 +204,26 @@ module _ {C J G : Type 0} (passed : G → ℕ → ℕ → Type 0) (base : PlainD
     way = begun lines commands start held meant gates;
   }
 
-  pub all-told : {lines : List (List ℕ)} {commands : List Command} {told left : List Receipted} {start now : Session C J G} {h i : Option (List ℕ)} → length left ≡ 0 → IsTelling lines commands told left start now h i → Answered Serves lines start now h i
-  all-told {lines} {commands} {told} {left} {start} {now} {h} {i} none t = by t.later (sym t.rest ∙ none) t.way where
+  pub all-replied : {lines : List (List ℕ)} {commands : List Command} {reported left : List Receipted} {start now : Session C J G} {h i : Option (List ℕ)} → length left ≡ 0 → IsTelling lines commands reported left start now h i → Answered Serves lines start now h i
+  all-replied {lines} {commands} {reported} {left} {start} {now} {h} {i} none t = by t.later (sym t.rest ∙ none) t.way where
     by : (later : List Command) → length later ≡ 0 → IsUnderWay lines later start now h i → Answered Serves lines start now h i
     by [] is way = all-run way
     by (c ∷ later) is way = absurd (omega (arith, is))
 
-  module _ {lines : List (List ℕ)} {commands : List Command} {told : List Receipted} (answer : Receipted) (left : List Receipted) {start a : Session C J G} {h i : Option (List ℕ)}
-      (group : IsAnsweredAsAlone base setting commands (Ok (told ++ answer ∷ left)) start.last.now) (t : IsTelling lines commands told (answer ∷ left) start a h i) (b : Session C J G) (n : ℕ) (is : n ≡ next_line a.line)
+  module _ {lines : List (List ℕ)} {commands : List Command} {reported : List Receipted} (answer : Receipted) (left : List Receipted) {start a : Session C J G} {h i : Option (List ℕ)}
+      (group : IsAnsweredAsAlone base setting commands (Ok (reported ++ answer ∷ left)) start.last.now) (t : IsTelling lines commands reported (answer ∷ left) start a h i) (b : Session C J G) (n : ℕ) (is : n ≡ next_line a.line)
       (same : IsSame (record a { line = n }) b) (keeps : Keeps answer.1 (record (sitting a) { line = n }) (sitting b)) where
     asks : IsAsked t.later left
     asks = asked-first t.later answer left t.rest
 
-    whole : IsAnsweredAsAlone base setting (t.earlier ++ asks.c ∷ asks.rest) (Ok (told ++ answer ∷ left)) start.last.now
-    whole = subst (λ (cs : List Command). IsAnsweredAsAlone base setting cs (Ok (told ++ answer ∷ left)) start.last.now) (t.split ∙ ap (λ (cs : List Command). t.earlier ++ cs) asks.is) group
+    whole : IsAnsweredAsAlone base setting (t.earlier ++ asks.c ∷ asks.rest) (Ok (reported ++ answer ∷ left)) start.last.now
+    whole = subst (λ (cs : List Command). IsAnsweredAsAlone base setting cs (Ok (reported ++ answer ∷ left)) start.last.now) (t.split ∙ ap (λ (cs : List Command). t.earlier ++ cs) asks.is) group
 
     placed : IsAnsweredInGroup base setting asks.c answer.0 answer.1 a.last.now
     placed = record {
       earlier = t.earlier;
       later = asks.rest;
-      told = told;
+      reported = reported;
       others = left;
       handed = start.last.now;
       group = whole.group;
@@ -233,27 +233,27 @@ module _ {C J G : Type 0} (passed : G → ℕ → ℕ → Type 0) (base : PlainD
     }
 
     turn : IsTurn asks.c a b (reply_text answer.0)
-    turn = turn-by asks.c a b (reply_text answer.0) n is same (inl (record { reply = answer.0; slip = answer.1; answered = inr placed; told = refl; keeps = keeps }))
+    turn = turn-by asks.c a b (reply_text answer.0) n is same (inl (record { reply = answer.0; slip = answer.1; answered = inr placed; reported = refl; keeps = keeps }))
 
     way : IsUnderWay lines (asks.c ∷ asks.rest) start a h i
     way = subst (λ (cs : List Command). IsUnderWay lines cs start a h i) asks.is t.way
 
-    pub one-told : (j : Option (List ℕ)) → Appends i j (reply_text answer.0) → IsTelling lines commands (told ++ answer ∷ []) left start b h j
-    one-told j written = record {
+    pub one-replied : (j : Option (List ℕ)) → Appends i j (reply_text answer.0) → IsTelling lines commands (reported ++ answer ∷ []) left start b h j
+    one-replied j written = record {
       earlier = t.earlier ++ asks.c ∷ [];
       later = asks.rest;
       split = t.split ∙ ap (λ (cs : List Command). t.earlier ++ cs) asks.is ∙ sym (append_assoc t.earlier (asks.c ∷ []) asks.rest);
-      place = omega (arith, t.place, length-append told (answer ∷ []), length-append t.earlier (asks.c ∷ []));
+      place = omega (arith, t.place, length-append reported (answer ∷ []), length-append t.earlier (asks.c ∷ []));
       rest = asks.long;
-      last = ap (λ (s : Sitting). s.last) keeps.kept ∙ sym (last-told start.last.now told answer);
+      last = ap (λ (s : Sitting). s.last) keeps.kept ∙ sym (last-replied start.last.now reported answer);
       way = one-more way b (reply_text answer.0) j turn written;
     } where
-      last-told : (l : Option PlainReceipt) (front : List Receipted) (x : Receipted) → last_receipt l (Ok (front ++ x ∷ [])) ≡ Some x.1
-      last-told l [] x = refl
-      last-told l (y ∷ front) x = last-told (Some y.1) front x
+      last-replied : (l : Option PlainReceipt) (front : List Receipted) (x : Receipted) → last_receipt l (Ok (front ++ x ∷ [])) ≡ Some x.1
+      last-replied l [] x = refl
+      last-replied l (y ∷ front) x = last-replied (Some y.1) front x
 
-    pub told-cut : (j : Option (List ℕ)) → WritesFront i j (reply_text answer.0) → CutOff Serves lines start b h j
-    told-cut j front = one-cut way b (reply_text answer.0) j turn front
+    pub reply-cut : (j : Option (List ℕ)) → WritesFront i j (reply_text answer.0) → CutOff Serves lines start b h j
+    reply-cut j front = one-cut way b (reply_text answer.0) j turn front
 
   -- ---- a fault
 
@@ -278,28 +278,28 @@ module _ {C J G : Type 0} (passed : G → ℕ → ℕ → Type 0) (base : PlainD
 
   module _ {lines : List (List ℕ)} {commands : List Command} {count : ℕ} {start a : Session C J G} {h i : Option (List ℕ)}
       (group : IsGroupAnswered base setting commands (Err Fault) start.last.now) (t : IsFaulting lines commands count start a h i) (low : count < length commands) (n : ℕ) (is : n ≡ next_line a.line) where
-    behind : IsBehind commands t.earlier t.later
-    behind = behind-first commands t.earlier t.later count t.split t.place low
+    following : IsNextOf commands t.earlier t.later
+    following = next-first commands t.earlier t.later count t.split t.place low
 
-    fault-turn : IsTurn behind.c a (record a { line = n }) (reply_text (Refused Fault))
-    fault-turn = turn-by behind.c a (record a { line = n }) (reply_text (Refused Fault)) n is (same-still (record a { line = n })) (inr (record {
+    fault-turn : IsTurn following.c a (record a { line = n }) (reply_text (Refused Fault))
+    fault-turn = turn-by following.c a (record a { line = n }) (reply_text (Refused Fault)) n is (same-still (record a { line = n })) (inr (record {
       earlier = t.earlier;
-      later = behind.rest;
-      group = subst (λ (l : Option PlainReceipt). IsGroupAnswered base setting (t.earlier ++ behind.c ∷ behind.rest) (Err Fault) l) (sym t.last)
-          (subst (λ (cs : List Command). IsGroupAnswered base setting cs (Err Fault) start.last.now) (t.split ∙ ap (λ (cs : List Command). t.earlier ++ cs) behind.is) group);
-      told = refl;
+      later = following.rest;
+      group = subst (λ (l : Option PlainReceipt). IsGroupAnswered base setting (t.earlier ++ following.c ∷ following.rest) (Err Fault) l) (sym t.last)
+          (subst (λ (cs : List Command). IsGroupAnswered base setting cs (Err Fault) start.last.now) (t.split ∙ ap (λ (cs : List Command). t.earlier ++ cs) following.is) group);
+      reported = refl;
       same = refl;
     }))
 
-    fault-way : IsUnderWay lines (behind.c ∷ behind.rest) start a h i
-    fault-way = subst (λ (cs : List Command). IsUnderWay lines cs start a h i) behind.is t.way
+    fault-way : IsUnderWay lines (following.c ∷ following.rest) start a h i
+    fault-way = subst (λ (cs : List Command). IsUnderWay lines cs start a h i) following.is t.way
 
     pub one-faulted : (j : Option (List ℕ)) → Appends i j (reply_text (Refused Fault)) → IsFaulting lines commands (count + 1) start (record a { line = n }) h j
     one-faulted j written = record {
-      earlier = t.earlier ++ behind.c ∷ [];
-      later = behind.rest;
-      split = t.split ∙ ap (λ (cs : List Command). t.earlier ++ cs) behind.is ∙ sym (append_assoc t.earlier (behind.c ∷ []) behind.rest);
-      place = omega (arith, t.place, length-append t.earlier (behind.c ∷ []));
+      earlier = t.earlier ++ following.c ∷ [];
+      later = following.rest;
+      split = t.split ∙ ap (λ (cs : List Command). t.earlier ++ cs) following.is ∙ sym (append_assoc t.earlier (following.c ∷ []) following.rest);
+      place = omega (arith, t.place, length-append t.earlier (following.c ∷ []));
       last = t.last;
       way = one-more fault-way (record a { line = n }) (reply_text (Refused Fault)) j fault-turn written;
     }

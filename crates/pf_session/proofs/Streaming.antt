@@ -8,7 +8,7 @@ use Rattle.pf_core.specs.{Durable.Changes.PlainDurable, Worlds.Setting}
 use Rattle.pf_book.specs.Receipts.{PlainReceipt}
 use Rattle.pf_session.specs.declared.{line_engine.fault.EngineFault.EngineFault, server.stream.Progress.Progress, server.stream.Progress.TheVariants.{On, Over}}
 use Rattle.pf_session.specs.declared.line_engine.fault.EngineFault.TheVariants as fault
-use Rattle.pf_session.specs.{LineEngine.Sessions.{Answered, CutOff}, Server.Streams.{ArePieces, GoesOn, IsPiece, IsStreamFrom, Part, Piece, RunsAll, RunsFed, RunsParts, StreamSoFar, Takes, TakesPart, TakesPiece, TellsEnd, TellsFault, end_text, messages_of, parts_in, told, told_text, wrong}}
+use Rattle.pf_session.specs.{LineEngine.Sessions.{Answered, CutOff}, Server.Streams.{ArePieces, GoesOn, IsPiece, IsStreamFrom, Part, Piece, RunsAll, RunsFed, RunsParts, StreamSoFar, Takes, TakesPart, TakesPiece, TellsEnd, TellsFault, end_text, messages_of, parts_in, fault_parts, peer_fault_text, wrong}}
 use Rattle.pf_session.proofs.Chains.{chain-one, chain-then}
 
 -- where bytes stay, the front of no text is written
@@ -83,28 +83,28 @@ module _ (base : PlainDurable) (setting : Setting) where
   }
 
   -- a fault was written after others, if there was one
-  pub fault-told : (f : Option PeerFault) {ps : List Part} {a b : Option PlainReceipt} {h i : Option (List ℕ)} (j : Option (List ℕ)) → Answered (Takes base setting) ps a b h i → Appends i j (told_text f) → Answered (Takes base setting) (ps ++ told f) a b h j
-  fault-told None {ps} {a} {b} {h} {i} j p written = rw (append-nil ps) (record { text = p.text; served = p.served; written = simp append-nil at (Appends-trans h i j p.text [] p.written written) })
-  fault-told (Some f) j p written = answered-then p (part-answered (Err f) (told_text (Some f)) (refl, refl) written)
+  pub fault-replied : (f : Option PeerFault) {ps : List Part} {a b : Option PlainReceipt} {h i : Option (List ℕ)} (j : Option (List ℕ)) → Answered (Takes base setting) ps a b h i → Appends i j (peer_fault_text f) → Answered (Takes base setting) (ps ++ fault_parts f) a b h j
+  fault-replied None {ps} {a} {b} {h} {i} j p written = rw (append-nil ps) (record { text = p.text; served = p.served; written = simp append-nil at (Appends-trans h i j p.text [] p.written written) })
+  fault-replied (Some f) j p written = answered-then p (part-answered (Err f) (peer_fault_text (Some f)) (refl, refl) written)
 
-  pub fault-cut : (f : Option PeerFault) {ps : List Part} {a b : Option PlainReceipt} {h i : Option (List ℕ)} (j : Option (List ℕ)) → Answered (Takes base setting) ps a b h i → WritesFront i j (told_text f) → CutOff (Takes base setting) (ps ++ told f) a b h j
+  pub fault-cut : (f : Option PeerFault) {ps : List Part} {a b : Option PlainReceipt} {h i : Option (List ℕ)} (j : Option (List ℕ)) → Answered (Takes base setting) ps a b h i → WritesFront i j (peer_fault_text f) → CutOff (Takes base setting) (ps ++ fault_parts f) a b h j
   fault-cut None {ps} j p front = rw (append-nil ps) (flush-cut j front p)
-  fault-cut (Some f) {b = b} j p front = part-cut (Err f) [] b (told_text (Some f)) p (refl, refl) front
+  fault-cut (Some f) {b = b} j p front = part-cut (Err f) [] b (peer_fault_text (Some f)) p (refl, refl) front
 
   -- ---- a piece
 
-  parts-told : (r : Result Progress EngineFault) (ps : List Part) (f : Option PeerFault) {a b : Option PlainReceipt} {h i : Option (List ℕ)} (j : Option (List ℕ)) → Answered (Takes base setting) ps a b h i → TellsFault r f i j → RunsParts (Takes base setting) r (ps ++ told f) f a b h j
-  parts-told (Ok goes) ps f j all tells = (tells.0, fault-told f j all tells.1)
-  parts-told (Err fault.Read) ps f j all tells = absurd tells
-  parts-told (Err fault.Write) ps f j all tells = fault-cut f j all tells
-  parts-told (Err fault.Memory) ps f j all tells = absurd tells
+  parts-replied : (r : Result Progress EngineFault) (ps : List Part) (f : Option PeerFault) {a b : Option PlainReceipt} {h i : Option (List ℕ)} (j : Option (List ℕ)) → Answered (Takes base setting) ps a b h i → TellsFault r f i j → RunsParts (Takes base setting) r (ps ++ fault_parts f) f a b h j
+  parts-replied (Ok goes) ps f j all tells = (tells.0, fault-replied f j all tells.1)
+  parts-replied (Err fault.Read) ps f j all tells = absurd tells
+  parts-replied (Err fault.Write) ps f j all tells = fault-cut f j all tells
+  parts-replied (Err fault.Memory) ps f j all tells = absurd tells
 
   -- the messages of a piece were run, and its fault was written
-  pub fed-told : {A E : Type 0} (x : A) (r : Result Progress EngineFault) (ms : List Message) (f : Option PeerFault) {a b : Option PlainReceipt} {h i : Option (List ℕ)} (j : Option (List ℕ)) → RunsAll {A = A} {E = E} (Takes base setting) (Ok x) ms a b h i → TellsFault r f i j → RunsFed (Takes base setting) r ms f a b h j
-  fed-told x r ms f j all tells = record { groups = all.groups; are = all.are; of = all.of; ran = parts-told r _ f j all.answers tells }
+  pub fed-replied : {A E : Type 0} (x : A) (r : Result Progress EngineFault) (ms : List Message) (f : Option PeerFault) {a b : Option PlainReceipt} {h i : Option (List ℕ)} (j : Option (List ℕ)) → RunsAll {A = A} {E = E} (Takes base setting) (Ok x) ms a b h i → TellsFault r f i j → RunsFed (Takes base setting) r ms f a b h j
+  fed-replied x r ms f j all tells = record { groups = all.groups; are = all.are; of = all.of; ran = parts-replied r _ f j all.answers tells }
 
   pub fed-cut : {A E : Type 0} (e : E) (ms : List Message) (f : Option PeerFault) {a b : Option PlainReceipt} {h i : Option (List ℕ)} → RunsAll {A = A} {E = E} (Takes base setting) (Err e) ms a b h i → RunsFed (Takes base setting) (Err fault.Write) ms f a b h i
-  fed-cut e ms f all = record { groups = all.groups; are = all.are; of = all.of; ran = cut-longer (told f) all.answers }
+  fed-cut e ms f all = record { groups = all.groups; are = all.are; of = all.of; ran = cut-longer (fault_parts f) all.answers }
 
   -- it was a piece
   pub piece-fed : (r : Result Progress EngineFault) (bytes : List ℕ) (ms : List Message) (f : Option PeerFault) (left left' : Option (List ℕ)) {a b : Option PlainReceipt} {h i : Option (List ℕ)} → length bytes ≤ 131072 → TakenAs left bytes left' ms f → RunsFed (Takes base setting) r ms f a b h i
@@ -242,9 +242,9 @@ module _ (base : PlainDurable) (setting : Setting) where
 
     -- ---- the end
 
-    end-told : (rest : List ℕ) (j : Option (List ℕ)) → Appends i j (end_text (finished (Some rest))) → Answered (Takes base setting) (wrong (Some rest)) b b i j
-    end-told [] j written = fault-told base setting None j (none-answered base setting b i) written
-    end-told (x ∷ rest) j written = fault-told base setting (Some Ended) j (none-answered base setting b i) written
+    end-replied : (rest : List ℕ) (j : Option (List ℕ)) → Appends i j (end_text (finished (Some rest))) → Answered (Takes base setting) (wrong (Some rest)) b b i j
+    end-replied [] j written = fault-replied base setting None j (none-answered base setting b i) written
+    end-replied (x ∷ rest) j written = fault-replied base setting (Some Ended) j (none-answered base setting b i) written
 
     end-cut : (rest : List ℕ) (j : Option (List ℕ)) → WritesFront i j (end_text (finished (Some rest))) → CutOff (Takes base setting) (wrong (Some rest)) b b i j
     end-cut [] j front = fault-cut base setting None j (none-answered base setting b i) front
@@ -262,7 +262,7 @@ module _ (base : PlainDurable) (setting : Setting) where
           answered = s.answered;
           bytes = [];
           read = nothing-more still read;
-          ends = (refl, end, end-told rest j (subst (λ (l : Option (List ℕ)). Appends i j (end_text (finished l))) is tells));
+          ends = (refl, end, end-replied rest j (subst (λ (l : Option (List ℕ)). Appends i j (end_text (finished l))) is tells));
         }
     end-ends (Err fault.Read) still j read end tells = absurd tells
     end-ends (Err fault.Write) still j read end tells =

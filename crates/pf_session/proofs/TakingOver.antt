@@ -10,7 +10,7 @@ use Rattle.pf_line.specs.{declared.{request.Request.Request, request.Request.The
 use Rattle.pf_line.proofs.{ExportedLines.exports_are_read, Lines.one_meaning, TakenOver.takes_over as states_taken}
 use Rattle.std.specs.Prelude.{nat_lt}
 use Rattle.pf_book.specs.Books.{PlainBook, world_book}
-use Rattle.pf_session.specs.{Serving.{CallsBook, CallsOrShows, Serves}, Telling.{IsToldBy, Says}, Laws.Takeover.{held_in, IsReadyFor, IsWant, WasRefused, TakesOver, FreshTakesOver}}
+use Rattle.pf_session.specs.{Serving.{CallsBook, CallsOrShows, Serves}, Telling.{IsReplyTo, Says}, Laws.Takeover.{held_in, IsReadyFor, IsWant, WasRefused, TakesOver, FreshTakesOver}}
 use Rattle.std.proofs.lemmas.Bool.{or_parts}
 
 -- ---- steps in two parts
@@ -43,11 +43,11 @@ full-room h e few full =
 
 taken : (h : CurrentOpening) (d : PlainDurable) (m : Message) → durable_of h ≡ d → h.pending ≡ [] → passes_limit d.states (steps_here d m) ≡ false → length (log_of h) < h.setting.limit → IsTaken h d m ⊎ (due h (States (Peer m)) ≡ Refused Full)
 taken h d m is none fits few = by (h.setting.is_full h.base h.acked (change d m ∷ [])) refl where
-  told : Outcome
-  told = Peered (counts d.states (steps_here d m))
+  reported : Outcome
+  reported = Peered (counts d.states (steps_here d m))
 
   one : Result Step Refusal
-  one = Ok (Wants (change d m) told)
+  one = Ok (Wants (change d m) reported)
 
   step : step_in h (States (Peer m)) ≡ one
   step =
@@ -61,12 +61,12 @@ taken h d m is none fits few = by (h.setting.is_full h.base h.acked (change d m 
       let room : room_for h (change d m ∷ []) ≡ Ok tt = room-found h (change d m) few free in
       inl (record {
         number = length (log_of h) + 1;
-        outcome = told;
-        reply = ap (due_at h) step ∙ ap (λ (r : Result (Unit {0}) Refusal). or_refused r (Applied (length (log_of h) + 1) told)) room;
+        outcome = reported;
+        reply = ap (due_at h) step ∙ ap (λ (r : Result (Unit {0}) Refusal). or_refused r (Applied (length (log_of h) + 1) reported)) room;
         group = ap (group_at h) step ∙ ap (λ (r : Result (Unit {0}) Refusal). if_ok r (grouped (change d m ∷ [])) []) room;
       })
   by true full =
-      inr (ap (due_at h) step ∙ ap (λ (r : Result (Unit {0}) Refusal). or_refused r (Applied (length (log_of h) + 1) told)) (full-room h (change d m) few full))
+      inr (ap (due_at h) step ∙ ap (λ (r : Result (Unit {0}) Refusal). or_refused r (Applied (length (log_of h) + 1) reported)) (full-room h (change d m) few full))
 
 -- the opening then
 abbrev then : CurrentOpening → Message → Reply → Upshot → CurrentOpening
@@ -116,9 +116,9 @@ refused-all h c failed r (inr stands) = absurd stands
 
 -- ---- a Book's openings
 
-legal-behind : (st : State) (xs ys : List Event) → IsLegalFrom st (xs ++ ys) → IsLegalFrom (state_after st xs) ys
-legal-behind st [] ys legal = legal
-legal-behind st (x ∷ xs) ys legal = legal-behind (next st x) xs ys legal.1
+legal-onto : (st : State) (xs ys : List Event) → IsLegalFrom st (xs ++ ys) → IsLegalFrom (state_after st xs) ys
+legal-onto st [] ys legal = legal
+legal-onto st (x ∷ xs) ys legal = legal-onto (next st x) xs ys legal.1
 
 up-is : (h k : CurrentOpening) → up h ≡ up k → h ≡ k
 up-is h k e = cc (e)
@@ -142,7 +142,7 @@ stands-on : (start : PlainDurable) (h : CurrentOpening) (c : Command) (r : Reply
 stands-on start h c r t a b s worlds =
     let all : StandsFor start b (s.world ++ called (call c r) t ∷ []) = worlds start s.world s.stands in
     let here : IsLegalFrom (up h) (called (call c r) t ∷ []) =
-    subst (λ (st : State). IsLegalFrom st (called (call c r) t ∷ [])) s.comes (legal-behind (down start) s.world (called (call c r) t ∷ []) all.legal) in (
+    subst (λ (st : State). IsLegalFrom st (called (call c r) t ∷ [])) s.comes (legal-onto (down start) s.world (called (call c r) t ∷ []) all.legal) in (
       here.0,
       record {
         world = s.world ++ called (call c r) t ∷ [];
@@ -154,71 +154,71 @@ stands-on start h c r t a b s worlds =
 -- ---- all of them
 
 refused-first : (reply replies text : List ℕ) (why : Refusal) → IsWant why → text ≡ reply ++ replies → reply ≡ reply_text (Refused why) → WasRefused text
-refused-first reply replies text why want is told = record { why = why; is = want; front = []; behind = replies; text_is = is ∙ ap (λ (l : List ℕ). l ++ replies) told }
+refused-first reply replies text why want is reported = record { why = why; is = want; front = []; following = replies; text_is = is ∙ ap (λ (l : List ℕ). l ++ replies) reported }
 
 refused-later : (reply replies text : List ℕ) → text ≡ reply ++ replies → WasRefused replies → WasRefused text
 refused-later reply replies text is was = record {
   why = was.why;
   is = was.is;
   front = reply ++ was.front;
-  behind = was.behind;
-  text_is = is ∙ ap (λ (l : List ℕ). reply ++ l) was.text_is ∙ sym (append_assoc reply was.front (reply_text (Refused was.why) ++ was.behind));
+  following = was.following;
+  text_is = is ∙ ap (λ (l : List ℕ). reply ++ l) was.text_is ∙ sym (append_assoc reply was.front (reply_text (Refused was.why) ++ was.following));
 }
 
 -- a Book has the states that the steps of these messages leave, or some line was refused
-abbrev Told : PlainDurable → List Message → WorldBook → List ℕ → Type 0
-Told d ms b text = ((held_in b).states ≡ stepped_on d.states (flat_map (steps_here d) ms)) ⊎ WasRefused text
+abbrev StatesOrRefused : PlainDurable → List Message → WorldBook → List ℕ → Type 0
+StatesOrRefused d ms b text = ((held_in b).states ≡ stepped_on d.states (flat_map (steps_here d) ms)) ⊎ WasRefused text
 
 module _ {D : Type 0} (faults : D → ℕ) (start : PlainDurable) where
   -- one line, and then those that follow it
   one-line : (m : Message) (ms : List Message) (h : CurrentOpening) (d : PlainDurable) (a mid b : PlainBook D) (reply replies text : List ℕ) → durable_of h ≡ d → h.pending ≡ [] → TellsOf m (message_text m) → passes_limit d.states (flat_map (steps_here d) (m ∷ ms)) ≡ false →
-      length (log_of h) + length (m ∷ ms) ≤ h.setting.limit → Stands start h (world_book a) → IsToldBy (CallsOrShows faults) (message_text m) a mid reply → text ≡ reply ++ replies
+      length (log_of h) + length (m ∷ ms) ≤ h.setting.limit → Stands start h (world_book a) → IsReplyTo (CallsOrShows faults) (message_text m) a mid reply → text ≡ reply ++ replies
       → ((r : Reply) (t : Upshot) → IsThen h d m (then h m r t) → passes_limit (applied d (change d m)).states (flat_map (steps_here d) ms) ≡ false
-      → length (log_of (then h m r t)) + length ms ≤ h.setting.limit → Stands start (then h m r t) (world_book mid) → Told (applied d (change d m)) ms (world_book b) replies) → Told d (m ∷ ms) (world_book b) text
-  one-line m ms h d a mid b reply replies text is free told fits room stands by text_is on = of by where
+      → length (log_of (then h m r t)) + length ms ≤ h.setting.limit → Stands start (then h m r t) (world_book mid) → StatesOrRefused (applied d (change d m)) ms (world_book b) replies) → StatesOrRefused d (m ∷ ms) (world_book b) text
+  one-line m ms h d a mid b reply replies text is free reported fits room stands by text_is on = of by where
     c : Command
     c = States (Peer m)
 
     apart : (passes_limit d.states (steps_here d m) ≡ false) × (passes_limit (stepped_on d.states (steps_here d m)) (flat_map (steps_here d) ms) ≡ false)
     apart = fit-apart d.states (steps_here d m) (flat_map (steps_here d) ms) fits
 
-    by_reply : (r : Reply) (t : Upshot) → reply ≡ reply_text r → LegalCall h (call c r) t × Stands start (then h m r t) (world_book mid) → Told d (m ∷ ms) (world_book b) text
+    by_reply : (r : Reply) (t : Upshot) → reply ≡ reply_text r → LegalCall h (call c r) t × Stands start (then h m r t) (world_book mid) → StatesOrRefused d (m ∷ ms) (world_book b) text
     by_reply r t reply_is here = judged (taken h d m is free apart.0 (omega (arith, room))) where
-      longer : Told (applied d (change d m)) ms (world_book b) replies → Told d (m ∷ ms) (world_book b) text
+      longer : StatesOrRefused (applied d (change d m)) ms (world_book b) replies → StatesOrRefused d (m ∷ ms) (world_book b) text
       longer (inl states) = inl (states ∙ sym (fold-append stepped d.states (steps_here d m) (flat_map (steps_here d) ms)))
       longer (inr was) = inr (refused-later reply replies text text_is was)
 
-      hindered : IsHindered r → Told d (m ∷ ms) (world_book b) text
-      hindered (why, want, told_is) = inr (refused-first reply replies text why want text_is (reply_is ∙ ap reply_text told_is))
+      hindered : IsHindered r → StatesOrRefused d (m ∷ ms) (world_book b) text
+      hindered (why, want, reported_is) = inr (refused-first reply replies text why want text_is (reply_is ∙ ap reply_text reported_is))
 
-      answered : (to : IsTaken h d m) → Acknowledges r (group_in h c) ⊎ IsHindered r → Told d (m ∷ ms) (world_book b) text
+      answered : (to : IsTaken h d m) → Acknowledges r (group_in h c) ⊎ IsHindered r → StatesOrRefused d (m ∷ ms) (world_book b) text
       answered to (inl keeps) =
           let next : IsThen h d m (then h m r t) = now h d m r t is free to keeps in
           longer (on r t next apart.1 (omega (arith, room, next.long)) here.1)
       answered to (inr none) = hindered none
 
-      judged : IsTaken h d m ⊎ (due h c ≡ Refused Full) → Told d (m ∷ ms) (world_book b) text
+      judged : IsTaken h d m ⊎ (due h c ≡ Refused Full) → StatesOrRefused d (m ∷ ms) (world_book b) text
       judged (inl to) = answered to (kept-or-refused h c t.failed to.number to.outcome r (group_in h c) (subst (λ (x : Reply). (r ≡ x) ⊎ StandsIn h c t.failed x r) to.reply here.0.reply))
       judged (inr full) = hindered (refused-all h c t.failed r (subst (λ (x : Reply). (r ≡ x) ⊎ StandsIn h c t.failed x r) full here.0.reply))
 
-    of : IsToldBy (CallsOrShows faults) (message_text m) a mid reply → Told d (m ∷ ms) (world_book b) text
+    of : IsReplyTo (CallsOrShows faults) (message_text m) a mid reply → StatesOrRefused d (m ∷ ms) (world_book b) text
     of (inl (meant, means, says)) =
-        let same = one_meaning (line_at (message_text m)) meant (Ok (Some (Run c))) means told.means in
+        let same = one_meaning (line_at (message_text m)) meant (Ok (Some (Run c))) means reported.means in
         let ran : CallsBook faults c a mid reply = subst (λ (x : Result (Option Request) Refusal). Says (CallsOrShows faults) x a mid reply) same says in
-        by_reply ran.reply ran.upshot ran.told (stands-on start h c ran.reply ran.upshot (world_book a) (world_book mid) stands ran.worlds)
-    of (inr none) = inr (refused-first reply replies text Memory tt text_is none.told)
+        by_reply ran.reply ran.upshot ran.reported (stands-on start h c ran.reply ran.upshot (world_book a) (world_book mid) stands ran.worlds)
+    of (inr none) = inr (refused-first reply replies text Memory tt text_is none.reported)
 
   given : (ms : List Message) (h : CurrentOpening) (d : PlainDurable) (a b : PlainBook D) (text : List ℕ) → durable_of h ≡ d → h.pending ≡ [] → Each (λ m. TellsOf m (message_text m)) ms
-      → passes_limit d.states (flat_map (steps_here d) ms) ≡ false → length (log_of h) + length ms ≤ h.setting.limit → Stands start h (world_book a) → Serves faults a b (map message_text ms) text → Told d ms (world_book b) text
-  given [] h d a b text is free told fits room stands (same, none) =
+      → passes_limit d.states (flat_map (steps_here d) ms) ≡ false → length (log_of h) + length ms ≤ h.setting.limit → Stands start h (world_book a) → Serves faults a b (map message_text ms) text → StatesOrRefused d ms (world_book b) text
+  given [] h d a b text is free reported fits room stands (same, none) =
       inl (ap (λ (book : PlainBook D). (held_in (world_book book)).states) same ∙ ap (λ (k : PlainDurable). k.states) (held-at h (world_book a) (is-at start h (world_book a) stands) ∙ is))
-  given (m ∷ ms) h d a b text is free told fits room stands (mid, reply, replies, by, more, text_is) =
-      one-line m ms h d a mid b reply replies text is free told.0 fits room stands by text_is
-      (λ r t next next_fits next_room there. given ms (then h m r t) (applied d (change d m)) mid b replies next.held next.none told.1 next_fits next_room there more)
+  given (m ∷ ms) h d a b text is free reported fits room stands (mid, reply, replies, by, more, text_is) =
+      one-line m ms h d a mid b reply replies text is free reported.0 fits room stands by text_is
+      (λ r t next next_fits next_room there. given ms (then h m r t) (applied d (change d m)) mid b replies next.held next.none reported.1 next_fits next_room there more)
 
 -- what it comes to where it is ready for the lines
 arrived : {D : Type 0} (faults : D → ℕ) (ours : List ℕ) (es : List PlainState) (first : PlainDurable) (world : List Event) (old new : PlainBook D) (text : List ℕ) → StandsFor first (world_book old) world → IsReadyFor (length (exported_lines ours es)) (world_book old) →
-    Serves faults old new (exported_lines ours es) text → CanBeExported ours es → Told (held_in (world_book old)) (exported_messages ours es) (world_book new) text
+    Serves faults old new (exported_lines ours es) text → CanBeExported ours es → StatesOrRefused (held_in (world_book old)) (exported_messages ours es) (world_book new) text
 arrived faults ours es first world old new text stands ready served can =
     let ms = exported_messages ours es in
     let b : WorldBook = world_book old in
@@ -240,7 +240,7 @@ takes_over faults ours es first world old new text can stands ready served = of 
   b : WorldBook
   b = world_book old
 
-  of : Told (held_in b) ms (world_book new) text → ((held_in (world_book new)).states ≡ states_there (held_in b) ours es) ⊎ WasRefused text
+  of : StatesOrRefused (held_in b) ms (world_book new) text → ((held_in (world_book new)).states ≡ states_there (held_in b) ours es) ⊎ WasRefused text
   of (inl states) =
       let left = states_taken ours (main_sum (held_in b)) (main_count (held_in b)) es can.table ready.rules in
       inl (states ∙ ap (λ (ss : List PlainState). stepped_on ss (flat_map (steps_here (held_in b)) ms)) ready.no_states ∙ left.left)

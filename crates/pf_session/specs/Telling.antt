@@ -16,9 +16,9 @@ Says Runs (Err e) old new text = (new ≡ old) × (text ≡ reply_text (Refused 
 pub record HasNoMemory {S : Type 0} (line : List ℕ) (old new : S) (text : List ℕ) : Type 0 where
   pub speaks : Speaks line
   pub same : new ≡ old
-  pub told : text ≡ reply_text (Refused Memory)
+  pub reported : text ≡ reply_text (Refused Memory)
 
 -- A line gets the reply to what it means; one that is neither bad nor silent may be told that there was no memory.
-abbrev pub IsToldBy : {S : Type 0} → (Request → S → S → List ℕ → Type 0) → List ℕ → S → S → List ℕ → Type 0
-IsToldBy Runs line old new text =
+abbrev pub IsReplyTo : {S : Type 0} → (Request → S → S → List ℕ → Type 0) → List ℕ → S → S → List ℕ → Type 0
+IsReplyTo Runs line old new text =
     ((meant : Result (Option Request) Refusal) × Means (line_at line) meant × Says Runs meant old new text) ⊎ HasNoMemory line old new text

@@ -3,9 +3,9 @@ ghost use Rattle.std.specs.Prelude.{◌≡◌, ℕ, List, []};
 ghost use Rattle.pf_disk.specs.Disk.{IsImage};
 ghost use Rattle.pf_core.specs.{WorldBooks.IsAt, Worlds.{CurrentOpening, idle}};
 ghost use Rattle.pf_book.specs.Books.{HoldsLeft, IsOpenable, world_book};
-ghost use Rattle.pf_session.specs.{LineEngine.Sessions.IsSession, Serving.{CallsOrShows, Serves}, Telling.IsToldBy, Laws.Seeing.seen-told};
+ghost use Rattle.pf_session.specs.{LineEngine.Sessions.IsSession, Serving.{CallsOrShows, Serves}, Telling.IsReplyTo, Laws.Seeing.seen-replied};
 
-use crate::line_engine::{AnswerLine, EngineFault, serve};
+use crate::line_engine::{AnswerLine, EngineFault, answer_reader};
 use crate::telling::{RunCommands, answer, show, tell, tell_anchors};
 use pf_addr::path::Path;
 use pf_book::book::Book;
@@ -44,7 +44,7 @@ impl<D: Disk + Drop, J: Chapter, S: Publisher<J> + Drop> AnswerLine for Book<D, 
 
     ghost Waits = { λ lines waiting. lines ≡ [] };
 
-    ghost Takes = { IsToldBy (CallsOrShows D.fault_count) };
+    ghost Takes = { IsReplyTo (CallsOrShows D.fault_count) };
 
     fn answer_line<W: Write>(
         &mut self,
@@ -76,7 +76,7 @@ impl<D: Disk + Drop, J: Chapter, S: Publisher<J> + Drop> AnswerLine for Book<D, 
         Ok(())
     }
 
-    ghost takes_seen = { seen-told (CallsOrShows D.fault_count) };
+    ghost takes_seen = { seen-replied (CallsOrShows D.fault_count) };
 }
 
 /// Answers the lines of a reader, each with at most one reply, until the reader is at its end.
@@ -103,7 +103,7 @@ pub fn serve_alone<D: Disk + Drop, J: Chapter, S: Publisher<J> + Drop, R: Read, 
         → IsImage (D.seen book.new.disk) (D.unsynced book.new.disk) c → HoldsLeft h idle c }
     ensures openable { IsOpenable D.seen D.unsynced book.new }
 {
-    let served = serve(alloc, reader, writer, book);
+    let served = answer_reader(alloc, reader, writer, book);
     book.between_calls();
     served
 }

@@ -1,6 +1,6 @@
 //! Laws of a Book and of sessions. Each function does nothing; its contract is the law.
 ghost use Rattle.std.specs.Prelude.{ℕ};
-ghost use Rattle.pf_session.specs.{Laws.{Acknowledged.{AcknowledgesNoLess, AcknowledgesTold, FindsAcknowledged}, GoingOn.{BeginsAlone, GoesOnElsewhere, GoesOnHere, IsWhole, StreamsBeginAlone, StreamsGoOnElsewhere}, Receipts.{SitsWithin, TakesWithin}, Sittings.{LearnsNoLess, LearnsApplied}, Streams.AreOneStream, Takeover.{TakesOver, FreshTakesOver}}, Server.{Askings.AsksLines, Sittings.TakesLines}};
+ghost use Rattle.pf_session.specs.{Laws.{Acknowledged.{AcknowledgesNoLess, AcknowledgesReplied, FindsAcknowledged}, GoingOn.{BeginsAlone, GoesOnElsewhere, GoesOnHere, IsWhole, StreamsBeginAlone, StreamsGoOnElsewhere}, Receipts.{SitsWithin, TakesWithin}, Sittings.{LearnsNoLess, LearnsApplied}, Streams.AreOneStream, Takeover.{TakesOver, FreshTakesOver}}, Server.{Askings.AsksLines, Sittings.TakesLines}};
 
 use crate::server::Gate;
 use pf_disk::Disk;
@@ -24,14 +24,14 @@ pub fn sessions_learn<G: Gate>()
 
 /// A change that a session's reply over a shared Book says is applied or stored is acknowledged, with all before it, and stays so: the
 /// receipt of that call and of each later one says no fewer, and each later call finds no fewer, whatever else was asked in between.
-pub fn what_is_told_stays_acknowledged<G: Gate>()
-    ensures told { AcknowledgesTold }
+pub fn what_is_replied_stays_acknowledged<G: Gate>()
+    ensures reported { AcknowledgesReplied }
     ensures stays { (gate : G) (session : ℕ) → AcknowledgesNoLess (G.passed gate session) }
     ensures found { FindsAcknowledged }
 {}
 
 /// Each reply to a session or a peer over a shared Book comes of a history with which that of the last receipt begins: the front of the
-/// reply's receipt begins that of the receipt that the caller then has, as `serve_from` and `serve_peer_from` give it. So does the front
+/// reply's receipt begins that of the receipt that the caller then has, as `continue_session` and `continue_peer` give it. So does the front
 /// of the receipt that it handed in first. A peer's message has no receipt if its group was refused whole.
 pub fn the_last_receipt_has_all<G: Gate>()
     ensures sessions { (gate : G) (session : ℕ) → SitsWithin (G.passed gate session) }

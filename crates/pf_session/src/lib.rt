@@ -14,7 +14,7 @@
 //! program, no files and no sockets.
 //!
 //! Proved: a session's bytes are the replies to its lines in order, and the Book gets the calls that they mean, however the session ends
-//! (`serve_alone`, `serve_from`, `serve_peer_from`); and a session that may only ask leaves the Book as it was (`serve_asking`). A session
+//! (`serve_alone`, `continue_session`, `continue_peer`); and a session that may only ask leaves the Book as it was (`answer_asking`). A session
 //! may pause in one opening and go on in the next, and so it is over all of them (`go_on`, `laws::sessions_go_on`); what the next opening
 //! gives is what was acknowledged before (`renew`). In between it may have its questions about packets answered alone (`go_on_judging`,
 //! `reopen`).
@@ -35,7 +35,7 @@ pub use engine::serve_alone;
 pub use line_engine::{EngineFault, LeftOff, NoPause, Pause};
 pub use renewing::{cover_all, renew, reopen};
 pub use server::{
-    AskBook, CallBook, Caller, Gate, Inquiry, LineSession, OpenGate, PeerStream, deny, go_on,
-    go_on_asking, go_on_asking_by, go_on_by, go_on_judging, go_on_peer, go_on_peer_by, serve,
-    serve_asking, serve_from, serve_peer, serve_peer_from,
+    AskBook, CallBook, Caller, Gate, Inquiry, LineSession, OpenGate, PeerStream, answer_asking,
+    continue_peer, continue_session, deny, go_on, go_on_asking, go_on_asking_by, go_on_by,
+    go_on_judging, go_on_peer, go_on_peer_by, serve, serve_peer,
 };

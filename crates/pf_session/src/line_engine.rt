@@ -11,7 +11,7 @@ mod pieces;
 mod some;
 
 pub use answer_line::{AnswerLine, LOOKED_AT};
-pub use engine::{go_on, go_on_some, serve};
+pub use engine::{answer_reader, go_on, go_on_some};
 pub use fault::EngineFault;
 pub use intake::Intake;
 pub use left_off::{LeftOff, NoPause, Pause};

@@ -22,12 +22,12 @@ mod run;
 mod session;
 mod stream;
 
-pub use asking::{go_on_asking, go_on_asking_by, serve_asking};
+pub use asking::{answer_asking, go_on_asking, go_on_asking_by};
 pub use caller::{AskBook, CallBook, Caller};
 pub use denial::deny;
 pub use gate::{Gate, OpenGate};
 pub use inquiry::Inquiry;
 pub use judging::go_on_judging;
 pub use line_session::LineSession;
-pub use session::{go_on, go_on_by, serve, serve_from};
-pub use stream::{PeerStream, go_on_peer, go_on_peer_by, serve_peer, serve_peer_from};
+pub use session::{continue_session, go_on, go_on_by, serve};
+pub use stream::{PeerStream, continue_peer, go_on_peer, go_on_peer_by, serve_peer};

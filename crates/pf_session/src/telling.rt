@@ -5,7 +5,7 @@ ghost use Rattle.pf_core.specs.declared.{command.Command.Command, command.Comman
 ghost use Rattle.pf_line.specs.declared.{request.Request.Request, request.Request.TheVariants.{Run, ShowStatus, ShowAnchors}};
 ghost use Rattle.pf_line.specs.{Lines.{Parses, Refused as IsRefusal, line_at}, Reply.Replies.reply_text};
 ghost use Rattle.pf_book.specs.Anchors.{listed_in};
-ghost use Rattle.pf_session.specs.{Anchors.{listed_text}, Statuses.{shown_text, with_sessions}, Telling.IsToldBy};
+ghost use Rattle.pf_session.specs.{Anchors.{listed_text}, Statuses.{shown_text, with_sessions}, Telling.IsReplyTo};
 
 use pf_addr::path::Path;
 use pf_book::BookStatus;
@@ -51,7 +51,7 @@ pub(crate) fn answer<A: RunCommands, W: Write>(
     writer: &mut W,
     runner: &mut A,
 ) -> io::Result<()>
-    ensures { (text : List ℕ) × IsToldBy A.Runs line.now runner.old runner.new text ×
+    ensures { (text : List ℕ) × IsReplyTo A.Runs line.now runner.old runner.new text ×
         Writes result (W.contents writer.old) (W.contents writer.new) text }
 {
     if may_judge(line) {
@@ -68,7 +68,7 @@ fn answer_judge<A: RunCommands, W: Write>(
     writer: &mut W,
     runner: &mut A,
 ) -> io::Result<()>
-    ensures { (text : List ℕ) × IsToldBy A.Runs line.now runner.old runner.new text ×
+    ensures { (text : List ℕ) × IsReplyTo A.Runs line.now runner.old runner.new text ×
         Writes result (W.contents writer.old) (W.contents writer.new) text }
 {
     match parse_judge(line) {
@@ -85,7 +85,7 @@ fn answer_any<A: RunCommands, W: Write>(
     writer: &mut W,
     runner: &mut A,
 ) -> io::Result<()>
-    ensures { (text : List ℕ) × IsToldBy A.Runs line.now runner.old runner.new text ×
+    ensures { (text : List ℕ) × IsReplyTo A.Runs line.now runner.old runner.new text ×
         Writes result (W.contents writer.old) (W.contents writer.new) text }
 {
     answer_said(parse_line(alloc, line), writer, runner)
@@ -98,7 +98,7 @@ pub(crate) fn answer_said<A: RunCommands, W: Write>(
     runner: &mut A,
 ) -> io::Result<()>
     ensures { (line : List ℕ) → Parses said (line_at line) → IfErr said (IsRefusal line) →
-        (text : List ℕ) × IsToldBy A.Runs line runner.old runner.new text × Writes result (W.contents writer.old) (W.contents writer.new) text }
+        (text : List ℕ) × IsReplyTo A.Runs line runner.old runner.new text × Writes result (W.contents writer.old) (W.contents writer.new) text }
 {
     match said {
         Ok(None) => Ok(()),

@@ -7,7 +7,7 @@ use Rattle.pf_journal.specs.Records.{region, AreRecords, StandsFor}
 use Rattle.pf_journal.proofs.Parsing.{unique}
 use Rattle.pf_snap.specs.declared.fault.{LookFault.LookFault, LookFault.TheVariants.{BadSize, NoBank, Corrupt, Memory, Fault}}
 use Rattle.pf_snap.specs.Faults.{AreEqual, IsRefused}
-use Rattle.pf_snap.specs.Banks.{IsSize, bank_size, AreBanks, Content, begun, IsVersion, header, records_start, HasHeader, HasSnapshot, HasBank, IsOpen, generation_at, Counts, Holds, behind_gate}
+use Rattle.pf_snap.specs.Banks.{IsSize, bank_size, AreBanks, Content, begun, IsVersion, header, records_start, HasHeader, HasSnapshot, HasBank, IsOpen, generation_at, Counts, Holds, bank_after_gate}
 
 -- ---- generations
 
@@ -77,8 +77,8 @@ same_bank old c set at content image out has =
     let start = records_start at content.snapshot in
     let end = at + bank_size (length old) in
     let fits = has.front.header.fits in
-    let behind : take (end - start) (drop start c) ≡ take (end - start) (drop start old) = slice_same (end - start) start old c set image (λ i from to. out i (omega arith) (omega (arith, fits))) in
-    let same : region start (at + bank_size (length c)) c ≡ region start end old = ap (λ (k : ℕ). take (at + bank_size k - start) (drop start c)) image.same_length ∙ behind in
+    let after_gate : take (end - start) (drop start c) ≡ take (end - start) (drop start old) = slice_same (end - start) start old c set image (λ i from to. out i (omega arith) (omega (arith, fits))) in
+    let same : region start (at + bank_size (length c)) c ≡ region start end old = ap (λ (k : ℕ). take (at + bank_size k - start) (drop start c)) image.same_length ∙ after_gate in
     record {
       front = same_front old c set at content.version content.generation content.snapshot image (λ i from to. out i from (omega (arith, to, fits))) has.front;
       records = subst (λ (l : List ℕ). AreRecords l content.payloads) (sym same) has.records;
@@ -88,7 +88,7 @@ same_bank old c set at content image out has =
 
 -- an open gate, and these bytes after it
 pub new_bank : (c : List ℕ) (at version g : ℕ) (s : List ℕ) → IsVersion version → g < 2 ^ 64 → at < length c → 24 + length s + 1 ≤ bank_size (length c) → get_or c at 0 ≡ 165
-    → take (24 + length s) (drop (at + 1) c) ≡ behind_gate version g s → HasBank c at (begun version g s)
+    → take (24 + length s) (drop (at + 1) c) ≡ bank_after_gate version g s → HasBank c at (begun version g s)
 new_bank c at version g s known small inside fits gate there =
     let n = length s in
     let tail = drop (24 + n) (drop (at + 1) c) in
@@ -96,7 +96,7 @@ new_bank c at version g s known small inside fits gate there =
     drop_more c at 0 inside ∙ ap (λ (b : ℕ). b ∷ drop (at + 1) c) gate
     ∙ ap (λ (l : List ℕ). 165 ∷ l) (sym (take-append-drop (24 + n) (drop (at + 1) c)) ∙ ap (λ (l : List ℕ). l ++ tail) there) in
     let rest : drop (at + 24) c ≡ s ++ 0 ∷ tail = sym (drop-drop 24 at c) ∙ ap (drop 24) whole ∙ append_assoc s (0 ∷ []) tail in
-    let behind_it : drop (at + 24 + n) c ≡ 0 ∷ tail = sym (drop-drop n (at + 24) c) ∙ ap (drop n) rest ∙ drop_at s (0 ∷ tail) n refl in
+    let after_it : drop (at + 24 + n) c ≡ 0 ∷ tail = sym (drop-drop n (at + 24) c) ∙ ap (drop n) rest ∙ drop_at s (0 ∷ tail) n refl in
     let same : at + 24 + n - (at + 24) ≡ n = omega arith in
     let k = at + bank_size (length c) - (at + 24 + n) - 1 in
     let more : at + bank_size (length c) - (at + 24 + n) ≡ suc k = omega (arith, fits) in
@@ -108,7 +108,7 @@ new_bank c at version g s known small inside fits gate there =
       records = record {
         gate = 0;
         tail = take k tail;
-        split = ap (λ (i : ℕ). take i (drop (at + 24 + n) c)) more ∙ ap (take (suc k)) behind_it;
+        split = ap (λ (i : ℕ). take i (drop (at + 24 + n) c)) more ∙ ap (take (suc k)) after_it;
         closed = λ is. absurd (omega (arith, is));
         short = tt;
       };

@@ -3,7 +3,7 @@ ghost use Rattle.std.specs.Prelude.{◌≡◌, ◌↔◌, ◌+◌, ◌^◌, ◌<
 ghost use Rattle.std.specs.Prelude.{MatchResult, if◌then◌else◌};
 ghost use Rattle.pf_disk.specs.{Disk.IsSynced, Runs.{MayWrite, WritesNothing}};
 ghost use Rattle.pf_journal.specs.{Faults.is_append_fault, Journal.IsOf, Records.counted, declared.journal.TheConstants.CLOSED_GATE};
-ghost use Rattle.pf_snap.specs.Banks.{bank_size, behind_gate, Content, with_payload, switched, Holds, HoldsAt};
+ghost use Rattle.pf_snap.specs.Banks.{bank_size, bank_after_gate, Content, with_payload, switched, Holds};
 ghost use Rattle.pf_snap.specs.{Ready.{IsReady, IsNext, IsOfAppend, IsOfSwitch, IsSameBank, IsTurned, Keeps}, Looked.{IsFound, content_of}};
 ghost use Rattle.pf_snap.specs.Faults.{IsRefused, is_fault, is_switch_fault};
 ghost use Rattle.pf_snap.specs.declared.fault.LookFault.TheVariants as looking;
@@ -62,7 +62,7 @@ impl<D: Disk> Banks<D> {
     }
 
     /// Makes the bank that a switch to this snapshot begins, with all the memory that it needs. `AllocError`: out of memory.
-    pub fn prepare(&self, alloc: Global, snapshot: &[u8]) -> Result<NextBank, AllocError>
+    pub fn make_next(&self, alloc: Global, snapshot: &[u8]) -> Result<NextBank, AllocError>
         requires fits { BANK_HEADER + length snapshot.now + 1 < 2 ^ 32 }
         requires early { self.now.generation + 1 < 2 ^ 64 }
         ensures { IfOk result (λ next. IsNext self.now.generation next snapshot.now) }
@@ -77,7 +77,7 @@ impl<D: Disk> Banks<D> {
     /// ready. After an `Err` they have to be opened again.
     pub fn begin(&mut self, next: &NextBank) -> Result<(), DiskFault>
         requires ready { IsReady D.seen D.unsynced self.old }
-        requires long { length next.now.behind.items ≡ BANK_HEADER + next.now.length }
+        requires long { length next.now.after_gate.items ≡ BANK_HEADER + next.now.length }
         requires fits { BANK_HEADER + next.now.length + 1 ≤ bank_size (length (D.seen self.old.journal.disk)) }
         requires early { self.old.generation + 1 < 2 ^ 64 }
         requires few { D.fault_count self.old.journal.disk < 2 ^ 63 }
@@ -85,7 +85,7 @@ impl<D: Disk> Banks<D> {
         // At each moment of the call an image differs from the read before only in the other bank, and holds what it held, or the new
         // snapshot and no payload; so does the read after it.
         ensures writes { MayWrite D.Disk self.old.journal.disk self.new.journal.disk (if self.old.other_is_open then 6 else 4) (is_err result)
-            (IsOfSwitch D.seen self.old next.now.behind.items) }
+            (IsOfSwitch D.seen self.old next.now.after_gate.items) }
 
         // After `Ok` the read holds the snapshot, and so does each image, as nothing is unsynced.
         ensures kept { OnOk result ((content : Content) (snapshot : List ℕ) → Keeps D.seen self.old content
@@ -98,7 +98,7 @@ impl<D: Disk> Banks<D> {
             &mut self.journal.disk,
             self.other,
             self.other_is_open,
-            &next.behind,
+            &next.after_gate,
         )?;
         let size = self.journal.end - self.at;
         let other = self.at;
@@ -123,7 +123,7 @@ impl<D: Disk> Banks<D> {
         // At each moment of the call an image differs from the read before only in the other bank, and holds what it held, or this snapshot
         // and no payload; so does the read after it.
         ensures writes { MayWrite D.Disk self.old.journal.disk self.new.journal.disk (if self.old.other_is_open then 6 else 4)
-            (is_switch_fault result) (IsOfSwitch D.seen self.old (behind_gate NEWEST (self.old.generation + 1) snapshot.now)) }
+            (is_switch_fault result) (IsOfSwitch D.seen self.old (bank_after_gate NEWEST (self.old.generation + 1) snapshot.now)) }
 
         // After `Ok` the read holds the snapshot, and so does each image, as nothing is unsynced.
         ensures kept { OnOk result ((content : Content) → Keeps D.seen self.old content
@@ -133,7 +133,7 @@ impl<D: Disk> Banks<D> {
         ensures same_generation { OnErr result (self.new.generation ≡ self.old.generation) }
         ensures refused { OnErr result (is_switch_fault result ≡ false → self.new ≡ self.old) }
     {
-        let next = self.prepare(alloc, snapshot)?;
+        let next = self.make_next(alloc, snapshot)?;
         match self.begin(&next) {
             Ok(()) => Ok(()),
             Err(_) => Err(SwitchFault::Fault),
@@ -174,14 +174,14 @@ impl<D: Disk> Banks<D> {
     /// to be opened again.
     pub fn append_record(&mut self, next: &Record) -> Result<(), DiskFault>
         requires ready { IsReady D.seen D.unsynced self.old }
-        requires room { self.old.journal.gate + 1 + length next.now.behind.items ≤ self.old.journal.end }
-        requires some { 0 < length next.now.behind.items }
+        requires room { self.old.journal.gate + 1 + length next.now.after_gate.items ≤ self.old.journal.end }
+        requires some { 0 < length next.now.after_gate.items }
         requires few { D.fault_count self.old.journal.disk < 2 ^ 63 }
 
         // At each moment of the call an image differs from the read before only from the gate to the next one, and holds what it held, or
         // that with the record's payload; so does the read after it.
         ensures writes { MayWrite D.Disk self.old.journal.disk self.new.journal.disk 4 (is_err result)
-            (IsOfAppend D.seen self.old next.now.behind.items) }
+            (IsOfAppend D.seen self.old next.now.after_gate.items) }
 
         // After `Ok` the read has the payload, and so has each image, as nothing is unsynced.
         ensures kept { OnOk result ((content : Content) (payload : List ℕ) → Keeps D.seen self.old content → IsOf payload next.now
@@ -189,7 +189,7 @@ impl<D: Disk> Banks<D> {
         ensures ready { OnOk result (IsReady D.seen D.unsynced self.new) }
 
         ensures same_bank { IsSameBank self.old self.new }
-        ensures gate { MatchResult result (λ _. self.new.journal.gate ≡ self.old.journal.gate + length next.now.behind.items)
+        ensures gate { MatchResult result (λ _. self.new.journal.gate ≡ self.old.journal.gate + length next.now.after_gate.items)
             (λ _. self.new.journal.gate ≡ self.old.journal.gate) }
     {
         self.journal.append_record(next)
@@ -198,10 +198,8 @@ impl<D: Disk> Banks<D> {
     // The banks that a look found on this device. They are usable only if it holds something.
     fn found_on(disk: D, looked: &Looked) -> Banks<D>
         requires found { IsFound (D.seen disk) looked.now }
-        ensures keeps { HoldsAt looked.now.at looked.now.other (D.seen disk) (content_of looked.now)
-            → Keeps D.seen result (content_of looked.now) }
-        ensures ready { IsSynced (D.unsynced disk) → HoldsAt looked.now.at looked.now.other (D.seen disk) (content_of looked.now)
-            → IsReady D.seen D.unsynced result }
+        ensures keeps { looked.now.broken ≡ false → Keeps D.seen result (content_of looked.now) }
+        ensures ready { IsSynced (D.unsynced disk) → looked.now.broken ≡ false → IsReady D.seen D.unsynced result }
         ensures disk { result.journal.disk ≡ disk }
     {
         let size = disk.size() / 2;

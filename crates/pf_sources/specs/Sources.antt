@@ -3,7 +3,7 @@ use Rattle.std.specs.Prelude.{ℕ, ◌+◌, List, [], ◌++◌, map, Result, Ok,
 use Rattle.pf_form.specs.Form.Forms.{◌>>=◌}
 use Rattle.pf_table.specs.Entries.{PlainEntry}
 use Rattle.pf_tokens.specs.declared.{place.Place.Place, token.Token.Token, files.File.File}
-use Rattle.pf_tokens.specs.declared.fault.Stop.{Stop as TokenStop}
+use Rattle.pf_tokens.specs.declared.fault.TokenStop.{TokenStop}
 use Rattle.pf_tokens.specs.{Places.text_of, Files.text_of_file}
 use Rattle.pf_parse.specs.declared.{fault.Stop.Stop, tree.Entry.Entry, tree.Entries.Entries, tree.Entries.TheVariants.{Listed, File as FromFile}}
 use Rattle.pf_parse.specs.{Stops.stop_of, Entries.{file_entries, onto}}

@@ -177,10 +177,10 @@ no_dues = record { sorted = tt; lists = λ d. sym (none_by (not (d.expiry == 0))
 
 none_held : (es : List PlainState) (s : PlainState) → T (is_sorted name_order (es ++ s ∷ [])) → held_at s.0 es ≡ None
 none_held [] s is = refl
-none_held (e ∷ es) s is = rw (behind es (first_of _ _ is)) (none_held es s (second_of _ _ is)) where
-  behind : (fs : List PlainState) → T (below_all name_order e.0 (fs ++ s ∷ [])) → name_order s.0 e.0 ≡ Greater
-  behind [] low = name_total.antisymm s.0 e.0 ∙ ap ordering_reverse (less_of _ (first_of _ _ low))
-  behind (f ∷ fs) low = behind fs (second_of _ _ low)
+none_held (e ∷ es) s is = rw (following es (first_of _ _ is)) (none_held es s (second_of _ _ is)) where
+  following : (fs : List PlainState) → T (below_all name_order e.0 (fs ++ s ∷ [])) → name_order s.0 e.0 ≡ Greater
+  following [] low = name_total.antisymm s.0 e.0 ∙ ap ordering_reverse (less_of _ (first_of _ _ low))
+  following (f ∷ fs) low = following fs (second_of _ _ low)
 
 pub dues_last : (es : List PlainState) (ds : PlainDues) (s : PlainState) → T (is_sorted name_order (es ++ s ∷ [])) → AreDues es ds → AreDues (es ++ s ∷ []) (with_place ds s)
 dues_last es ds s sorted is =

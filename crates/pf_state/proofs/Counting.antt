@@ -68,9 +68,7 @@ inserts c = c.inserted + (c.replaced + (c.stale + c.clash))
 
 one_each : (j : Insertion) → inserts (one_insertion j) ≡ 1
 one_each Stale = refl
-one_each Clash = refl
-one_each Replaced = refl
-one_each New = refl
+one_each j = refl
 
 pub step_counts : (es : List PlainState) (x : StateStep) → inserts (counted es x) ≡ cond (is_insert x) 1 0
 unfolding counted

@@ -2,7 +2,7 @@
 use Rattle.std.proofs.{Common.{◌≡◌, ◌<◌, ◌≤◌, ℕ, zero, suc, List, [], ◌∷◌, ◌++◌, length, map, take, drop, refl, sym, subst, ap, ◌∙◌, arith}, lemmas.List.{length-take, length-drop, length-map, take-append-drop}}
 use Rattle.std.specs.{Simd.first_chunks, Slice.Iter.chunk_count}
 use Rattle.pf_state.specs.{Peer.Written.Each, States.PlainState, Failover.Outgoing.{exported_insert, exported_message, parts}, Laws.Failover.{AreFullButLast, AreParts, CutsIntoParts, IsExported, ExportsMessages}}
-use Rattle.pf_state.proofs.ExportParts.{next_part, told_long}
+use Rattle.pf_state.proofs.ExportParts.{next_part, export_long}
 
 -- what holds for no states, and for states if it holds for those after their first part, holds for all states with their parts
 pub by_parts : (P : List PlainState → List (List PlainState) → Type 0) → P [] []
@@ -47,7 +47,7 @@ is_exported current p some few = record {
   one_group = refl;
   some = omega (arith, some, length-map p (exported_insert current));
   few = omega (arith, few, length-map p (exported_insert current));
-  fits = omega (arith, few, told_long current p);
+  fits = omega (arith, few, export_long current p);
 }
 
 pub exports_messages : ExportsMessages

@@ -12,13 +12,13 @@ inserts_long [] = refl
 inserts_long (x ∷ xs) = omega (arith, insert_long x, inserts_long xs, length-append (insert_bytes x) (flat_map insert_bytes xs))
 
 -- a header, a group's header, and 64 bytes for each state
-pub told_long : (current : List ℕ) (es : List PlainState) → message_length (exported_message current es) ≡ 24 + 64 * length es
-told_long current es =
+pub export_long : (current : List ℕ) (es : List PlainState) → message_length (exported_message current es) ≡ 24 + 64 * length es
+export_long current es =
     let xs = map (exported_insert current) es in
     omega (arith, inserts_long xs, length-map es (exported_insert current), length-append (flat_map insert_bytes xs) [], ap (λ (l : List ℕ). length l) (append-nil (flat_map insert_bytes xs)))
 
-pub told_fits : (current : List ℕ) (es : List PlainState) → length es ≤ EXPORT_RECORDS → message_length (exported_message current es) ≤ 65535
-told_fits current es few = omega (arith, told_long current es)
+pub export_fits : (current : List ℕ) (es : List PlainState) → length es ≤ EXPORT_RECORDS → message_length (exported_message current es) ≤ 65535
+export_fits current es few = omega (arith, export_long current es)
 
 -- ---- one part after the other
 
@@ -35,30 +35,30 @@ no_part es none = rw none refl
 
 -- ---- the loop over them
 
-front_is : (part behind : List PlainState) → length part ≡ min 31 (length (part ++ behind)) → take 31 (part ++ behind) ≡ part
+front_is : (part following : List PlainState) → length part ≡ min 31 (length (part ++ following)) → take 31 (part ++ following) ≡ part
 front_is part [] e = rw append-nil (take_all 31 part (omega (arith, e)))
-front_is part (s ∷ behind) e = take_at part (s ∷ behind) 31 (omega (arith, e, length-append part (s ∷ behind)))
+front_is part (s ∷ following) e = take_at part (s ∷ following) 31 (omega (arith, e, length-append part (s ∷ following)))
 
-back_is : (part behind : List PlainState) → length part ≡ min 31 (length (part ++ behind)) → drop 31 (part ++ behind) ≡ behind
+back_is : (part following : List PlainState) → length part ≡ min 31 (length (part ++ following)) → drop 31 (part ++ following) ≡ following
 back_is part [] e = rw append-nil (drop_all 31 part (omega (arith, e)))
-back_is part (s ∷ behind) e = drop_at part (s ∷ behind) 31 (omega (arith, e, length-append part (s ∷ behind)))
+back_is part (s ∷ following) e = drop_at part (s ∷ following) 31 (omega (arith, e, length-append part (s ∷ following)))
 
-cut_off : (part behind : List PlainState) → 0 < length (part ++ behind) → length part ≡ min 31 (length (part ++ behind)) → parts (part ++ behind) ≡ part ∷ parts behind
-cut_off part behind some long = next_part (part ++ behind) some
-    ∙ ap (λ (p : List PlainState). p ∷ parts (drop 31 (part ++ behind))) (front_is part behind long) ∙ ap (λ (b : List PlainState). part ∷ parts b) (back_is part behind long)
+cut_off : (part following : List PlainState) → 0 < length (part ++ following) → length part ≡ min 31 (length (part ++ following)) → parts (part ++ following) ≡ part ∷ parts following
+cut_off part following some long = next_part (part ++ following) some
+    ∙ ap (λ (p : List PlainState). p ∷ parts (drop 31 (part ++ following))) (front_is part following long) ∙ ap (λ (b : List PlainState). part ∷ parts b) (back_is part following long)
 
-front_part : (rest part behind : List PlainState) → rest ≡ part ++ behind → length part ≡ min 31 (length rest) → 0 < length rest
-    → parts rest ≡ part ∷ parts behind
-front_part rest part behind split long some =
+front_part : (rest part following : List PlainState) → rest ≡ part ++ following → length part ≡ min 31 (length rest) → 0 < length rest
+    → parts rest ≡ part ∷ parts following
+front_part rest part following split long some =
     let so_long = subst (λ (l : List PlainState). length part ≡ min 31 (length l)) split long in
-    ap parts split ∙ cut_off part behind (subst (λ (l : List PlainState). 0 < length l) split some) so_long
+    ap parts split ∙ cut_off part following (subst (λ (l : List PlainState). 0 < length l) split some) so_long
 
-pub one_more_part : (current : List ℕ) (rest part behind : List PlainState) (before more all : List (List ℕ)) (bytes : List ℕ)
-    → rest ≡ part ++ behind → length part ≡ min 31 (length rest) → 0 < length rest → bytes ≡ message_bytes (exported_message current part) → more ≡ before ++ bytes ∷ []
-    → before ++ map message_bytes (exported_messages current rest) ≡ all → more ++ map message_bytes (exported_messages current behind) ≡ all
-one_more_part current rest part behind before more all bytes split long some written grown so =
-    let cut = front_part rest part behind split long some in
-    let now : before ++ (message_bytes (exported_message current part) ∷ map message_bytes (exported_messages current behind)) ≡ all =
+pub one_more_part : (current : List ℕ) (rest part following : List PlainState) (before more all : List (List ℕ)) (bytes : List ℕ)
+    → rest ≡ part ++ following → length part ≡ min 31 (length rest) → 0 < length rest → bytes ≡ message_bytes (exported_message current part) → more ≡ before ++ bytes ∷ []
+    → before ++ map message_bytes (exported_messages current rest) ≡ all → more ++ map message_bytes (exported_messages current following) ≡ all
+one_more_part current rest part following before more all bytes split long some written grown so =
+    let cut = front_part rest part following split long some in
+    let now : before ++ (message_bytes (exported_message current part) ∷ map message_bytes (exported_messages current following)) ≡ all =
     ap (λ (ps : List (List PlainState)). before ++ map message_bytes (map (exported_message current) ps)) (sym cut) ∙ so in
     rw (grown, append_assoc, written) now
 
@@ -74,11 +74,11 @@ abbrev pub IsRead : List ℕ → List PlainState → Type 0
 IsRead current part = IsMessage (message_bytes (exported_message current part)) (exported_message current part)
 
 -- if those of what follows a part are, and the part's is, all are
-pub one_read_more : (current : List ℕ) (rest part behind : List PlainState) (bytes : List ℕ) (All : Type 0)
-    → rest ≡ part ++ behind → length part ≡ min 31 (length rest) → 0 < length rest → bytes ≡ message_bytes (exported_message current part)
-    → IsMessage bytes (exported_message current part) → (Each (IsRead current) (parts rest) → All) → Each (IsRead current) (parts behind) → All
-one_read_more current rest part behind bytes All split long some written is so are =
-    so (rw (front_part rest part behind split long some) (rw written at is, are))
+pub one_read_more : (current : List ℕ) (rest part following : List PlainState) (bytes : List ℕ) (All : Type 0)
+    → rest ≡ part ++ following → length part ≡ min 31 (length rest) → 0 < length rest → bytes ≡ message_bytes (exported_message current part)
+    → IsMessage bytes (exported_message current part) → (Each (IsRead current) (parts rest) → All) → Each (IsRead current) (parts following) → All
+one_read_more current rest part following bytes All split long some written is so are =
+    so (rw (front_part rest part following split long some) (rw written at is, are))
 
 pub all_read : (current : List ℕ) (rest : List PlainState) (All : Type 0) → length rest ≡ 0 → (Each (IsRead current) (parts rest) → All) → All
 all_read current rest All none so = so (rw (no_part rest none) tt)
@@ -97,18 +97,18 @@ read_in_turn current (p ∷ ps) each = (
 
 -- ---- a part is taken one state after the other
 
-pub taken_one : (told : ℕ) (part rest : List PlainState) (s : PlainState) (behind all : List PlainState) → told < 31 → rest ≡ s ∷ behind
-    → part ++ take (31 - told) rest ≡ all → (part ++ s ∷ []) ++ take (31 - (told + 1)) behind ≡ all
-taken_one told part rest s behind all more split so =
-    let one : 31 - told ≡ suc (31 - (told + 1)) = omega arith in
-    append_assoc part (s ∷ []) (take (31 - (told + 1)) behind)
-    ∙ ap (λ (n : ℕ). part ++ take n (s ∷ behind)) (sym one) ∙ ap (λ (l : List PlainState). part ++ take (31 - told) l) (sym split) ∙ so
+pub taken_one : (reported : ℕ) (part rest : List PlainState) (s : PlainState) (following all : List PlainState) → reported < 31 → rest ≡ s ∷ following
+    → part ++ take (31 - reported) rest ≡ all → (part ++ s ∷ []) ++ take (31 - (reported + 1)) following ≡ all
+taken_one reported part rest s following all more split so =
+    let one : 31 - reported ≡ suc (31 - (reported + 1)) = omega arith in
+    append_assoc part (s ∷ []) (take (31 - (reported + 1)) following)
+    ∙ ap (λ (n : ℕ). part ++ take n (s ∷ following)) (sym one) ∙ ap (λ (l : List PlainState). part ++ take (31 - reported) l) (sym split) ∙ so
 
-pub dropped_one : (told : ℕ) (rest : List PlainState) (s : PlainState) (behind left : List PlainState) → told < 31 → rest ≡ s ∷ behind
-    → drop (31 - told) rest ≡ left → drop (31 - (told + 1)) behind ≡ left
-dropped_one told rest s behind left more split so =
-    let one : 31 - told ≡ suc (31 - (told + 1)) = omega arith in
-    ap (λ (n : ℕ). drop n (s ∷ behind)) (sym one) ∙ ap (λ (l : List PlainState). drop (31 - told) l) (sym split) ∙ so
+pub dropped_one : (reported : ℕ) (rest : List PlainState) (s : PlainState) (following left : List PlainState) → reported < 31 → rest ≡ s ∷ following
+    → drop (31 - reported) rest ≡ left → drop (31 - (reported + 1)) following ≡ left
+dropped_one reported rest s following left more split so =
+    let one : 31 - reported ≡ suc (31 - (reported + 1)) = omega arith in
+    ap (λ (n : ℕ). drop n (s ∷ following)) (sym one) ∙ ap (λ (l : List PlainState). drop (31 - reported) l) (sym split) ∙ so
 
 -- if none is left
 pub all_taken : (n : ℕ) (part rest all : List PlainState) → rest ≡ [] → part ++ take n rest ≡ all → part ≡ all
@@ -140,6 +140,6 @@ pub counted_on : (rest : List PlainState) (message count : ℕ) → 0 < length r
     → chunk_count (length (drop 31 rest)) 31 + (message + 1) ≡ count
 counted_on rest message count some is =
     let one = one_part_more (length rest) some in
-    let behind = length-drop 31 rest in
-    let later : chunk_count (length (drop 31 rest)) 31 ≡ chunk_count (length rest - 31) 31 = ap (λ (n : ℕ). chunk_count n 31) behind in
+    let following = length-drop 31 rest in
+    let later : chunk_count (length (drop 31 rest)) 31 ≡ chunk_count (length rest - 31) 31 = ap (λ (n : ℕ). chunk_count n 31) following in
     omega (arith, one, later, is)

@@ -2,10 +2,10 @@
 use Rattle.std.proofs.{Common.{◌≡◌, ℕ, List, [], ◌∷◌, ◌++◌, take, drop, Option, Some, None, Result, Ok, Err, inr, refl, sym, subst, append_assoc}, lemmas.List.{append-nil, take-append-drop}}
 use Rattle.pf_state.specs.{declared.{peer.message.Message.Message, peer.fault.PeerFault.PeerFault}, Peer.Streams.{Ending, Unfinished, Faulty, Reads, Ends, IsUnfinished, IsFaulty}, Peer.Outcomes.ending, Peer.Messages.{IsMessage, IsJudged}}
 
-pub one_more_message : (bytes rest front behind : List ℕ) (ms : List Message) (m : Message)
-    → ((ns : List Message) (e : Ending) → Reads rest ns e → Reads bytes (ms ++ ns) e) → rest ≡ front ++ behind → IsMessage front m
-    → (ns : List Message) (e : Ending) → Reads behind ns e → Reads bytes ((ms ++ m ∷ []) ++ ns) e
-one_more_message bytes rest front behind ms m so split is ns e read = subst (λ (l : List Message). Reads bytes l e) (sym (append_assoc ms (m ∷ []) ns)) (so (m ∷ ns) e (front, behind, split, is, read))
+pub one_more_message : (bytes rest front following : List ℕ) (ms : List Message) (m : Message)
+    → ((ns : List Message) (e : Ending) → Reads rest ns e → Reads bytes (ms ++ ns) e) → rest ≡ front ++ following → IsMessage front m
+    → (ns : List Message) (e : Ending) → Reads following ns e → Reads bytes ((ms ++ m ∷ []) ++ ns) e
+one_more_message bytes rest front following ms m so split is ns e read = subst (λ (l : List Message). Reads bytes l e) (sym (append_assoc ms (m ∷ []) ns)) (so (m ∷ ns) e (front, following, split, is, read))
 
 -- nothing more is read: what is left ends like this
 pub end_here : (bytes rest : List ℕ) (ms : List Message) (e : Ending) → ((ns : List Message) (d : Ending) → Reads rest ns d → Reads bytes (ms ++ ns) d) → Ends rest e → Reads bytes ms e
@@ -20,11 +20,11 @@ pub faulty_here : (bytes rest left : List ℕ) (ms ns : List Message) (fault : O
 faulty_here bytes rest left ms ns fault f so same some is = rw (same, some) (end_here bytes rest ms (Faulty f) so is)
 
 -- what comes before a place and what comes from it on
-pub cut_at : (rest front behind : List ℕ) (size : ℕ) → front ≡ take size rest → behind ≡ drop size rest → rest ≡ front ++ behind
-cut_at rest front behind size p q = rw (p, q) (sym (take-append-drop size rest))
+pub cut_at : (rest front following : List ℕ) (size : ℕ) → front ≡ take size rest → following ≡ drop size rest → rest ≡ front ++ following
+cut_at rest front following size p q = rw (p, q) (sym (take-append-drop size rest))
 
-pub begins_broken : (rest front behind : List ℕ) (f : PeerFault) (r : Result Message PeerFault) → rest ≡ front ++ behind → IsJudged front r → r ≡ Err f → IsFaulty rest f
-begins_broken rest front behind f r split is err = inr (record { front = front; behind = behind; split = split; broken = subst (λ (x : Result Message PeerFault). IsJudged front x) err is })
+pub begins_broken : (rest front following : List ℕ) (f : PeerFault) (r : Result Message PeerFault) → rest ≡ front ++ following → IsJudged front r → r ≡ Err f → IsFaulty rest f
+begins_broken rest front following f r split is err = inr (record { front = front; following = following; split = split; broken = subst (λ (x : Result Message PeerFault). IsJudged front x) err is })
 
 pub judged_message : (front : List ℕ) (m : Message) (r : Result Message PeerFault) → IsJudged front r → r ≡ Ok m → IsMessage front m
 judged_message front m r is ok = subst (λ (x : Result Message PeerFault). IsJudged front x) ok is

@@ -4,7 +4,7 @@ use Rattle.std.specs.{Prelude.◌==◌, FinMap.{is_sorted}, FinMap.Entries.{is_s
 use Rattle.pf_map.specs.Indexes.{of_flow, is_clash as clashes_in}
 use Rattle.pf_map.proofs.Maps.{stays_sorted}
 use Rattle.pf_state.specs.{declared.{state.Held.Held, state.StateName.StateName}, FlowKeys.{key_of, key_order}, Flows.{PlainFlow, same_flow}, Orders.{name_total, name_alike, key_total}, States.{PlainState, name_order, held_at, state_of, NamesFlows}, Steps.{insertion, has_effect, is_clash, without_creator, without_state}}
-use Rattle.pf_state.proofs.{FlowKeys.same_flow_is, Flows.either_true, Leaves.{reads_delete, reads_clear}, Names.{one_name, same_itself}, Tables.{no, nothing_is, no_clash, others_differ, none_behind, one_state_a_flow}}
+use Rattle.pf_state.proofs.{FlowKeys.same_flow_is, Flows.either_true, Leaves.{reads_delete, reads_clear}, Names.{one_name, same_itself}, Tables.{no, nothing_is, no_clash, others_differ, none_after, one_state_a_flow}}
 use Rattle.pf_map.proofs.Tests.{first_of, second_of}
 
 -- ---- what is held, and the state of a flow
@@ -27,10 +27,10 @@ record Clashing (es : List PlainState) (s : PlainState) : Type 0 where
   pub flow : same_flow with.1.flow s.1.flow ≡ true
 
 -- what is held stays so with one more state in front
-held_behind : (e : PlainState) (es : List PlainState) (n : StateName) (h : Held) → T (is_sorted name_order (e ∷ es)) → held_at n es ≡ Some h → held_at n (e ∷ es) ≡ Some h
-held_behind e es n h is held = by (eq_by_cmp name_order n e.0) refl where
+held_after : (e : PlainState) (es : List PlainState) (n : StateName) (h : Held) → T (is_sorted name_order (e ∷ es)) → held_at n es ≡ Some h → held_at n (e ∷ es) ≡ Some h
+held_after e es n h is held = by (eq_by_cmp name_order n e.0) refl where
   by : (t : Bool) → eq_by_cmp name_order n e.0 ≡ t → cond t (Some e.1) (held_at n es) ≡ Some h
-  by true same = nothing_is h (sym (none_behind e.0 es (first_of _ _ is)) ∙ subst (λ n. held_at n es ≡ Some h) (one_name n e.0 same) held)
+  by true same = nothing_is h (sym (none_after e.0 es (first_of _ _ is)) ∙ subst (λ n. held_at n es ≡ Some h) (one_name n e.0 same) held)
   by false same = held
 
 clashing : (es : List PlainState) (s : PlainState) → T (is_sorted name_order es) → is_clash es s ≡ true → Clashing es s
@@ -43,9 +43,9 @@ clashing (e ∷ es) s is found = by (either_true (not (eq_by_cmp name_order e.0 
     other = not_true _ (and_parts _ _ here).0;
     flow = (and_parts _ _ here).1;
   }
-  by (inr behind) next =
-      let rest = next behind in
-      record { with = rest.with; held = held_behind e es rest.with.0 rest.with.1 is rest.held; other = rest.other; flow = rest.flow }
+  by (inr following) next =
+      let rest = next following in
+      record { with = rest.with; held = held_after e es rest.with.0 rest.with.1 is rest.held; other = rest.other; flow = rest.flow }
 
 pub clash_is : (es : List PlainState) (s : PlainState) → NamesFlows es → clashes_in name_order key_order (λ held. key_of held.flow) es s ≡ is_clash es s
 clash_is es s is = ap (λ (r : Option PlainState). option_map_or (λ e. not (eq_by_cmp name_order e.0 s.0)) r false) (of_flow_is es s.1.flow) ∙ by (is_clash es s) refl (state_of s.1.flow es) refl where
@@ -83,7 +83,7 @@ clearing_one es creator e rest left is his = record {
   by : (q : StateName) (b : Bool) → eq_by_cmp name_order q e.0 ≡ b → cond b None (cond (q.creator == creator) (cond b (Some e.1) (held_at q rest)) (held_at q es)) ≡ cond (q.creator == creator) (held_at q rest) (held_at q es)
   by q true same =
       let of_him : (q.creator == creator) ≡ true = ap (λ (n : StateName). n.creator == creator) (one_name q e.0 same) ∙ his in
-      let gone : held_at q rest ≡ None = ap (λ (n : StateName). held_at n rest) (one_name q e.0 same) ∙ none_behind e.0 rest (first_of _ _ is.rest_sorted) in
+      let gone : held_at q rest ≡ None = ap (λ (n : StateName). held_at n rest) (one_name q e.0 same) ∙ none_after e.0 rest (first_of _ _ is.rest_sorted) in
       sym (ap (λ (b : Bool). cond b (held_at q rest) (held_at q es)) of_him ∙ gone)
   by q false other = refl
 

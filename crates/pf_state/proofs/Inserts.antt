@@ -6,11 +6,11 @@ use Rattle.pf_form.specs.{declared.bytes.fault.Undecoded.Undecoded, Bytes.{Forms
 use Rattle.pf_form.specs.declared.bytes.fault.Undecoded.TheVariants as undecoded
 use Rattle.pf_addr.specs.declared.addr.Family.TheVariants as family
 use Rattle.pf_rule.specs.declared.{value.direction.Direction.Direction, value.direction.Direction.TheVariants.In, value.direction.Direction.TheVariants.Out}
-use Rattle.pf_state.specs.{Flows.IsFlow, Layouts.Flows.{direction_form, family_form, protocol_form, ports_form, flow_form}, Laws.Layouts.flow_fits, Peer.Records.{PlainInsert, IsInsert, told_flow, insert_form, plain_insert, insert_in, insert_from, insert_of, insert_bytes, Says}}
+use Rattle.pf_state.specs.{Flows.IsFlow, Layouts.Flows.{direction_form, family_form, protocol_form, ports_form, flow_form}, Laws.Layouts.flow_fits, Peer.Records.{PlainInsert, IsInsert, inserted_flow, insert_form, plain_insert, insert_in, insert_from, insert_of, insert_bytes, Says}}
 use Rattle.pf_state.proofs.LayoutsBack.{flow_back}
 
 pub insert_back : (i : PlainInsert) → insert_in (plain_insert i) ≡ i
-insert_back i = λ k. let f = flow_back (told_flow i) k in record {
+insert_back i = λ k. let f = flow_back (inserted_flow i) k in record {
   id = i.id;
   creator = i.creator;
   generation = i.generation;
@@ -24,7 +24,7 @@ insert_back i = λ k. let f = flow_back (told_flow i) k in record {
   anchor = i.anchor;
 }
 
-flow_is : (i : PlainInsert) → IsInsert i → IsFlow (told_flow i)
+flow_is : (i : PlainInsert) → IsInsert i → IsFlow (inserted_flow i)
 flow_is i is = record {
   protocol = is.protocol;
   addresses = (is.source, is.destination);
@@ -35,7 +35,7 @@ flow_is i is = record {
 
 pub insert_fits : (i : PlainInsert) → IsInsert i → Fits insert_form (plain_insert i)
 unfolding insert_form
-insert_fits i is = (is.id, (is.creator, (is.generation, (flow_fits (told_flow i) (flow_is i is), (is.rule, is.anchor)))))
+insert_fits i is = (is.id, (is.creator, (is.generation, (flow_fits (inserted_flow i) (flow_is i is), (is.rule, is.anchor)))))
 
 -- ---- its bytes
 
@@ -79,16 +79,16 @@ pushed_insert i out new is e = e ∙ onto_is insert_form (plain_insert i) out �
 
 -- ---- reading
 
-told : (i : PlainInsert) (bytes : List ℕ) → Spells insert_form (plain_insert i) bytes → insert_of bytes ≡ Some i
+reported : (i : PlainInsert) (bytes : List ℕ) → Spells insert_form (plain_insert i) bytes → insert_of bytes ≡ Some i
 unfolding insert_of
-told i bytes spells = rw (only insert_form bytes (plain_insert i) spells) (ap (λ (j : PlainInsert). Some j) (insert_back i))
+reported i bytes spells = rw (only insert_form bytes (plain_insert i) spells) (ap (λ (j : PlainInsert). Some j) (insert_back i))
 
 pub insert_again : (i : PlainInsert) → IsInsert i → insert_of (insert_bytes i) ≡ Some i
-insert_again i is = told i (insert_bytes i) (insert_spelled i is)
+insert_again i is = reported i (insert_bytes i) (insert_spelled i is)
 
 pub says_insert : (bytes : List ℕ) (r : Result PlainInsert Undecoded) → Bytes bytes → IfOk r (λ i. Spells insert_form (plain_insert i) bytes) → IfErr r (λ e. IfFault e (Refused insert_form bytes))
     → Says r (insert_of bytes)
 unfolding insert_of
-says_insert bytes (Ok i) are spells refused = told i bytes spells
+says_insert bytes (Ok i) are spells refused = reported i bytes spells
 says_insert bytes (Err undecoded.Memory) are spells refused = tt
 says_insert bytes (Err (undecoded.Fault d)) are spells refused = ap insert_from (refused_only insert_form bytes d are refused)

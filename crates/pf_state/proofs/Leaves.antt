@@ -3,7 +3,7 @@ use Rattle.std.proofs.Common.{◌≡◌, ℕ, Bool, true, false, not, ◌&&◌, 
 use Rattle.std.specs.{Prelude.◌==◌, FinMap.Entries.find-where_key, Ordering.eq_by_cmp}
 use Rattle.pf_map.specs.Maps.{with_value}
 use Rattle.pf_map.proofs.Maps.{replaces_the_key}
-use Rattle.pf_state.specs.{Orders.{name_total, name_alike}, declared.{state.Held.Held, state.StateName.StateName, step.StateStep.StateStep, step.StateStep.TheVariants.Insert, step.StateStep.TheVariants.Delete, step.StateStep.TheVariants.Clear}, States.{PlainState, name_order, held_at}, Steps.{insertion, has_effect, without_creator, without_state, stepped}, Laws.States.{KeepsWhatIsThere, StepsRead, left_by, left_behind, LastStepStands}}
+use Rattle.pf_state.specs.{Orders.{name_total, name_alike}, declared.{state.Held.Held, state.StateName.StateName, step.StateStep.StateStep, step.StateStep.TheVariants.Insert, step.StateStep.TheVariants.Delete, step.StateStep.TheVariants.Clear}, States.{PlainState, name_order, held_at}, Steps.{insertion, has_effect, without_creator, without_state, stepped}, Laws.States.{KeepsWhatIsThere, StepsRead, left_by, left_after_all, LastStepStands}}
 
 unless : {X : Type 0} (b : Bool) (x : Option X) → cond (not b) x None ≡ cond b None x
 unless true x = refl
@@ -43,4 +43,4 @@ keeps_what_is_there es s e = ap (λ b. cond b (with_value name_order es s.0 (Som
 
 pub last_step_stands : LastStepStands
 last_step_stands es [] q = refl
-last_step_stands es (x ∷ xs) q = last_step_stands (stepped es x) xs q ∙ ap (left_behind (stepped es x) xs q) (reads_step es x q)
+last_step_stands es (x ∷ xs) q = last_step_stands (stepped es x) xs q ∙ ap (left_after_all (stepped es x) xs q) (reads_step es x q)

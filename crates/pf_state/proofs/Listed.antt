@@ -1,5 +1,5 @@
 -- The ids that a batch lists of some creators are those of all their states, after each step too; and who takes these out clears.
-use Rattle.std.proofs.{Common.{◌≡◌, ℕ, ◌+◌, ◌<◌, ◌≤◌, ◌⊎◌, inl, inr, Bool, true, false, ◌&&◌, ◌||◌, cond, T, List, [], ◌∷◌, ◌++◌, Option, Some, None, option_map, take, get_or, length, refl, sym, ap, ◌∙◌, subst}, lemmas.{Bool.{eqb-true, eq-eqb}, List.take_all, List.Folds.{list_any-append, list_any_more}}}
+use Rattle.std.proofs.{Common.{◌≡◌, ℕ, ◌+◌, ◌<◌, ◌≤◌, ◌⊎◌, inr, Bool, true, false, ◌&&◌, ◌||◌, cond, T, List, [], ◌∷◌, ◌++◌, Option, Some, None, option_map, take, get_or, length, refl, sym, ap, ◌∙◌, subst}, lemmas.{Bool.{eqb-true, eq-eqb}, List.take_all, List.Folds.{list_any-append, list_any_more}}}
 use Rattle.std.specs.{Prelude.◌==◌, FinMap.is_sorted, FinMap.Entries.{is_sorted-where_key, same_entries}, Option.unwrap_or, Ordering.eq_by_cmp}
 use Rattle.pf_map.proofs.Maps.{stays_sorted}
 use Rattle.pf_state.specs.{declared.{ids.Ids.Ids, state.Held.Held, state.StateName.StateName, step.StateStep.TheVariants.Insert, step.StateStep.TheVariants.Delete}, Ids.{ids_of, with_name, emptied, is_id, HasAll, ListsAll}, Orders.{name_total, name_alike}, States.{PlainState, name_order, held_at}, Steps.{has_effect, insertion, without_creator, without_state, stepped}}
@@ -66,34 +66,6 @@ pub record Listing (es rest : List PlainState) (ids : Ids) : Type 0 where
 
 pub listing_begun : (es : List PlainState) (ids : Ids) → Listing es es ids
 listing_begun es ids = record { lists = λ q held listed there is. inr there }
-
-pub listing_one : (es : List PlainState) (e : PlainState) (rest : List PlainState) (old new : Ids) → Listing es (e ∷ rest) old → ((creator : ℕ) → ids_of new creator ≡ with_name old e.0 creator) → Listing es rest new
-listing_one es e rest old new is added = record { lists = λ q held listed there has. by q held listed has (before old new e.0 added q.creator listed has) (is.lists q held) there } where
-  by : (q : StateName) (held : Held) (listed : List ℕ) → ids_of new q.creator ≡ Some listed → Before (ids_of old q.creator) (q.creator == e.0.creator) e.0.id listed
-      → ((l : List ℕ) → held_at q es ≡ Some held → ids_of old q.creator ≡ Some l → (is_id q l ≡ true) ⊎ (held_at q (e ∷ rest) ≡ Some held))
-      → held_at q es ≡ Some held → (is_id q listed ≡ true) ⊎ (held_at q rest ≡ Some held)
-  by q held listed has b earlier there = found (earlier b.old there b.was) where
-    here : (t : Bool) → eq_by_cmp name_order q e.0 ≡ t → cond t (Some e.1) (held_at q rest) ≡ Some held → (is_id q listed ≡ true) ⊎ (held_at q rest ≡ Some held)
-    here true one is_first =
-        let same : q ≡ e.0 = one_name q e.0 one in
-        let his : (q.creator == e.0.creator) ≡ true = eq-eqb q.creator e.0.creator (ap (λ (m : StateName). m.creator) same) in
-        let listed_is : listed ≡ b.old ++ e.0.id ∷ [] = b.now ∙ ap (λ (t : Bool). cond t (b.old ++ e.0.id ∷ []) b.old) his in
-        let last : is_id q (b.old ++ e.0.id ∷ []) ≡ true = subst (λ (m : StateName). is_id m (b.old ++ e.0.id ∷ []) ≡ true) (sym same) (id_is_last e.0 b.old) in
-        inl (ap (is_id q) listed_is ∙ last)
-    here false other later = inr later
-
-    found : (is_id q b.old ≡ true) ⊎ (held_at q (e ∷ rest) ≡ Some held) → (is_id q listed ≡ true) ⊎ (held_at q rest ≡ Some held)
-    found (inl before_that) = inl (ap (is_id q) b.now ∙ still q (q.creator == e.0.creator) b.old e.0.id before_that)
-    found (inr to_come) = here (eq_by_cmp name_order q e.0) refl to_come
-
-pub listing_all : (es : List PlainState) (ids : Ids) → Listing es [] ids → ListsAll es ids
-listing_all es ids is = record { lists = λ creator listed has. record { all = λ q held there his. by q held creator listed there has (eqb-true q.creator creator his) } } where
-  done : (q : StateName) (held : Held) (listed : List ℕ) → (is_id q listed ≡ true) ⊎ (held_at q [] ≡ Some held) → is_id q listed ≡ true
-  done q held listed (inl listed_now) = listed_now
-  done q held listed (inr to_come) = nothing_is held to_come
-
-  by : (q : StateName) (held : Held) (creator : ℕ) (listed : List ℕ) → held_at q es ≡ Some held → ids_of ids creator ≡ Some listed → q.creator ≡ creator → is_id q listed ≡ true
-  by q held creator listed there has his = done q held listed (is.lists q held listed there (ap (ids_of ids) his ∙ has))
 
 -- ---- after a step
 

@@ -10,7 +10,7 @@ one_answer bytes r s p q =
 
 -- a stream that is one message is that message's bytes
 alone : (bytes : List ℕ) (m n : Message) → Reads bytes (n ∷ []) (Unfinished []) → ◌≡◌ {A = Result Message OneFault} (Ok m) (Ok n) → IsMessage bytes m
-alone bytes m n (front, behind, split, is, ends) same =
+alone bytes m n (front, following, split, is, ends) same =
     let whole : bytes ≡ front = split ∙ rw ends.0 (append-nil front) in
     let one : m ≡ n = cc in
     rw (whole, one) is

@@ -1,6 +1,6 @@
 -- A stream has one reading.
 use Rattle.std.proofs.{Common.{◌≡◌, ℕ, List, [], ◌∷◌, ◌++◌, length, take, drop, Result, Ok, Err, inl, inr, refl, sym, ap, ◌∙◌, subst, length-append, arith}, lemmas.List.{take_at, drop_at}}
-use Rattle.pf_state.specs.{declared.{peer.fault.PeerFault.PeerFault, peer.message.Group.Group, peer.message.Message.Message}, Peer.Groups.{group_at, AreGroups, BreakBehind}, Peer.Messages.{IsWhole, IsMessage, IsBroken}, Peer.Streams.{Ending, Unfinished, Faulty, Reads, Ends, IsUnfinished, IsFaulty, IsBadHeader, HasBadVersion, HasShortLength}}
+use Rattle.pf_state.specs.{declared.{peer.fault.PeerFault.PeerFault, peer.message.Group.Group, peer.message.Message.Message}, Peer.Groups.{group_at, AreGroups, BreakAfterGroups}, Peer.Messages.{IsWhole, IsMessage, IsBroken}, Peer.Streams.{Ending, Unfinished, Faulty, Reads, Ends, IsUnfinished, IsFaulty, IsBadHeader, HasBadVersion, HasShortLength}}
 use Rattle.pf_rule.specs.Bytes.{number_at}
 
 -- ---- groups
@@ -23,15 +23,15 @@ groups_one bytes (g ∷ gs) (h ∷ hs) p q =
     let later = groups_one q.1 gs hs (subst (λ (l : List ℕ). AreGroups l gs) (ap (λ (x : Group × List ℕ). x.1) same) p.3) q.3 in
     rw (ap (λ (x : Group × List ℕ). x.0) same, later) refl
 
-breaks_one : (bytes : List ℕ) (gs hs : List Group) (e f : PeerFault) → BreakBehind gs bytes e → BreakBehind hs bytes f → e ≡ f
+breaks_one : (bytes : List ℕ) (gs hs : List Group) (e f : PeerFault) → BreakAfterGroups gs bytes e → BreakAfterGroups hs bytes f → e ≡ f
 breaks_one bytes [] [] e f p q = err_one (group_at bytes) e f p.1 q.1
 breaks_one bytes [] (h ∷ hs) e f p q = absurd (not_both (group_at bytes) (h, q.1) e q.2 p.1)
 breaks_one bytes (g ∷ gs) [] e f p q = absurd (not_both (group_at bytes) (g, p.1) f p.2 q.1)
 breaks_one bytes (g ∷ gs) (h ∷ hs) e f p q =
     let same = ok_one (group_at bytes) (g, p.1) (h, q.1) p.2 q.2 in
-    breaks_one q.1 gs hs e f (subst (λ (l : List ℕ). BreakBehind gs l e) (ap (λ (x : Group × List ℕ). x.1) same) p.3) q.3
+    breaks_one q.1 gs hs e f (subst (λ (l : List ℕ). BreakAfterGroups gs l e) (ap (λ (x : Group × List ℕ). x.1) same) p.3) q.3
 
-good_or_bad : (bytes : List ℕ) (gs hs : List Group) (f : PeerFault) → AreGroups bytes gs → BreakBehind hs bytes f → ⊥
+good_or_bad : (bytes : List ℕ) (gs hs : List Group) (f : PeerFault) → AreGroups bytes gs → BreakAfterGroups hs bytes f → ⊥
 good_or_bad bytes [] [] f p q = q.0 p
 good_or_bad bytes [] (h ∷ hs) f p q = q.0 p
 good_or_bad bytes (g ∷ gs) [] f p q = not_both (group_at bytes) (g, p.1) f p.2 q.1
@@ -42,13 +42,10 @@ good_or_bad bytes (g ∷ gs) (h ∷ hs) f p q =
 -- ---- one message at the front
 
 -- its length is in its front, whatever follows
-length_in : (front behind : List ℕ) → IsWhole front → number_at 2 2 (front ++ behind) ≡ length front
+length_in : (front following : List ℕ) → IsWhole front → number_at 2 2 (front ++ following) ≡ length front
 unfolding number_at
-length_in [] behind is = absurd (omega (arith, is.enough))
-length_in (v ∷ []) behind is = absurd (omega (arith, is.enough))
-length_in (v ∷ z ∷ []) behind is = absurd (omega (arith, is.enough))
-length_in (v ∷ z ∷ a ∷ []) behind is = absurd (omega (arith, is.enough))
-length_in (v ∷ z ∷ a ∷ b ∷ front) behind is = is.measured
+length_in (v ∷ z ∷ a ∷ b ∷ front) following is = is.measured
+length_in front following is = absurd (omega (arith, is.enough))
 
 -- two whole messages at the front of a stream are the same
 front_one : (a x b y : List ℕ) → a ++ x ≡ b ++ y → IsWhole a → IsWhole b → (a ≡ b) × (x ≡ y)
@@ -60,24 +57,18 @@ message_one : (bytes : List ℕ) (m n : Message) → IsMessage bytes m → IsMes
 message_one bytes m n p q = rw (p.checksum, q.checksum, groups_one _ _ _ p.groups q.groups) refl
 
 -- a whole message isn't unfinished
-not_unfinished : (front behind : List ℕ) → IsWhole front → IsUnfinished (front ++ behind) → ⊥
+not_unfinished : (front following : List ℕ) → IsWhole front → IsUnfinished (front ++ following) → ⊥
 unfolding number_at
-not_unfinished [] behind is un = absurd (omega (arith, is.enough))
-not_unfinished (v ∷ []) behind is un = absurd (omega (arith, is.enough))
-not_unfinished (v ∷ z ∷ []) behind is un = absurd (omega (arith, is.enough))
-not_unfinished (v ∷ z ∷ a ∷ []) behind is un = absurd (omega (arith, is.enough))
-not_unfinished (v ∷ z ∷ a ∷ b ∷ front) behind is un = omega (arith, un.3, is.measured, length-append front behind)
+not_unfinished (v ∷ z ∷ a ∷ b ∷ front) following is un = omega (arith, un.3, is.measured, length-append front following)
+not_unfinished front following is un = absurd (omega (arith, is.enough))
 
 -- nor is its header bad
-not_bad_header : (front behind : List ℕ) (f : PeerFault) → IsWhole front → IsBadHeader (front ++ behind) f → ⊥
+not_bad_header : (front following : List ℕ) (f : PeerFault) → IsWhole front → IsBadHeader (front ++ following) f → ⊥
 unfolding number_at
-not_bad_header [] behind f is bad = absurd (omega (arith, is.enough))
-not_bad_header (v ∷ []) behind f is bad = absurd (omega (arith, is.enough))
-not_bad_header (v ∷ z ∷ []) behind f is bad = absurd (omega (arith, is.enough))
-not_bad_header (v ∷ z ∷ a ∷ []) behind f is bad = absurd (omega (arith, is.enough))
-not_bad_header (v ∷ z ∷ a ∷ b ∷ front) behind f is (inl (same, inl differs)) = differs is.version
-not_bad_header (v ∷ z ∷ a ∷ b ∷ front) behind f is (inl (same, inr differs)) = differs.1 is.zero
-not_bad_header (v ∷ z ∷ a ∷ b ∷ front) behind f is (inr short) = omega (arith, short.1.2, is.measured, is.enough)
+not_bad_header (v ∷ z ∷ a ∷ b ∷ front) following f is (inl (same, inl differs)) = differs is.version
+not_bad_header (v ∷ z ∷ a ∷ b ∷ front) following f is (inl (same, inr differs)) = differs.1 is.zero
+not_bad_header (v ∷ z ∷ a ∷ b ∷ front) following f is (inr short) = omega (arith, short.1.2, is.measured, is.enough)
+not_bad_header front following f is bad = absurd (omega (arith, is.enough))
 
 -- a header isn't both bad and unfinished
 header_apart : (bytes : List ℕ) (f : PeerFault) → IsUnfinished bytes → IsBadHeader bytes f → ⊥
@@ -97,12 +88,9 @@ header_apart (v ∷ z ∷ a ∷ b ∷ bytes) f un (inr h) = omega (arith, h.1.2,
 
 -- a bad version and a short length exclude each other
 version_or_length : (bytes : List ℕ) → HasBadVersion bytes → HasShortLength bytes → ⊥
-version_or_length [] p q = elim q [ ]
-version_or_length (v ∷ []) p q = elim q [ ]
-version_or_length (v ∷ z ∷ []) p q = elim q [ ]
-version_or_length (v ∷ z ∷ a ∷ []) p q = elim q [ ]
 version_or_length (v ∷ z ∷ a ∷ b ∷ bytes) (inl differs) q = differs q.0
 version_or_length (v ∷ z ∷ a ∷ b ∷ bytes) (inr differs) q = differs.1 q.1
+version_or_length bytes p q = elim q [ ]
 
 header_one : (bytes : List ℕ) (e f : PeerFault) → IsBadHeader bytes e → IsBadHeader bytes f → e ≡ f
 header_one bytes e f (inl p) (inl q) = p.0 ∙ sym q.0
@@ -112,16 +100,16 @@ header_one bytes e f (inr p) (inr q) = p.0 ∙ sym q.0
 
 faulty_one : (bytes : List ℕ) (e f : PeerFault) → IsFaulty bytes e → IsFaulty bytes f → e ≡ f
 faulty_one bytes e f (inl p) (inl q) = header_one bytes e f p q
-faulty_one bytes e f (inl p) (inr q) = absurd (not_bad_header q.front q.behind e q.broken.whole (subst (λ (l : List ℕ). IsBadHeader l e) q.split p))
-faulty_one bytes e f (inr p) (inl q) = absurd (not_bad_header p.front p.behind f p.broken.whole (subst (λ (l : List ℕ). IsBadHeader l f) p.split q))
+faulty_one bytes e f (inl p) (inr q) = absurd (not_bad_header q.front q.following e q.broken.whole (subst (λ (l : List ℕ). IsBadHeader l e) q.split p))
+faulty_one bytes e f (inr p) (inl q) = absurd (not_bad_header p.front p.following f p.broken.whole (subst (λ (l : List ℕ). IsBadHeader l f) p.split q))
 faulty_one bytes e f (inr p) (inr q) =
-    let same = front_one p.front p.behind q.front q.behind (sym p.split ∙ q.split) p.broken.whole q.broken.whole in
+    let same = front_one p.front p.following q.front q.following (sym p.split ∙ q.split) p.broken.whole q.broken.whole in
     let broken = subst (λ (l : List ℕ). IsBroken l e) same.0 p.broken in
     breaks_one _ broken.before q.broken.before e f broken.breaks q.broken.breaks
 
 not_faulty : (bytes : List ℕ) (f : PeerFault) → IsUnfinished bytes → IsFaulty bytes f → ⊥
 not_faulty bytes f un (inl p) = header_apart bytes f un p
-not_faulty bytes f un (inr p) = not_unfinished p.front p.behind p.broken.whole (subst IsUnfinished p.split un)
+not_faulty bytes f un (inr p) = not_unfinished p.front p.following p.broken.whole (subst IsUnfinished p.split un)
 
 ends_one : (bytes : List ℕ) (d e : Ending) → Ends bytes d → Ends bytes e → d ≡ e
 ends_one bytes (Unfinished r) (Unfinished s) p q = ap (λ (l : List ℕ). Unfinished l) (sym p.0 ∙ q.0)
@@ -130,11 +118,11 @@ ends_one bytes (Faulty e) (Unfinished s) p q = absurd (not_faulty bytes e q.1 p)
 ends_one bytes (Faulty e) (Faulty f) p q = ap (λ (x : PeerFault). Faulty x) (faulty_one bytes e f p q)
 
 -- at a message a stream doesn't end
-not_ended : (bytes front behind : List ℕ) (m : Message) (e : Ending) → bytes ≡ front ++ behind → IsMessage front m → Ends bytes e → ⊥
-not_ended bytes front behind m (Unfinished r) split is p = not_unfinished front behind is.whole (subst IsUnfinished split p.1)
-not_ended bytes front behind m (Faulty f) split is (inl p) = not_bad_header front behind f is.whole (subst (λ (l : List ℕ). IsBadHeader l f) split p)
-not_ended bytes front behind m (Faulty f) split is (inr p) =
-    let same = front_one front behind p.front p.behind (sym split ∙ p.split) is.whole p.broken.whole in
+not_ended : (bytes front following : List ℕ) (m : Message) (e : Ending) → bytes ≡ front ++ following → IsMessage front m → Ends bytes e → ⊥
+not_ended bytes front following m (Unfinished r) split is p = not_unfinished front following is.whole (subst IsUnfinished split p.1)
+not_ended bytes front following m (Faulty f) split is (inl p) = not_bad_header front following f is.whole (subst (λ (l : List ℕ). IsBadHeader l f) split p)
+not_ended bytes front following m (Faulty f) split is (inr p) =
+    let same = front_one front following p.front p.following (sym split ∙ p.split) is.whole p.broken.whole in
     let broken = subst (λ (l : List ℕ). IsBroken l f) (sym same.0) p.broken in
     good_or_bad _ m.groups broken.before f is.groups broken.breaks
 

@@ -10,11 +10,8 @@ version_stays (v ∷ []) (m ∷ more) h = inl h
 version_stays (v ∷ z ∷ bytes) more h = h
 
 length_stays : (bytes more : List ℕ) → HasShortLength bytes → HasShortLength (bytes ++ more)
-length_stays [] more h = elim h [ ]
-length_stays (v ∷ []) more h = elim h [ ]
-length_stays (v ∷ z ∷ []) more h = elim h [ ]
-length_stays (v ∷ z ∷ a ∷ []) more h = elim h [ ]
 length_stays (v ∷ z ∷ a ∷ b ∷ bytes) more h = h
+length_stays bytes more h = elim h [ ]
 
 header_stays : (bytes more : List ℕ) (f : PeerFault) → IsBadHeader bytes f → IsBadHeader (bytes ++ more) f
 header_stays bytes more f (inl h) = inl (h.0, version_stays bytes more h.1)
@@ -23,8 +20,8 @@ header_stays bytes more f (inr h) = inr (h.0, length_stays bytes more h.1)
 broken_stays : (bytes more : List ℕ) (f : PeerFault) → BeginsBroken bytes f → BeginsBroken (bytes ++ more) f
 broken_stays bytes more f h = record {
   front = h.front;
-  behind = h.behind ++ more;
-  split = ap (λ (l : List ℕ). l ++ more) h.split ∙ append_assoc h.front h.behind more;
+  following = h.following ++ more;
+  split = ap (λ (l : List ℕ). l ++ more) h.split ∙ append_assoc h.front h.following more;
   broken = h.broken;
 }
 
@@ -36,16 +33,16 @@ pub fault_stays : (bytes more : List ℕ) (ms : List Message) (f : PeerFault) �
 fault_stays bytes more [] f h = faulty_stays bytes more f h
 fault_stays bytes more (m ∷ ms) f h =
     let front = h.0 in
-    let behind = h.1 in
-    (front, behind ++ more, ap (λ (l : List ℕ). l ++ more) h.2 ∙ append_assoc front behind more, h.3, fault_stays behind more ms f h.4)
+    let following = h.1 in
+    (front, following ++ more, ap (λ (l : List ℕ). l ++ more) h.2 ∙ append_assoc front following more, h.3, fault_stays following more ms f h.4)
 
 -- a reading up to a rest, and one of what follows that rest
 pub reads_join : (bytes rest more : List ℕ) (ms ns : List Message) (e : Ending) → Reads bytes ms (Unfinished rest) → Reads (rest ++ more) ns e → Reads (bytes ++ more) (ms ++ ns) e
 reads_join bytes rest more [] ns e h later = subst (λ (l : List ℕ). Reads (l ++ more) ns e) (sym h.0) later
 reads_join bytes rest more (m ∷ ms) ns e h later =
     let front = h.0 in
-    let behind = h.1 in
-    (front, behind ++ more, ap (λ (l : List ℕ). l ++ more) h.2 ∙ append_assoc front behind more, h.3, reads_join behind rest more ms ns e h.4 later)
+    let following = h.1 in
+    (front, following ++ more, ap (λ (l : List ℕ). l ++ more) h.2 ∙ append_assoc front following more, h.3, reads_join following rest more ms ns e h.4 later)
 
 -- what is kept between two pieces is unfinished
 rest_unfinished : (bytes rest : List ℕ) (ms : List Message) → Reads bytes ms (Unfinished rest) → IsUnfinished rest

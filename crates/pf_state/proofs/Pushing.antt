@@ -1,12 +1,12 @@
 -- Items that are appended to bytes one by one.
 use Rattle.std.proofs.{Common.{◌≡◌, ℕ, true, List, length, map, refl, arith}, lemmas.List.length-map, lemmas.Bool.Decides.nat_tests}
 use Rattle.std.specs.{Prelude.nat_le, List.AllByRecursion}
-use Rattle.pf_form.specs.Bytes.{BasicForms.onto_each, Forms.{Shape, Value, Form, Fits, onto}}
+use Rattle.pf_form.specs.Bytes.{BasicForms.onto_each, Forms.{Shape, Value, ByteForm, Fits, onto}}
 use Rattle.pf_state.specs.{declared.limits.TheConstants.STATE_LIMIT, States.{PlainState, IsStates}, Layouts.{States.{state_form, states_form, plain_state, state_in, plain_states, no_flow_twice}}}
 use Rattle.pf_state.proofs.{LayoutsBack.states_back, Rows.{in_turn, once_each}}
 
 -- Of all the items these are left: once they are appended all are, and all fit if these do.
-pub record Pushing {X : Type 0} {a : Shape} (f : Form a) (plain : X → Value a) (rest all : List X) (begun out : List ℕ) : Type 0 where
+pub record Pushing {X : Type 0} {a : Shape} (f : ByteForm a) (plain : X → Value a) (rest all : List X) (begun out : List ℕ) : Type 0 where
   pub written : onto_each (onto f) (map plain rest) out ≡ onto_each (onto f) (map plain all) begun
   pub fits : AllByRecursion (Fits f) (map plain rest) → AllByRecursion (Fits f) (map plain all)
 

@@ -2,7 +2,7 @@
 use Rattle.std.proofs.{Common.{◌≡◌, ◌<◌, ◌^◌, ℕ, zero, suc, List, [], ◌∷◌, length, map, take, drop, cond, Bool, true, false, arith}, lemmas.List.length-take}
 use Rattle.std.specs.Str.{bytes_eq}
 use Rattle.pf_state.specs.{declared.{peer.message.Message.Message, binding.TheConstants.ALL_ONES, state.Bound.Bound, state.Bound.TheVariants.Rule, state.Bound.TheVariants.Default}, Peer.Messages.IsMessage, Peer.Records.IsInsert, Peer.Written.{Each, message_bytes, CanBeWritten}, Bindings.exported, States.PlainState, Failover.Outgoing.{exported_insert, exported_message, parts}, Laws.Failover.{IsBound, IsState, IsReadBack}}
-use Rattle.pf_state.proofs.{Cut.by_parts, ExportParts.{told_fits, IsRead, read_in_turn}}
+use Rattle.pf_state.proofs.{Cut.by_parts, ExportParts.{export_fits, IsRead, read_in_turn}}
 
 each_take : (n : ℕ) (es : List PlainState) → Each IsState es → Each IsState (take n es)
 each_take zero es each = tt
@@ -45,7 +45,7 @@ can_be_written : (current : List ℕ) (es : List PlainState) → length current 
 can_be_written current es long each = record {
   checksum = long;
   groups = (are_inserts current (take 31 es) (each_take 31 es each), tt);
-  fits = omega (arith, told_fits current (take 31 es) (omega (arith, length-take 31 es)));
+  fits = omega (arith, export_fits current (take 31 es) (omega (arith, length-take 31 es)));
 }
 
 pub read_back : ((m : Message) → CanBeWritten m → IsMessage (message_bytes m) m) → IsReadBack

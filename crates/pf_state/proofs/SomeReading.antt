@@ -1,55 +1,55 @@
 -- All bytes have a reading.
 use Rattle.std.proofs.{Common.{◌≡◌, ◌≢◌, ◌⊎◌, ◌+◌, ◌-◌, ◌*◌, ◌<◌, ◌≤◌, ◌==◌, ◌&&◌, ℕ, zero, suc, Bool, true, false, List, [], ◌∷◌, ◌++◌, length, take, drop, if◌then◌else◌, Result, Ok, Err, inl, inr, refl, sym, ap, subst, length-drop, arith}, lemmas.Bool.{cases_eq, cases_lt}, lemmas.Bool.Decides.nat_tests, lemmas.List.{take-append-drop, length-take-le}}
 use Rattle.std.specs.Prelude.{nat_lt}
-use Rattle.pf_state.specs.{declared.{peer.fault.PeerFault.PeerFault, peer.fault.PeerFault.TheVariants.BadVersion, peer.fault.PeerFault.TheVariants.BadLength, peer.fault.PeerFault.TheVariants.BadAction, peer.fault.OneFault.OneFault, peer.message.Group.Group, peer.message.Message.Message, peer.fields.TheConstants.MESSAGE_VERSION, peer.fields.TheConstants.MESSAGE_HEADER, peer.stream.MessageStart.MessageStart, peer.stream.MessageStart.TheVariants.Partial, peer.stream.MessageStart.TheVariants.Whole, peer.stream.MessageStart.TheVariants.Bad}, Peer.Groups.{group_at, content, is_action, size_at, ◌>>=◌, AreGroups, BreakBehind}, Peer.Messages.{IsWhole, IsJudged}, Peer.Streams.{Ending, Unfinished, Faulty, Reads, IsFront}, Peer.One.{IsOne, one_of}}
+use Rattle.pf_state.specs.{declared.{peer.fault.PeerFault.PeerFault, peer.fault.PeerFault.TheVariants.BadVersion, peer.fault.PeerFault.TheVariants.BadLength, peer.fault.PeerFault.TheVariants.BadAction, peer.fault.OneFault.OneFault, peer.message.Group.Group, peer.message.Message.Message, peer.fields.TheConstants.MESSAGE_VERSION, peer.fields.TheConstants.MESSAGE_HEADER, peer.stream.MessageStart.MessageStart, peer.stream.MessageStart.TheVariants.Partial, peer.stream.MessageStart.TheVariants.Whole, peer.stream.MessageStart.TheVariants.Bad}, Peer.Groups.{group_at, content, is_action, size_at, ◌>>=◌, AreGroups, BreakAfterGroups}, Peer.Messages.{IsWhole, IsJudged}, Peer.Streams.{Ending, Unfinished, Faulty, Reads, IsFront}, Peer.One.{IsOne, one_of}}
 use Rattle.pf_rule.specs.Bytes.{number_at, byte_at}
 
 -- ---- groups
 
 -- some groups to the bytes' end, or some and then a fault
 abbrev Grouped : List ℕ → Type 0
-Grouped bytes = ((gs : List Group) × AreGroups bytes gs) ⊎ ((f : PeerFault) × (before : List Group) × BreakBehind before bytes f)
+Grouped bytes = ((gs : List Group) × AreGroups bytes gs) ⊎ ((f : PeerFault) × (before : List Group) × BreakAfterGroups before bytes f)
 
 -- what is at the front, by its tests
 abbrev by_tests : Bool → Bool → Bool → Result Group PeerFault → List ℕ → Result (Group × List ℕ) PeerFault
-by_tests few acts past read behind = if few then Err BadLength
-    else (if acts then (if past then Err BadLength else (read >>= λ g. Ok (g, behind))) else Err BadAction)
+by_tests few acts past read following = if few then Err BadLength
+    else (if acts then (if past then Err BadLength else (read >>= λ g. Ok (g, following))) else Err BadAction)
 
 -- what follows a group is shorter
-shorter : (bytes behind : List ℕ) (g : Group) → group_at bytes ≡ Ok (g, behind) → length behind < length bytes
+shorter : (bytes following : List ℕ) (g : Group) → group_at bytes ≡ Ok (g, following) → length following < length bytes
 unfolding group_at
-shorter bytes behind g is =
+shorter bytes following g is =
     let acts = is_action (byte_at 0 bytes) && (byte_at 1 bytes == 0) in
     let past = nat_lt (length (drop 4 bytes)) (size_at bytes) in
     by (nat_lt (length bytes) 4) refl acts past (content (byte_at 0 bytes) (number_at 2 2 bytes) (drop 4 bytes)) is
   where
     by : (few : Bool) → nat_lt (length bytes) 4 ≡ few → (acts past : Bool) (read : Result Group PeerFault)
-        → by_tests few acts past read (drop (size_at bytes) (drop 4 bytes)) ≡ Ok (g, behind) → length behind < length bytes
+        → by_tests few acts past read (drop (size_at bytes) (drop 4 bytes)) ≡ Ok (g, following) → length following < length bytes
     by true few acts past read e = absurd cc
     by false few false past read e = absurd cc
     by false few true true read e = absurd cc
     by false few true false (Err f) e = absurd cc
     by false few true false (Ok h) e =
-        let same : ◌≡◌ {A = Group × List ℕ} (h, drop (size_at bytes) (drop 4 bytes)) (g, behind) = cc in
+        let same : ◌≡◌ {A = Group × List ℕ} (h, drop (size_at bytes) (drop 4 bytes)) (g, following) = cc in
         let enough : 4 ≤ length bytes = grind (arith, nat_tests) in
         subst (λ (l : List ℕ). length l < length bytes) (ap (λ (x : Group × List ℕ). x.1) same)
         (omega (arith, length-drop (size_at bytes) (drop 4 bytes), length-drop 4 bytes))
 
-one_more : (bytes behind : List ℕ) (g : Group) → bytes ≢ [] → group_at bytes ≡ Ok (g, behind) → Grouped behind → Grouped bytes
-one_more bytes behind g some is (inl (gs, are)) = inl (g ∷ gs, (some, behind, is, are))
-one_more bytes behind g some is (inr (f, before, breaks)) = inr (f, g ∷ before, (some, behind, is, breaks))
+one_more : (bytes following : List ℕ) (g : Group) → bytes ≢ [] → group_at bytes ≡ Ok (g, following) → Grouped following → Grouped bytes
+one_more bytes following g some is (inl (gs, are)) = inl (g ∷ gs, (some, following, is, are))
+one_more bytes following g some is (inr (f, before, breaks)) = inr (f, g ∷ before, (some, following, is, breaks))
 
 -- by the group at the front, if what follows it is grouped
-by_front : (bytes : List ℕ) → bytes ≢ [] → ((behind : List ℕ) → length behind < length bytes → Grouped behind)
+by_front : (bytes : List ℕ) → bytes ≢ [] → ((following : List ℕ) → length following < length bytes → Grouped following)
     → (r : Result (Group × List ℕ) PeerFault) → group_at bytes ≡ r → Grouped bytes
-by_front bytes some rest (Ok (g, behind)) is = one_more bytes behind g some is (rest behind (shorter bytes behind g is))
+by_front bytes some rest (Ok (g, following)) is = one_more bytes following g some is (rest following (shorter bytes following g is))
 by_front bytes some rest (Err f) is = inr (f, [], (some, is))
 
 grouped_up_to : (n : ℕ) (bytes : List ℕ) → length bytes ≤ n → Grouped bytes
 grouped_up_to n [] few = inl ([], refl)
 grouped_up_to zero (b ∷ bytes) few = absurd (omega (arith, few))
 grouped_up_to (suc n) (b ∷ bytes) few =
-    by_front (b ∷ bytes) (λ e. absurd cc) (λ behind less. grouped_up_to n behind (omega (arith, less, few))) (group_at (b ∷ bytes)) refl
+    by_front (b ∷ bytes) (λ e. absurd cc) (λ following less. grouped_up_to n following (omega (arith, less, few))) (group_at (b ∷ bytes)) refl
 
 -- ---- one message
 
@@ -117,11 +117,11 @@ some_front (v ∷ z ∷ a ∷ b ∷ bytes) =
 abbrev pub SomeReading : List ℕ → Type 0
 SomeReading bytes = (ms : List Message) × (e : Ending) × Reads bytes ms e
 
-read_by : (bytes front behind : List ℕ) → bytes ≡ front ++ behind → (r : Result Message PeerFault) → IsJudged front r
-    → SomeReading behind → SomeReading bytes
-read_by bytes front behind split (Ok m) is rest = (m ∷ rest.0, rest.1, (front, behind, split, is, rest.2))
-read_by bytes front behind split (Err f) is rest =
-    ([], Faulty f, inr (record { front = front; behind = behind; split = split; broken = is }))
+read_by : (bytes front following : List ℕ) → bytes ≡ front ++ following → (r : Result Message PeerFault) → IsJudged front r
+    → SomeReading following → SomeReading bytes
+read_by bytes front following split (Ok m) is rest = (m ∷ rest.0, rest.1, (front, following, split, is, rest.2))
+read_by bytes front following split (Err f) is rest =
+    ([], Faulty f, inr (record { front = front; following = following; split = split; broken = is }))
 
 -- by what is at the front, if what follows a message has a reading
 by_message : (bytes : List ℕ) → ((rest : List ℕ) → length rest < length bytes → SomeReading rest) → SomeFront bytes → SomeReading bytes

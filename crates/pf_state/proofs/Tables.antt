@@ -120,9 +120,9 @@ stays_states es steps = record {
 
 -- ---- the state of a flow
 
-pub none_behind : (n : StateName) (es : List PlainState) → T (below_all name_order n es) → held_at n es ≡ None
-none_behind n [] h = refl
-none_behind n (e ∷ es) h = ap (λ b. cond b (Some e.1) (held_at n es)) (untied_of (name_order n e.0) (first_of _ _ h)) ∙ none_behind n es (second_of _ _ h)
+pub none_after : (n : StateName) (es : List PlainState) → T (below_all name_order n es) → held_at n es ≡ None
+none_after n [] h = refl
+none_after n (e ∷ es) h = ap (λ b. cond b (Some e.1) (held_at n es)) (untied_of (name_order n e.0) (first_of _ _ h)) ∙ none_after n es (second_of _ _ h)
 
 -- what is found is held, and has the flow
 found_is : (es : List PlainState) (f : PlainFlow) (s : PlainState) → T (is_sorted name_order es) → state_of f es ≡ Some s → IsStateOf es f s
@@ -134,10 +134,10 @@ found_is (e ∷ es) f s is found = by (same_flow e.1.flow f) refl found (found_i
       subst (IsStateOf (e ∷ es) f) one (record { held = ap (λ b. cond b (Some e.1) (held_at e.0 es)) (same_itself e.0); flow = has })
   by false has here next =
       let rest = next here in
-      record { held = behind (eq_by_cmp name_order s.0 e.0) refl rest.held; flow = rest.flow } where
-        behind : (t : Bool) → eq_by_cmp name_order s.0 e.0 ≡ t → held_at s.0 es ≡ Some s.1 → cond t (Some e.1) (held_at s.0 es) ≡ Some s.1
-        behind true same held = nothing_is s.1 (sym (none_behind e.0 es (first_of _ _ is)) ∙ subst (λ n. held_at n es ≡ Some s.1) (one_name s.0 e.0 same) held)
-        behind false same held = held
+      record { held = following (eq_by_cmp name_order s.0 e.0) refl rest.held; flow = rest.flow } where
+        following : (t : Bool) → eq_by_cmp name_order s.0 e.0 ≡ t → held_at s.0 es ≡ Some s.1 → cond t (Some e.1) (held_at s.0 es) ≡ Some s.1
+        following true same held = nothing_is s.1 (sym (none_after e.0 es (first_of _ _ is)) ∙ subst (λ n. held_at n es ≡ Some s.1) (one_name s.0 e.0 same) held)
+        following false same held = held
 
 -- if a state has the flow, one is found
 is_found : (es : List PlainState) (f : PlainFlow) (n : StateName) (x : Held) → held_at n es ≡ Some x → same_flow x.flow f ≡ true → is_some (state_of f es) ≡ true

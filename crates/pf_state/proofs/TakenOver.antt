@@ -17,12 +17,12 @@ Apart (e ∷ es) = Each (λ s. Before s e) es × Apart es
 
 -- ---- a state after all others is inserted at the end
 
-pub behind : (s p : PlainState) → name_order p.0 s.0 ≡ Less → name_order s.0 p.0 ≡ Greater
-behind s p less = name_total.antisymm s.0 p.0 ∙ ap ordering_reverse less
+pub comes_after : (s p : PlainState) → name_order p.0 s.0 ≡ Less → name_order s.0 p.0 ≡ Greater
+comes_after s p less = name_total.antisymm s.0 p.0 ∙ ap ordering_reverse less
 
 none_held : (ps : List PlainState) (s : PlainState) → Each (Before s) ps → held_at s.0 ps ≡ None
 none_held [] s each = refl
-none_held (p ∷ ps) s each = ap (λ (r : Ordering). cond (is_eq r) (Some p.1) (held_at s.0 ps)) (behind s p each.0.less) ∙ none_held ps s each.1
+none_held (p ∷ ps) s each = ap (λ (r : Ordering). cond (is_eq r) (Some p.1) (held_at s.0 ps)) (comes_after s p each.0.less) ∙ none_held ps s each.1
 
 none_clashes : (ps : List PlainState) (s : PlainState) → Each (Before s) ps → is_clash ps s ≡ false
 none_clashes [] s each = refl
@@ -31,12 +31,12 @@ none_clashes (p ∷ ps) s each = ap (λ (r : Ordering). (not (is_eq r) && same_f
 
 pub all_kept : (ps : List PlainState) (s : PlainState) → Each (Before s) ps → without name_order ps s.0 ≡ ps
 all_kept [] s each = refl
-all_kept (p ∷ ps) s each = ap (λ (r : Ordering). cond (not (is_eq r)) (p ∷ without name_order ps s.0) (without name_order ps s.0)) (behind s p each.0.less)
+all_kept (p ∷ ps) s each = ap (λ (r : Ordering). cond (not (is_eq r)) (p ∷ without name_order ps s.0) (without name_order ps s.0)) (comes_after s p each.0.less)
     ∙ ap (λ (l : List PlainState). p ∷ l) (all_kept ps s each.1)
 
 pub put_last : (ps : List PlainState) (s : PlainState) → Each (Before s) ps → put name_order s.0 s.1 ps ≡ ps ++ s ∷ []
 put_last [] s each = refl
-put_last (p ∷ ps) s each = rw (behind s p each.0.less) (ap (λ (l : List PlainState). p ∷ l) (put_last ps s each.1))
+put_last (p ∷ ps) s each = rw (comes_after s p each.0.less) (ap (λ (l : List PlainState). p ∷ l) (put_last ps s each.1))
 
 is_new : (ps : List PlainState) (s : PlainState) → Each (Before s) ps → insertion ps s ≡ New
 is_new ps s each = rw (none_held ps s each, none_clashes ps s each) refl
@@ -76,7 +76,7 @@ fits f ps (s ∷ es) apart few =
 held_later : (e : PlainState) (es fs : List PlainState) → T (below_all name_order e.0 fs) → Each (λ s. held_at s.0 es ≡ Some s.1) fs → Each (λ s. held_at s.0 (e ∷ es) ≡ Some s.1) fs
 held_later e es [] low each = tt
 held_later e es (f ∷ fs) low each = (
-  ap (λ (r : Ordering). cond (is_eq r) (Some e.1) (held_at f.0 es)) (behind f e (less_of _ (first_of _ _ low))) ∙ each.0,
+  ap (λ (r : Ordering). cond (is_eq r) (Some e.1) (held_at f.0 es)) (comes_after f e (less_of _ (first_of _ _ low))) ∙ each.0,
   held_later e es fs (second_of (is_lt (name_order e.0 f.0)) _ low) each.1,
 )
 
@@ -117,10 +117,10 @@ module _ (ours theirs : List ℕ) (count : ℕ) where
 pub takes_over : TakesOver
 takes_over ours theirs count es is few =
     let there = state_there ours theirs count in
-    let told = tells_the_states ours theirs count es few in
+    let reported = tells_the_states ours theirs count es few in
     let apart = apart_there ours theirs count es (apart_of es is.names es is.names.sorted (all_held es is.names.sorted)) in
     let short : length (map there es) ≤ STATE_LIMIT = let few = is.few in omega (arith, few, length-map es there) in
     record {
-      left = ap (after []) told ∙ built there [] es apart;
-      fits = ap (passes_limit []) told ∙ fits there [] es apart short;
+      left = ap (after []) reported ∙ built there [] es apart;
+      fits = ap (passes_limit []) reported ∙ fits there [] es apart short;
     }

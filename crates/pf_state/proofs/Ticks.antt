@@ -4,7 +4,7 @@ use Rattle.std.specs.{Prelude.{filter, ◌==◌}, declared.{cmp.Ordering.Orderin
 use Rattle.pf_map.specs.Maps.{with_value}
 use Rattle.pf_map.proofs.Maps.{stays_sorted}
 use Rattle.pf_state.specs.{Orders.name_total, declared.{state.Held.Held, state.StateName.StateName, step.StateStep.StateStep, step.StateStep.TheVariants.Insert, step.StateStep.TheVariants.Delete, step.StateStep.TheVariants.Clear}, Dues.IsDueAt, States.{PlainState, name_order, held_at, NamesFlows, IsStates, stands, all_stand, are_whole, is_whole}, Steps.{insertion, has_effect, without_state, without_due, due_count, inserts_due, any_inserts_due, stepped, after}, Laws.States.{still_held, TicksTakeOutTheDue, StepsLeaveNoneDue}}
-use Rattle.pf_state.proofs.{Names.{one_name}, Tables.{nothing_is, none_behind}}
+use Rattle.pf_state.proofs.{Names.{one_name}, Tables.{nothing_is, none_after}}
 use Rattle.pf_map.proofs.Tests.{first_of, second_of, both_of, untied_of}
 
 -- ---- what is left
@@ -32,7 +32,7 @@ reads_due (e ∷ es) tick q sorted = by (stands tick e.1) refl (eq_by_cmp name_o
   by true is true same rest = rw (same, is) refl
   by true is false other rest = rw other rest
   by false due true same rest =
-      let gone : held_at q (without_due es tick) ≡ None = ap (λ (n : StateName). held_at n (without_due es tick)) (one_name q e.0 same) ∙ none_behind e.0 (without_due es tick) (none_left e.0 es tick (first_of _ _ sorted)) in
+      let gone : held_at q (without_due es tick) ≡ None = ap (λ (n : StateName). held_at n (without_due es tick)) (one_name q e.0 same) ∙ none_after e.0 (without_due es tick) (none_left e.0 es tick (first_of _ _ sorted)) in
       rw due gone
   by false due false other rest = rest
 

@@ -9,7 +9,6 @@
 
 mod fault;
 mod fields;
-mod groups;
 mod insert;
 mod laws;
 mod message;
@@ -17,6 +16,7 @@ mod one;
 mod reader;
 mod record;
 mod stream;
+mod whole;
 mod writing;
 
 pub use fault::{FeedError, OneFault, PeerFault};

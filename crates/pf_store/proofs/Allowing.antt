@@ -12,7 +12,7 @@ use Rattle.pf_core.specs.Durable.Forms.{allows as allows_durable}
 use Rattle.pf_core.specs.declared.durable.change.Item.{Item}
 use Rattle.pf_core.specs.declared.durable.change.Item.TheVariants as item
 use Rattle.pf_snap.specs.declared.header.TheConstants.{NEWEST}
-use Rattle.pf_store.specs.declared.groups.recorded.Recorded.{Recorded, TheVariants.Made as made}
+use Rattle.pf_store.specs.declared.encoding.recorded.Recorded.{Recorded, TheVariants.Made as made}
 use Rattle.pf_store.specs.{Durables.IsDurable, Groups.{ChangeShape, ItemShape, expire_form, change_form, group_form, item_form, item_in, items_form, plain_record, record_in, allows_item, allows_record, allows_group, made_all, IsRecorded}}
 
 -- ---- a rule
@@ -128,10 +128,10 @@ data_allowed version v fits =
 
 pub durable_allowed : (version : ℕ) (d : PlainDurable) (bytes : List ℕ) → IsDurable version d bytes → allows_durable version d ≡ true
 durable_allowed version d bytes is =
-    subst (λ (e : PlainDurable). allows_durable version e ≡ true) (sym is.told) (data_allowed version (plain_durable d) is.spelled.fits)
+    subst (λ (e : PlainDurable). allows_durable version e ≡ true) (sym is.read_back) (data_allowed version (plain_durable d) is.spelled.fits)
 
 pub snapshot_allowed : (version : ℕ) (d : PlainDurable) → durable_in (plain_durable d) ≡ d → Fits (durable_form version) (plain_durable d) → allows_durable version d ≡ true
-snapshot_allowed version d told fits = subst (λ (e : PlainDurable). allows_durable version e ≡ true) told (data_allowed version (plain_durable d) fits)
+snapshot_allowed version d read_back fits = subst (λ (e : PlainDurable). allows_durable version e ≡ true) read_back (data_allowed version (plain_durable d) fits)
 
 -- ---- what is recorded
 
@@ -165,7 +165,7 @@ record_allowed version (inr (inr (inr (inr (inr (inr (inl epoch))))))) fits = re
 record_allowed version (inr (inr (inr (inr (inr (inr (inr tick))))))) fits = expire_allowed (has_expiry version) tick fits.0.0.0.0.0.0.0
 
 pub allowed : (version : ℕ) (r : Recorded) → record_in (plain_record r) ≡ r → Fits (change_form version) (plain_record r) → allows_record version r ≡ true
-allowed version r told fits = subst (λ x. allows_record version x ≡ true) told (record_allowed version (plain_record r) fits)
+allowed version r read_back fits = subst (λ x. allows_record version x ≡ true) read_back (record_allowed version (plain_record r) fits)
 
 each_allowed : (version : ℕ) (vs : List (Value ChangeShape)) → AllByRecursion (Fits (change_form version)) vs → allows_group version (map record_in vs) ≡ true
 each_allowed version [] each = refl
@@ -173,7 +173,7 @@ each_allowed version (v ∷ vs) each = rw (record_allowed version v each.0) (eac
 
 pub group_allowed : (version : ℕ) (rs : List Recorded) → map record_in (map plain_record rs) ≡ rs → Fits (group_form version) (map plain_record rs) → allows_group version rs ≡ true
 unfolding group_form
-group_allowed version rs told fits = subst (λ xs. allows_group version xs ≡ true) told (each_allowed version (map plain_record rs) fits.0.1)
+group_allowed version rs read_back fits = subst (λ xs. allows_group version xs ≡ true) read_back (each_allowed version (map plain_record rs) fits.0.1)
 
 pub recorded_allowed : (version : ℕ) (rs : List Recorded) (payload : List ℕ) → IsRecorded version rs payload → allows_group version rs ≡ true
-recorded_allowed version rs payload is = group_allowed version rs (sym is.told) is.spelled.fits
+recorded_allowed version rs payload is = group_allowed version rs (sym is.read_back) is.spelled.fits

@@ -1,14 +1,14 @@
 -- What is recorded, by the byte of its kind.
 use Rattle.std.proofs.{Common.{◌≡◌, ◌≢◌, ◌<◌, ◌+◌, ℕ, Bool, true, false, List, [], ◌∷◌, length, Ok, Err, inl, inr, refl, subst, arith}, lemmas.Bool.ne_eqb}
 use Rattle.std.specs.Prelude.{if◌then◌else◌}
-use Rattle.pf_form.specs.Bytes.{BasicForms.{◌>>=◌, Read, Reader, begins_otherwise, is_next, seen_as}, Forms.{Shape, nat, list, either, Value, Form, number, or, counted, reads, writes}}
+use Rattle.pf_form.specs.Bytes.{BasicForms.{◌>>=◌, Read, Reader, begins_otherwise, is_next, seen_as}, Forms.{Shape, nat, list, either, Value, ByteForm, number, or, counted, reads, writes}}
 use Rattle.pf_form.specs.declared.bytes.fault.{Fault.Fault, Fault.TheVariants.{Short, Bad}}
 use Rattle.pf_state.specs.Layouts.{States.{NameShape, name_form, has_expiry}, Steps.{StepShape, step_form}}
 use Rattle.pf_store.specs.Groups.{EditShape, ChangeShape, edit_form, expire_form, items_form, change_form, as_commit, as_add, as_delete, as_set, as_steps, as_removal, as_opening, as_tick}
 
 -- ---- a choice by the first byte
 
-here : {a b : Shape} (k : ℕ) (f : Form a) (g : Form b) (before mid : List ℕ) → is_next k before ≡ Ok (true, mid)
+here : {a b : Shape} (k : ℕ) (f : ByteForm a) (g : ByteForm b) (before mid : List ℕ) → is_next k before ≡ Ok (true, mid)
     → reads (or k f g) before ≡ seen_as inl (reads f) mid
 here k f g before mid is = rw is refl
 
@@ -16,7 +16,7 @@ abbrev seen : {A B : Type 0} → (A → B) → Read A → Read B
 seen view r = r >>= λ x. Ok (view x.0, x.1)
 
 -- Another byte comes first, and what is read behind it begins otherwise too.
-past : {a b : Shape} {C : Type 0} (k : ℕ) (f : Form a) (g : Form b) (view : C → Value b) (read : Reader C) (before mid end : List ℕ)
+past : {a b : Shape} {C : Type 0} (k : ℕ) (f : ByteForm a) (g : ByteForm b) (view : C → Value b) (read : Reader C) (before mid end : List ℕ)
     → is_next k before ≡ Ok (false, mid) → ((x : C) (rest : List ℕ) → read end ≡ Ok (x, rest) → begins_otherwise k (writes g (view x)) ≡ true)
     → reads g mid ≡ seen_as view read end → reads (or k f g) before ≡ seen_as {B = Value (either a b)} (λ x. inr (view x)) read end
 past {a = a} {b = b} {C = C} k f g view read before mid end is otherwise later = rw (is, later) (by (read end) refl) where
@@ -27,7 +27,7 @@ past {a = a} {b = b} {C = C} k f g view read before mid end is otherwise later =
   by (Err e) same = refl
   by (Ok x) same = rw (otherwise x.0 x.1 same) refl
 
-refused : {a b : Shape} (k : ℕ) (f : Form a) (g : Form b) (before mid : List ℕ) (e : Fault) → is_next k before ≡ Ok (false, mid) → reads g mid ≡ Err e → reads (or k f g) before ≡ Err e
+refused : {a b : Shape} (k : ℕ) (f : ByteForm a) (g : ByteForm b) (before mid : List ℕ) (e : Fault) → is_next k before ≡ Ok (false, mid) → reads g mid ≡ Err e → reads (or k f g) before ≡ Err e
 refused k f g before mid e is later = rw (is, later) refl
 
 itself : {A : Type 0} (r : Read A) → r ≡ seen (λ x. x) r
@@ -37,28 +37,28 @@ itself (Ok x) = refl
 -- ---- the kinds in turn
 
 -- what is read there is written with another first byte than k
-abbrev Otherwise : {a : Shape} {C : Type 0} → ℕ → Form a → (C → Value a) → Reader C → List ℕ → Type 0
+abbrev Otherwise : {a : Shape} {C : Type 0} → ℕ → ByteForm a → (C → Value a) → Reader C → List ℕ → Type 0
 Otherwise {C = C} k f view read end = (x : C) (rest : List ℕ) → read end ≡ Ok (x, rest) → begins_otherwise k (writes f (view x)) ≡ true
 
 abbrev StepsShape : Shape
 StepsShape = either (list StepShape) (either NameShape (either nat nat))
 
-abbrev since_open : Bool → Form (either nat nat)
+abbrev since_open : Bool → ByteForm (either nat nat)
 since_open has = or 7 (number 4) (expire_form has)
 
-abbrev since_removal : Bool → Form (either NameShape (either nat nat))
+abbrev since_removal : Bool → ByteForm (either NameShape (either nat nat))
 since_removal has = or 6 name_form (since_open has)
 
-abbrev since_steps : ℕ → Bool → Form StepsShape
+abbrev since_steps : ℕ → Bool → ByteForm StepsShape
 since_steps version has = or 5 (counted 4 (step_form version)) (since_removal has)
 
-abbrev since_set : ℕ → Bool → Form (either EditShape StepsShape)
+abbrev since_set : ℕ → Bool → ByteForm (either EditShape StepsShape)
 since_set version has = or 4 edit_form (since_steps version has)
 
-abbrev since_delete : ℕ → Bool → Form (either EditShape (either EditShape StepsShape))
+abbrev since_delete : ℕ → Bool → ByteForm (either EditShape (either EditShape StepsShape))
 since_delete version has = or 3 edit_form (since_set version has)
 
-abbrev since_add : ℕ → Bool → Form (either EditShape (either EditShape (either EditShape StepsShape)))
+abbrev since_add : ℕ → Bool → ByteForm (either EditShape (either EditShape (either EditShape StepsShape)))
 since_add version has = or 2 edit_form (since_delete version has)
 
 -- the tick of a version that has one is behind its kind
@@ -99,30 +99,30 @@ module _ (version : ℕ) where
             (past 3 edit_form (since_set version has) inl (reads edit_form) b2 b3 b4 three (λ x rest is. refl) (here 4 edit_form (since_steps version has) b3 b4 four)))
 
         module _ (b4 : List ℕ) (four : is_next 4 b3 ≡ Ok (false, b4)) where
-          behind_edits : {C : Type 0} (view : C → Value StepsShape) (read : Reader C) (end : List ℕ) → Otherwise 1 (since_steps version has) view read end
+          after_edits : {C : Type 0} (view : C → Value StepsShape) (read : Reader C) (end : List ℕ) → Otherwise 1 (since_steps version has) view read end
               → Otherwise 2 (since_steps version has) view read end → Otherwise 3 (since_steps version has) view read end → Otherwise 4 (since_steps version has) view read end
               → reads (since_steps version has) b4 ≡ seen_as view read end → reads (change_form version) b0 ≡ seen_as {B = Value ChangeShape} (λ x. inr (inr (inr (inr (view x))))) read end
           unfolding change_form
-          behind_edits view read end o1 o2 o3 o4 is =
+          after_edits view read end o1 o2 o3 o4 is =
               past 1 (items_form version) (since_add version has) (λ x. inr (inr (inr (view x)))) read b0 b1 end one o1
               (past 2 edit_form (since_delete version has) (λ x. inr (inr (view x))) read b1 b2 end two o2
               (past 3 edit_form (since_set version has) (λ x. inr (view x)) read b2 b3 end three o3 (past 4 edit_form (since_steps version has) view read b3 b4 end four o4 is)))
 
           steps_read : (b5 : List ℕ) → is_next 5 b4 ≡ Ok (true, b5) → reads (change_form version) b0 ≡ seen_as as_steps (reads (counted 4 (step_form version))) b5
           steps_read b5 five =
-              behind_edits inl (reads (counted 4 (step_form version))) b5 (λ x rest is. refl) (λ x rest is. refl) (λ x rest is. refl) (λ x rest is. refl)
+              after_edits inl (reads (counted 4 (step_form version))) b5 (λ x rest is. refl) (λ x rest is. refl) (λ x rest is. refl) (λ x rest is. refl)
               (here 5 (counted 4 (step_form version)) (since_removal has) b4 b5 five)
 
           module _ (b5 : List ℕ) (five : is_next 5 b4 ≡ Ok (false, b5)) where
             removal_read : (b6 : List ℕ) → is_next 6 b5 ≡ Ok (true, b6) → reads (change_form version) b0 ≡ seen_as as_removal (reads name_form) b6
             removal_read b6 six =
-                behind_edits (λ x. inr (inl x)) (reads name_form) b6 (λ x rest is. refl) (λ x rest is. refl) (λ x rest is. refl) (λ x rest is. refl)
+                after_edits (λ x. inr (inl x)) (reads name_form) b6 (λ x rest is. refl) (λ x rest is. refl) (λ x rest is. refl) (λ x rest is. refl)
                 (past 5 (counted 4 (step_form version)) (since_removal has) inl (reads name_form) b4 b5 b6 five (λ x rest is. refl) (here 6 name_form (since_open has) b5 b6 six))
 
             module _ (b6 : List ℕ) (six : is_next 6 b5 ≡ Ok (false, b6)) where
               opening_read : (b7 : List ℕ) → is_next 7 b6 ≡ Ok (true, b7) → reads (change_form version) b0 ≡ seen_as as_opening (reads (number 4)) b7
               opening_read b7 seven =
-                  behind_edits (λ x. inr (inr (inl x))) (reads (number 4)) b7 (λ x rest is. refl) (λ x rest is. refl) (λ x rest is. refl) (λ x rest is. refl)
+                  after_edits (λ x. inr (inr (inl x))) (reads (number 4)) b7 (λ x rest is. refl) (λ x rest is. refl) (λ x rest is. refl) (λ x rest is. refl)
                   (past 5 (counted 4 (step_form version)) (since_removal has) (λ x. inr (inl x)) (reads (number 4)) b4 b5 b7 five (λ x rest is. refl)
                   (past 6 name_form (since_open has) inl (reads (number 4)) b5 b6 b7 six (λ x rest is. refl) (here 7 (number 4) (expire_form has) b6 b7 seven)))
 
@@ -132,7 +132,7 @@ module _ (version : ℕ) where
                   let read : Reader (Value nat) = reads (expire_form has) in
                   let begins : (k : ℕ) → begins_otherwise k (8 ∷ []) ≡ true → (tick : ℕ) (rest : List ℕ) → read b7 ≡ Ok (tick, rest) → begins_otherwise k (writes (expire_form has) tick) ≡ true =
                   λ k other tick rest is. tick_begins k has b7 rest tick other is in
-                  behind_edits (λ x. inr (inr (inr x))) read b7 (begins 1 refl) (begins 2 refl) (begins 3 refl) (begins 4 refl)
+                  after_edits (λ x. inr (inr (inr x))) read b7 (begins 1 refl) (begins 2 refl) (begins 3 refl) (begins 4 refl)
                   (past 5 (counted 4 (step_form version)) (since_removal has) (λ x. inr (inr x)) read b4 b5 b7 five (begins 5 refl)
                   (past 6 name_form (since_open has) inr read b5 b6 b7 six (begins 6 refl)
                   (past 7 (number 4) (expire_form has) (λ x. x) read b6 b7 b7 seven (begins 7 refl) (itself (read b7)))))

@@ -2,7 +2,7 @@
 use Rattle.std.proofs.{Common.{◌+◌, ◌++◌, ◌*◌, ◌^◌, ◌≡◌, ◌≢◌, ◌≤◌, ◌==◌, ◌&&◌, not, ℕ, Bool, true, false, T, List, [], ◌∷◌, length, map, cond, Some, None, Ok, Err, refl, sym, ap, ◌∙◌, true≢false, arith}, lemmas.{List.length-map, Bool.{and_parts, Decides.nat_tests}, Cmp.{alike_right, tied_itself, nat_list_cmp_total}}}
 use Rattle.std.specs.{Prelude.{nat_le, replicate, if◌then◌else◌}, declared.{cmp.Ordering.Ordering, cmp.Ordering.TheVariants.Less, cmp.Ordering.TheVariants.Equal, cmp.Ordering.TheVariants.Greater}, Cmp.IsTotalOrder, FinMap.{find, is_sorted}, FinMap.Entries.below_all, List.{list_all, AllByRecursion}, Ordering.{is_eq, is_lt, ordering_reverse}}
 use Rattle.pf_addr.specs.Path.Paths.{path_order}
-use Rattle.pf_form.specs.{Bytes.{BasicForms.number_bytes, Forms.{Shape, Value, Form, number, pair, back, that, Fits, Spells, reads, writes, onto}, Lists.{in_order, ordered}}, Laws.Bytes.{Onto.onto_is, Texts.one_value}}
+use Rattle.pf_form.specs.{Bytes.{BasicForms.number_bytes, Forms.{Shape, Value, ByteForm, number, pair, back, that, Fits, Spells, reads, writes, onto}, Lists.{in_order, ordered}}, Laws.Bytes.{Onto.onto_is, Texts.one_value}}
 use Rattle.pf_addr.specs.{NetForms.family, Path.PathForms.{path_form, table_name_form}}
 use Rattle.pf_form.specs.{Bytes.Codes.below, declared.bytes.fault.Fault.TheVariants.Bad}
 use Rattle.pf_anchor.specs.{declared.limits.TheConstants.{RULESET_LIMIT, TABLE_COUNT_LIMIT}, Rulesets.{PlainPlaced, IsMap}, Tables.{PlainPlacedTable, table_order, IsTableMap}}
@@ -18,7 +18,7 @@ use Rattle.pf_store.specs.declared.snapshots.{rulesets.StoredRuleset.StoredRules
 use Rattle.pf_anchor.specs.Forms.{at_most, RulesShape, rules_form, named_form, entries_form, has_some, ruleset_before, are_rulesets, rulesets_form, plain_ruled, PlacedShape, placed_before, are_tables, placed_form, kept_tables_form, plain_tabled, ruled_in, tabled_in, configured}
 use Rattle.pf_core.specs.Durable.Forms.{DurableShape, tick_form, none_is_due, durable_form, plain_durable, durable_in}
 use Rattle.pf_store.specs.{Durables.{durable_has_form, IsDurable, example_kept, example_rest, example_bytes}, Snapshots.{kept_form, zeros_of, empty_form, EndsInSnapshot, KeptShape}}
-use Rattle.pf_store.proofs.RecordedForms.{entries_told}
+use Rattle.pf_store.proofs.RecordedForms.{entries_read_back}
 
 -- ---- lists
 
@@ -41,15 +41,15 @@ seen_in_order before view [] = refl
 seen_in_order before view (x ∷ []) = refl
 seen_in_order before view (x ∷ y ∷ xs) = ap (λ b. before (view x) (view y) && b) (seen_in_order before view (y ∷ xs))
 
-that_read : {a : Shape} (test : Value a → Bool) (f : Form a) (before rest : List ℕ) (x : Value a) → reads f before ≡ Ok (x, rest)
+that_read : {a : Shape} (test : Value a → Bool) (f : ByteForm a) (before rest : List ℕ) (x : Value a) → reads f before ≡ Ok (x, rest)
     → test x ≡ true → reads (that test f) before ≡ Ok (x, rest)
 that_read test f before rest x read is = rw (read, is) refl
 
-that_refused : {a : Shape} (test : Value a → Bool) (f : Form a) (before rest : List ℕ) (x : Value a) → reads f before ≡ Ok (x, rest)
+that_refused : {a : Shape} (test : Value a → Bool) (f : ByteForm a) (before rest : List ℕ) (x : Value a) → reads f before ≡ Ok (x, rest)
     → test x ≡ false → reads (that test f) before ≡ Err (Bad (length before))
 that_refused test f before rest x read is = rw (read, is) refl
 
-pair_read : {a b : Shape} (f : Form a) (g : Form b) (before between rest : List ℕ) (x : Value a) (y : Value b) → reads f before ≡ Ok (x, between)
+pair_read : {a b : Shape} (f : ByteForm a) (g : ByteForm b) (before between rest : List ℕ) (x : Value a) (y : Value b) → reads f before ≡ Ok (x, between)
     → reads g between ≡ Ok (y, rest) → reads (pair f g) before ≡ Ok ((x, y), rest)
 pair_read f g before between rest x y first second = rw (first, second) refl
 
@@ -207,12 +207,12 @@ tables_read rows before rest read is =
 
 -- ---- determined by its data
 
-tables_told : (ts : List PlainPlacedTable) → map tabled_in (map plain_tabled ts) ≡ ts
-tables_told [] = refl
-tables_told (t ∷ ts) = λ i. (t.0, entries_told t.1 i) ∷ tables_told ts i
+tables_read_back : (ts : List PlainPlacedTable) → map tabled_in (map plain_tabled ts) ≡ ts
+tables_read_back [] = refl
+tables_read_back (t ∷ ts) = λ i. (t.0, entries_read_back t.1 i) ∷ tables_read_back ts i
 
-pub durable_told : (d : PlainDurable) → map ruled_in (map plain_ruled d.config.rulesets) ≡ d.config.rulesets → durable_in (plain_durable d) ≡ d
-durable_told d rulesets = λ i. record d { config = configured (rulesets i) (tables_told d.config.tables i); states = states_back d.states i }
+pub durable_read_back : (d : PlainDurable) → map ruled_in (map plain_ruled d.config.rulesets) ≡ d.config.rulesets → durable_in (plain_durable d) ≡ d
+durable_read_back d rulesets = λ i. record d { config = configured (rulesets i) (tables_read_back d.config.tables i); states = states_back d.states i }
 
 -- ---- what has bytes
 
@@ -240,25 +240,25 @@ durable_formless version d bytes none is =
 
 pub durable_spelled : (version : ℕ) (d : PlainDurable) (bytes : List ℕ) → durable_in (plain_durable d) ≡ d → Spells (durable_form version) (plain_durable d) bytes
     → IsDurable version d bytes
-durable_spelled version d bytes told is = record { spelled = is; told = sym told }
+durable_spelled version d bytes read_back is = record { spelled = is; read_back = sym read_back }
 
 -- they are appended to others
 pub ends_in_snapshot : (version : ℕ) (d : PlainDurable) (before bytes : List ℕ) → durable_in (plain_durable d) ≡ d → Fits (durable_form version) (plain_durable d)
     → bytes ≡ onto (durable_form version) (plain_durable d) before → EndsInSnapshot version d before bytes
-ends_in_snapshot version d before bytes told fits is = record {
+ends_in_snapshot version d before bytes read_back fits is = record {
   snapshot = writes (durable_form version) (plain_durable d);
-  written = durable_spelled version d (writes (durable_form version) (plain_durable d)) told (record { fits = fits; written = refl });
-  behind = is ∙ onto_is (durable_form version) (plain_durable d) before;
+  written = durable_spelled version d (writes (durable_form version) (plain_durable d)) read_back (record { fits = fits; written = refl });
+  appended = is ∙ onto_is (durable_form version) (plain_durable d) before;
 }
 
 -- bytes are those of at most one thing kept
 pub one_durable : (version : ℕ) (d e : PlainDurable) (bytes : List ℕ) → IsDurable version d bytes → IsDurable version e bytes → d ≡ e
-one_durable version d e bytes a b = a.told ∙ ap durable_in (one_value (durable_form version) bytes (plain_durable d) (plain_durable e) a.spelled b.spelled) ∙ sym b.told
+one_durable version d e bytes a b = a.read_back ∙ ap durable_in (one_value (durable_form version) bytes (plain_durable d) (plain_durable e) a.spelled b.spelled) ∙ sym b.read_back
 
 -- ---- part by part
 
 -- the form of the parts, by whether there is a tick
-abbrev parts : ℕ → Bool → Form DurableShape
+abbrev parts : ℕ → Bool → ByteForm DurableShape
 parts version has = pair (number 4) (pair (tick_form has) (kept_form version))
 
 parts_read : (version : ℕ) (has : Bool) (b0 b1 b2 rest : List ℕ) (epoch tick : ℕ) (kept : Value KeptShape)
@@ -297,7 +297,7 @@ abbrev nothing_plain : ℕ → Value DurableShape
 nothing_plain epoch = (epoch, (0, ([], ([], []))))
 
 -- the form, by whether there is a tick
-abbrev formed : ℕ → Bool → Form DurableShape
+abbrev formed : ℕ → Bool → ByteForm DurableShape
 formed version has = that none_is_due (parts version has)
 
 -- the tick 0 is allowed by all
@@ -334,7 +334,7 @@ empty_is_nothing version epoch bytes is = record {
     );
     written = is.written ∙ sym (nothing_written version epoch);
   };
-  told = refl;
+  read_back = refl;
 }
 
 -- ---- an example
@@ -377,7 +377,7 @@ example_is version = record {
     );
     written = (example_written version);
   };
-  told = refl;
+  read_back = refl;
 }
 
 zeros_by : (version : ℕ) (has : Bool) → replicate (4 + (if has then 20 else 12)) 0 ≡ writes (formed version has) (nothing_plain 0)
@@ -402,5 +402,5 @@ zeros_are version = record {
     );
     written = zeros_written version;
   };
-  told = refl;
+  read_back = refl;
 }

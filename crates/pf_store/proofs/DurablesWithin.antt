@@ -67,10 +67,10 @@ rules_few_at version vs fits p = listed path_order (λ (rs : List PlainRule). le
 
 -- ---- tables
 
-told_in_order : (es : List (Value EntryShape)) → in_order entry_before es ≡ true → in_order (λ a b. is_lt (net_order a.0 b.0)) (map entry_of es) ≡ true
-told_in_order [] is = refl
-told_in_order (e ∷ []) is = refl
-told_in_order (e ∷ f ∷ es) is = by (entry_before e f) is (told_in_order (f ∷ es)) where
+read_back_in_order : (es : List (Value EntryShape)) → in_order entry_before es ≡ true → in_order (λ a b. is_lt (net_order a.0 b.0)) (map entry_of es) ≡ true
+read_back_in_order [] is = refl
+read_back_in_order (e ∷ []) is = refl
+read_back_in_order (e ∷ f ∷ es) is = by (entry_before e f) is (read_back_in_order (f ∷ es)) where
   by : (b : Bool) → (b && in_order entry_before (f ∷ es)) ≡ true → (in_order entry_before (f ∷ es) ≡ true → in_order (λ a c. is_lt (net_order a.0 c.0)) (map entry_of (f ∷ es)) ≡ true) → (b && in_order (λ a c. is_lt (net_order a.0 c.0)) (map entry_of (f ∷ es))) ≡ true
   by true h rest = rest h
   by false h rest = absurd (cc (h))
@@ -78,7 +78,7 @@ told_in_order (e ∷ f ∷ es) is = by (entry_before e f) is (told_in_order (f �
 pub entries_few : (es : List (Value EntryShape)) → Fits entries_form es → AreEntries (map entry_of es)
 unfolding entries_form
 entries_few es fits = record {
-  sorted = sorted_of net_total (map entry_of es) (told_in_order es fits.0.1);
+  sorted = sorted_of net_total (map entry_of es) (read_back_in_order es fits.0.1);
   few = grind (arith, nat_tests, length-map es entry_of, fits.1);
 }
 
@@ -175,4 +175,4 @@ data_within version v fits = record {
 }
 
 pub durable_within : (version : ℕ) (d : PlainDurable) (bytes : List ℕ) → IsDurable version d bytes → IsWithin d
-durable_within version d bytes is = subst IsWithin (sym is.told) (data_within version (plain_durable d) is.spelled.fits)
+durable_within version d bytes is = subst IsWithin (sym is.read_back) (data_within version (plain_durable d) is.spelled.fits)

@@ -4,11 +4,11 @@ use Rattle.std.specs.Prelude.{Vec, Result, IfErr}
 use Rattle.std.specs.declared.alloc.Global.{Global}
 use Rattle.pf_journal.specs.Records.{contents, counted, records}
 use Rattle.pf_journal.proofs.Gates.{length-counted, length-records-push}
-use Rattle.pf_store.specs.declared.groups.fault.GroupFault.{GroupFault}
-use Rattle.pf_store.specs.declared.groups.fault.GroupFault.TheVariants.{NoForm}
+use Rattle.pf_store.specs.declared.encoding.fault.GroupFault.{GroupFault}
+use Rattle.pf_store.specs.declared.encoding.fault.GroupFault.TheVariants.{NoForm}
 use Rattle.pf_snap.specs.Banks.{Content}
 use Rattle.pf_core.specs.Durable.Changes.{PlainDurable, PlainChange, after, applied}
-use Rattle.pf_store.specs.declared.groups.recorded.Recorded.{Recorded}
+use Rattle.pf_store.specs.declared.encoding.recorded.Recorded.{Recorded}
 use Rattle.pf_store.specs.{Groups.{IsRecorded, made_all}, Stores.{FollowInTurn, Follows, left_by, left_by_all, Leads, Makes}}
 use Rattle.pf_store.proofs.{Durables.one_durable, RecordedForms.one_group}
 

@@ -12,7 +12,7 @@ use Rattle.pf_core.specs.Durable.{Changes.{PlainDurable, rulesets_in}, Forms.{al
 use Rattle.pf_core.specs.declared.durable.change.Item.{Item}
 use Rattle.pf_core.specs.declared.durable.change.Item.TheVariants as item
 use Rattle.pf_snap.specs.{Banks.Content, declared.header.TheConstants.BANK_HEADER}
-use Rattle.pf_store.specs.declared.{groups.recorded.Recorded.Recorded, limits.TheConstants.ROOM_TO_OPEN}
+use Rattle.pf_store.specs.declared.{encoding.recorded.Recorded.Recorded, limits.TheConstants.ROOM_TO_OPEN}
 use Rattle.pf_store.specs.{Groups.{ChangeShape, change_form, group_form, item_in, items_form, plain_record, record_in, allows_item}, Stores.{IsRoomy, left_by, left_by_all, Leads, Makes}}
 use Rattle.pf_store.proofs.{Allowing.{items_allowed, durable_allowed}, Sized.{newest_long, older_long}}
 
@@ -82,7 +82,7 @@ unfolding group_form
 led_allowed version d [] e led all = subst (λ (k : PlainDurable). allows_config version k.config ≡ true) led all
 led_allowed version d (p ∷ ps) e led all =
     led_allowed version (left_by_all d led.0) ps e led.3
-    (subst (λ (xs : List Recorded). allows_config version (left_by_all d xs).config ≡ true) (sym led.1.told)
+    (subst (λ (xs : List Recorded). allows_config version (left_by_all d xs).config ≡ true) (sym led.1.read_back)
     (in_turn_allowed version d (map plain_record led.0) led.1.spelled.fits.0.1 all))
 
 -- the rulesets that a bank holds, its version allows

@@ -14,7 +14,7 @@ use Rattle.pf_ticket.specs.{declared.limits.TheConstants.{OFFERED_TABLE_LIMIT}, 
 use Rattle.pf_anchor.specs.Forms.{at_most, rule_list_form, entries_form, plain_entries, named_form, plain_named}
 use Rattle.pf_store.specs.Groups.{defined_form, named_before, tables_form, item_form, items_form, plain_item, is_commit, has_item_form, change_form, group_form, plain_record, is_group}
 use Rattle.pf_core.specs.Durable.Changes.{PlainChange}
-use Rattle.pf_store.specs.declared.groups.recorded.Recorded.TheVariants.{Made as made}
+use Rattle.pf_store.specs.declared.encoding.recorded.Recorded.TheVariants.{Made as made}
 
 pub few : {A B : Type 0} (limit : ℕ) (xs : List A) (f : A → B) → length xs ≤ limit → at_most limit (map f xs) ≡ true
 few limit xs f le = grind (arith, nat_tests, le, length-map xs f)

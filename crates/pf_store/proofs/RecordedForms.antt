@@ -1,28 +1,28 @@
 -- Data determine what is recorded, and bytes determine the data.
 use Rattle.std.proofs.{Common.{◌≡◌, ◌<◌, ◌^◌, ◌==◌, ◌&&◌, ◌+◌, ◌++◌, not, ℕ, Bool, true, false, List, [], ◌∷◌, length, map, take, get_or, refl, sym, ap, ◌∙◌, subst, inl, inr, arith}, lemmas.{List.{length-map, take_more, map-append}, Bool.Decides.nat_tests}}
 use Rattle.std.specs.{Prelude.nat_le, List.{list_all, AllByRecursion}}
-use Rattle.pf_form.specs.{Bytes.{BasicForms.number_bytes, Forms.{list, Value, Form, Fits, Spells, number, or, counted, onto}}, Laws.Bytes.{Onto.onto_is, Texts.one_value}}
+use Rattle.pf_form.specs.{Bytes.{BasicForms.number_bytes, Forms.{list, Value, ByteForm, Fits, Spells, number, or, counted, onto}}, Laws.Bytes.{Onto.onto_is, Texts.one_value}}
 use Rattle.pf_state.specs.{declared.step.StateStep.StateStep, Layouts.{States.{has_expiry, name_form}, Steps.{plain_step, step_form, step_in}}}
 use Rattle.pf_state.proofs.LayoutsBack.{step_back}
 use Rattle.pf_table.specs.{Entries.PlainEntry, EntryForms.{entry_of}, Laws.EntryForms.entry_again}
 use Rattle.pf_ticket.specs.NamedTables.{PlainDefinedTable}
 use Rattle.pf_core.specs.Durable.Changes.{PlainChange, expires}
 use Rattle.pf_core.specs.declared.group.TheConstants.{GROUP_LIMIT}
-use Rattle.pf_store.specs.declared.groups.recorded.Recorded.{Recorded, TheVariants.Made as made, TheVariants.Opens as opens}
+use Rattle.pf_store.specs.declared.encoding.recorded.Recorded.{Recorded, TheVariants.Made as made, TheVariants.Opens as opens}
 use Rattle.pf_anchor.specs.Forms.{plain_entries, entries_in, plain_named, named_in}
 use Rattle.pf_store.specs.Groups.{ChangeShape, ItemShape, change_form, edit_form, expire_form, items_form, item_form, tables_form, defined_form, group_form, item_in, plain_record, record_in, is_commit, is_group, made_all, has_item_form, has_form, have_form, IsRecorded}
 
-pub entries_told : (es : List PlainEntry) → entries_in (plain_entries es) ≡ es
-entries_told [] = refl
-entries_told (e ∷ es) = λ i. entry_again e i ∷ entries_told es i
+pub entries_read_back : (es : List PlainEntry) → entries_in (plain_entries es) ≡ es
+entries_read_back [] = refl
+entries_read_back (e ∷ es) = λ i. entry_again e i ∷ entries_read_back es i
 
-pub tables_told : (ts : List PlainDefinedTable) → map named_in (map plain_named ts) ≡ ts
-tables_told [] = refl
-tables_told (t ∷ ts) = λ i. (t.0, entries_told t.1 i) ∷ tables_told ts i
+pub tables_read_back : (ts : List PlainDefinedTable) → map named_in (map plain_named ts) ≡ ts
+tables_read_back [] = refl
+tables_read_back (t ∷ ts) = λ i. (t.0, entries_read_back t.1 i) ∷ tables_read_back ts i
 
-pub steps_told : (xs : List StateStep) → map step_in (map plain_step xs) ≡ xs
-steps_told [] = refl
-steps_told (x ∷ xs) = λ i. step_back x i ∷ steps_told xs i
+pub steps_read_back : (xs : List StateStep) → map step_in (map plain_step xs) ≡ xs
+steps_read_back [] = refl
+steps_read_back (x ∷ xs) = λ i. step_back x i ∷ steps_read_back xs i
 
 -- one more of a list that is the same there and back
 pub again_taken : {A B : Type 0} (f : A → B) (g : B → A) (xs : List A) (i : ℕ) (x : A) → i < length xs → x ≡ get_or xs i x
@@ -34,7 +34,7 @@ again_taken {A} f g xs i x within here before one =
 -- ---- a tick in bytes
 
 -- the form of changes, by whether there are ticks
-abbrev formed_by : ℕ → Bool → Form ChangeShape
+abbrev formed_by : ℕ → Bool → ByteForm ChangeShape
 formed_by version has =
     or 1 (items_form version) (or 2 edit_form (or 3 edit_form (or 4 edit_form
     (or 5 (counted 4 (step_form version)) (or 6 name_form (or 7 (number 4) (expire_form has)))))))
@@ -86,7 +86,7 @@ formed_of version (inr (inr (inr (inr (inr (inr (inr tick))))))) fits = refl
 
 -- if data determine what is recorded, and fit, it has bytes
 pub formed : (version : ℕ) (r : Recorded) → record_in (plain_record r) ≡ r → Fits (change_form version) (plain_record r) → has_form r ≡ true
-formed version r told fits = subst (λ x. has_form x ≡ true) told (formed_of version (plain_record r) fits)
+formed version r read_back fits = subst (λ x. has_form x ≡ true) read_back (formed_of version (plain_record r) fits)
 
 -- ---- groups
 
@@ -97,14 +97,14 @@ each_formed version (v ∷ vs) each = rw (formed_of version v each.0) (each_form
 -- if data determine what a group records, and fit, it has bytes
 pub group_formed : (version : ℕ) (rs : List Recorded) → map record_in (map plain_record rs) ≡ rs → Fits (group_form version) (map plain_record rs) → have_form rs ≡ true
 unfolding group_form
-group_formed version rs told fits =
+group_formed version rs read_back fits =
     let many : is_group rs ≡ true = subst (λ n. (not (n == 0) && nat_le n GROUP_LIMIT) ≡ true) (length-map rs plain_record) fits.1 in
-    let each : list_all has_form rs ≡ true = subst (λ xs. list_all has_form xs ≡ true) told (each_formed version (map plain_record rs) fits.0.1) in
+    let each : list_all has_form rs ≡ true = subst (λ xs. list_all has_form xs ≡ true) read_back (each_formed version (map plain_record rs) fits.0.1) in
     rw (many) each
 
 -- what was read from bytes has bytes
 pub recorded_formed : (version : ℕ) (rs : List Recorded) (payload : List ℕ) → IsRecorded version rs payload → have_form rs ≡ true
-recorded_formed version rs payload is = group_formed version rs (sym is.told) is.spelled.fits
+recorded_formed version rs payload is = group_formed version rs (sym is.read_back) is.spelled.fits
 
 -- changes, each in the form in which it was handed in
 pub as_made : {C : Type 0} (as_plain : C → PlainChange) (cs : List C) → map (λ c. plain_record (made (as_plain c))) cs ≡ map plain_record (made_all (map as_plain cs))
@@ -126,7 +126,7 @@ formed_as as_plain cs = rw (as_many as_plain cs, all_made as_plain cs) refl
 
 pub spelled : (version : ℕ) (rs : List Recorded) (bytes : List ℕ) → map record_in (map plain_record rs) ≡ rs → Spells (group_form version) (map plain_record rs) bytes
     → IsRecorded version rs bytes
-spelled version rs bytes told is = record { spelled = is; told = sym told }
+spelled version rs bytes read_back is = record { spelled = is; read_back = sym read_back }
 
 pub group_pushed : (version : ℕ) (rs : List Recorded) (out : List ℕ) → Fits (group_form version) (map plain_record rs)
     → out ≡ onto (group_form version) (map plain_record rs) [] → Spells (group_form version) (map plain_record rs) out
@@ -145,4 +145,4 @@ opening_pushed version epoch out lt is = spelled version (opens epoch ∷ []) ou
 -- bytes are those of at most one group
 pub one_group : (version : ℕ) (rs ss : List Recorded) (bytes : List ℕ) → IsRecorded version rs bytes → IsRecorded version ss bytes → rs ≡ ss
 one_group version rs ss bytes a b =
-    a.told ∙ ap (map record_in) (one_value (group_form version) bytes (map plain_record rs) (map plain_record ss) a.spelled b.spelled) ∙ sym b.told
+    a.read_back ∙ ap (map record_in) (one_value (group_form version) bytes (map plain_record rs) (map plain_record ss) a.spelled b.spelled) ∙ sym b.read_back

@@ -2,7 +2,7 @@
 use Rattle.std.proofs.Common.{◌≡◌, ◌+◌, ◌++◌, ℕ, List, length, drop, ◌∙◌, ap, subst, arith, length-append}
 use Rattle.std.proofs.lemmas.List.{drop_at}
 use Rattle.pf_journal.specs.{Journal.IsOf, declared.journal.Record.Record}
-use Rattle.pf_store.specs.{declared.groups.recorded.Recorded.Recorded, Groups.{IsRecorded, IsRecordOf}, Lengths.payload_length}
+use Rattle.pf_store.specs.{declared.encoding.recorded.Recorded.Recorded, Groups.{IsRecorded, IsRecordOf}, Lengths.payload_length}
 use Rattle.pf_store.proofs.Sized.{payload_long}
 
 module _ (version : ℕ) (rs : List Recorded) (front payload out : List ℕ) (four : length front ≡ 4) (is : out ≡ front ++ payload) (recorded : IsRecorded version rs payload) where

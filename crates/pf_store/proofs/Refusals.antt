@@ -5,31 +5,31 @@ use Rattle.pf_disk.specs.Disk.{IsImage}
 use Rattle.pf_form.specs.Bytes.Forms.{Value, Fits}
 use Rattle.pf_snap.specs.Banks.{Content}
 use Rattle.pf_core.specs.{Durable.{Changes.PlainDurable, Forms.durable_form}, Worlds.{State, down, Event, refused_opening, last_epoch, raised, next, IsLegal, IsLegalFrom, IsWorld, state_after}}
-use Rattle.pf_store.specs.declared.groups.recorded.Recorded.{Recorded}
+use Rattle.pf_store.specs.declared.encoding.recorded.Recorded.{Recorded}
 use Rattle.pf_store.specs.{Groups.{ChangeShape, change_form, group_form, plain_record, record_in, IsRecorded}, Openings.{FollowsOn, IsOfOpening, LeavesRefused}, Stores.{Holds, left_by, left_by_all, Leads, Makes}}
 use Rattle.pf_store.proofs.Refusing.{one_held}
 
 -- ---- the epoch of what is held fits in four bytes
 
-told_epoch : (version : ℕ) (d : PlainDurable) (v : Value ChangeShape) → Fits (change_form version) v → d.epoch ≤ last_epoch → (left_by d (record_in v)).epoch ≤ last_epoch
+read_back_epoch : (version : ℕ) (d : PlainDurable) (v : Value ChangeShape) → Fits (change_form version) v → d.epoch ≤ last_epoch → (left_by d (record_in v)).epoch ≤ last_epoch
 unfolding change_form
-told_epoch version d (inl vs) fits low = low
-told_epoch version d (inr (inl v)) fits low = low
-told_epoch version d (inr (inr (inl v))) fits low = low
-told_epoch version d (inr (inr (inr (inl v)))) fits low = low
-told_epoch version d (inr (inr (inr (inr (inl steps))))) fits low = low
-told_epoch version d (inr (inr (inr (inr (inr (inl name)))))) fits low = low
-told_epoch version d (inr (inr (inr (inr (inr (inr (inl epoch))))))) fits low = omega (arith, fits.0.0.0.0.0.0)
-told_epoch version d (inr (inr (inr (inr (inr (inr (inr tick))))))) fits low = low
+read_back_epoch version d (inl vs) fits low = low
+read_back_epoch version d (inr (inl v)) fits low = low
+read_back_epoch version d (inr (inr (inl v))) fits low = low
+read_back_epoch version d (inr (inr (inr (inl v)))) fits low = low
+read_back_epoch version d (inr (inr (inr (inr (inl steps))))) fits low = low
+read_back_epoch version d (inr (inr (inr (inr (inr (inl name)))))) fits low = low
+read_back_epoch version d (inr (inr (inr (inr (inr (inr (inl epoch))))))) fits low = omega (arith, fits.0.0.0.0.0.0)
+read_back_epoch version d (inr (inr (inr (inr (inr (inr (inr tick))))))) fits low = low
 
 group_epoch : (version : ℕ) (d : PlainDurable) (vs : List (Value ChangeShape)) → AllByRecursion (Fits (change_form version)) vs → d.epoch ≤ last_epoch → (left_by_all d (map record_in vs)).epoch ≤ last_epoch
 group_epoch version d [] each low = low
-group_epoch version d (v ∷ vs) each low = group_epoch version (left_by d (record_in v)) vs each.1 (told_epoch version d v each.0 low)
+group_epoch version d (v ∷ vs) each low = group_epoch version (left_by d (record_in v)) vs each.1 (read_back_epoch version d v each.0 low)
 
 recorded_epoch : (version : ℕ) (d : PlainDurable) (xs : List Recorded) (payload : List ℕ) → IsRecorded version xs payload → d.epoch ≤ last_epoch → (left_by_all d xs).epoch ≤ last_epoch
 unfolding group_form
 recorded_epoch version d xs payload is low =
-    subst (λ (ys : List Recorded). (left_by_all d ys).epoch ≤ last_epoch) (sym is.told) (group_epoch version d (map plain_record xs) is.spelled.fits.0.1 low)
+    subst (λ (ys : List Recorded). (left_by_all d ys).epoch ≤ last_epoch) (sym is.read_back) (group_epoch version d (map plain_record xs) is.spelled.fits.0.1 low)
 
 led_epoch : (version : ℕ) (d : PlainDurable) (ps : List (List ℕ)) (e : PlainDurable) → Leads version d ps e → d.epoch ≤ last_epoch → e.epoch ≤ last_epoch
 led_epoch version d [] e led low = subst (λ (x : PlainDurable). x.epoch ≤ last_epoch) led low

@@ -8,7 +8,7 @@ use Rattle.pf_snap.specs.declared.fault.LookFault.TheVariants as looking
 use Rattle.pf_snap.proofs.Holding.{one_place, one_content}
 use Rattle.pf_snap.proofs.Holding as holding
 use Rattle.pf_core.specs.{Durable.Changes.{PlainDurable}, Worlds.last_epoch}
-use Rattle.pf_store.specs.{Durables.IsDurable, Stores.{Holds, IsRoomy, Leads, Makes}, StoreFaults.{BreaksOff, SaysNone, is_fault}, Openings.{BreaksBehind, IsFull, IsUnopened, MakesNone, gate_of, generation_of}}
+use Rattle.pf_store.specs.{Durables.IsDurable, Stores.{Holds, IsRoomy, Leads, Makes}, StoreFaults.{BreaksOff, SaysNone, is_fault}, Openings.{BreaksAfterHeader, IsFull, IsUnopened, MakesNone, gate_of, generation_of}}
 use Rattle.pf_store.specs.declared.store.fault.OpenFault.{OpenFault}
 use Rattle.pf_store.specs.declared.store.fault.OpenFault.TheVariants.{BadSize, NoBank, Corrupt, Memory, Fault, EpochsExhausted, Full, Places}
 use Rattle.pf_store.proofs.{Durables.one_durable, Leading.{one_made, stopped}}
@@ -23,8 +23,8 @@ makes_some torn bank content place d whole makes (inr (inl none)) =
     (subst (λ (f : PlainDurable). Leads content.version f content.payloads d) (one_durable content.version makes.first none.first content.snapshot makes.kept none.kept) makes.leads))
 makes_some torn bank content place d whole makes (inr (inr none)) = whole none.open_gate
 
-held_behind : (image : List ℕ) (place : ℕ) (d : PlainDurable) → Holds image d → BreaksBehind image place → ⊥
-held_behind image place d held b =
+held_after : (image : List ℕ) (place : ℕ) (d : PlainDurable) → Holds image d → BreaksAfterHeader image place → ⊥
+held_after image place d held b =
     let h = held.bank.holds in
     let k = held.content in
     let here : held.bank.at ≡ b.bank = one_place image (length image) held.bank.at held.bank.other b.bank b.other h.banks b.places h.counts b.counts in
@@ -50,7 +50,7 @@ pub held_is_found : (image : List ℕ) (fault : OpenFault) (d : PlainDurable) (h
 held_is_found image BadSize d held early refused says = none_refused image looking.BadSize d held early (λ is. cc (is)) (λ is. cc (is)) refused
 held_is_found image NoBank d held early refused says = none_refused image looking.NoBank d held early (λ is. cc (is)) (λ is. cc (is)) refused
 held_is_found image (Corrupt at) d held early (inl refused) says = none_refused image (looking.Corrupt at) d held early (λ is. cc (is)) (λ is. cc (is)) refused
-held_is_found image (Corrupt at) d held early (inr broken) says = held_behind image at d held broken
+held_is_found image (Corrupt at) d held early (inr broken) says = held_after image at d held broken
 held_is_found image Memory d held early refused says = says
 held_is_found image Fault d held early refused says = says
 held_is_found image EpochsExhausted d held early refused says = says

@@ -7,7 +7,7 @@ use Rattle.pf_table.specs.Entries.{PlainEntry}
 use Rattle.pf_store.specs.{Groups.{can_be_wanted, change_form, has_form, is_group, made_all}, Lengths.{edit_length, payload_length, recorded_length, snapshot_length, step_length, total}, Rooms.group_fits, Stores.{FindsRoom, HasRoom}}
 use Rattle.pf_store.proofs.Sized.{edit_long, steps_long}
 use Rattle.pf_snap.specs.declared.header.TheConstants.{BANK_HEADER}
-use Rattle.pf_store.specs.declared.groups.recorded.Recorded.TheVariants as recorded
+use Rattle.pf_store.specs.declared.encoding.recorded.Recorded.TheVariants as recorded
 use Rattle.std.proofs.lemmas.Bool.{and_parts, and_from}
 
 below : (a b : ℕ) → nat_le a b ≡ true → a ≤ b
@@ -20,21 +20,21 @@ is-below a b le = grind (arith, nat_tests, le)
 abbrev then : ℕ → PlainDurable → Bool
 then size next = nat_le (BANK_HEADER + snapshot_length next + 64) size
 
-abbrev behind : ℕ → PlainDurable → List PlainChange → Bool
-behind size before es = nat_le (BANK_HEADER + snapshot_length before + (payload_length (made_all es) + 6)) size
+abbrev room_left : ℕ → PlainDurable → List PlainChange → Bool
+room_left size before es = nat_le (BANK_HEADER + snapshot_length before + (payload_length (made_all es) + 6)) size
 
-finds : (size : ℕ) (before next : PlainDurable) (es : List PlainChange) → (then size next && behind size before es) ≡ true → HasRoom size before next (payload_length (made_all es))
+finds : (size : ℕ) (before next : PlainDurable) (es : List PlainChange) → (then size next && room_left size before es) ≡ true → HasRoom size before next (payload_length (made_all es))
 finds size before next es is =
-    let both = and_parts (then size next) (behind size before es) is in
+    let both = and_parts (then size next) (room_left size before es) is in
     record {
       then = below (BANK_HEADER + snapshot_length next + 64) size both.0;
-      behind = below (BANK_HEADER + snapshot_length before + (payload_length (made_all es) + 6)) size both.1;
+      room_left = below (BANK_HEADER + snapshot_length before + (payload_length (made_all es) + 6)) size both.1;
     }
 
-fits : (size : ℕ) (before next : PlainDurable) (es : List PlainChange) → HasRoom size before next (payload_length (made_all es)) → (then size next && behind size before es) ≡ true
+fits : (size : ℕ) (before next : PlainDurable) (es : List PlainChange) → HasRoom size before next (payload_length (made_all es)) → (then size next && room_left size before es) ≡ true
 fits size before next es room =
-    and_from (then size next) (behind size before es) (is-below (BANK_HEADER + snapshot_length next + 64) size room.then)
-    (is-below (BANK_HEADER + snapshot_length before + (payload_length (made_all es) + 6)) size room.behind)
+    and_from (then size next) (room_left size before es) (is-below (BANK_HEADER + snapshot_length next + 64) size room.then)
+    (is-below (BANK_HEADER + snapshot_length before + (payload_length (made_all es) + 6)) size room.room_left)
 
 pub group-fits : (size : ℕ) (before next : PlainDurable) (es : List PlainChange) → (group_fits size before next es ≡ true) ↔ HasRoom size before next (payload_length (made_all es))
 unfolding group_fits
@@ -74,7 +74,7 @@ all_have_bytes (e ∷ es) can low =
 pub finds_room : (size : ℕ) (before next : PlainDurable) (es : List PlainChange) → size < 2 ^ 32 → is_group es ≡ true → list_all can_be_wanted es ≡ true
     → HasRoom size before next (payload_length (made_all es)) → FindsRoom size before next es
 finds_room size before next es small group can room = record {
-  formed = and_from (is_group (made_all es)) (list_all has_form (made_all es)) (many es ∙ group) (all_have_bytes es can (omega (arith, room.behind, small)));
+  formed = and_from (is_group (made_all es)) (list_all has_form (made_all es)) (many es ∙ group) (all_have_bytes es can (omega (arith, room.room_left, small)));
   room = room;
 }
   where

@@ -8,7 +8,7 @@ use Rattle.pf_snap.specs.{Banks.{Content, with_payload, switched, bank_size}, Re
 use Rattle.pf_snap.specs.Banks as snap
 use Rattle.pf_snap.proofs.Holding.{one_content}
 use Rattle.pf_core.specs.{Durable.Changes.{PlainDurable}, Worlds.{last_epoch, raised}}
-use Rattle.pf_store.specs.declared.groups.recorded.Recorded.{Recorded}
+use Rattle.pf_store.specs.declared.encoding.recorded.Recorded.{Recorded}
 use Rattle.pf_store.specs.{Durables.IsDurable, Groups.{IsRecorded, IsRecordOf}, Lengths.snapshot_length, Openings.{FollowsOn, HasRoomHere, HoldsAdded, HoldsBy, IsAsLongAs, IsFull, IsNoLaterThan, IsOfOpening, IsOfSave, LeavesRoom, gate_of, generation_of, version_of}, Snapshots.IsBankOf, Stores.{FollowInTurn, left_by_all, Holds, HoldsEither, IsRoomy, Makes}, StoreKept.{Stands, PlainStore, IsStore, HaveKept, store_with}}
 use Rattle.pf_store.proofs.{Leading.{leads-push}, Refusing.{one_at, one_gate, one_held}, Sized.raised_roomy}
 
@@ -177,16 +177,16 @@ module _ {D : Type 0} {seen : D → List ℕ} {banks : Banks D} {d : PlainDurabl
 
   -- a record is being added
   pub of_append : (first : List ℕ) → length read ≡ length first → (g : ℕ) → banks.generation ≤ g → (version : ℕ) → version ≡ banks.version → (added : Record) → (p : List ℕ) × IsOf p added
-      → (c : List ℕ) → IsOfAppend seen banks added.behind.items c → HoldsBy first g (HoldsAdded (λ xs. IsRecordOf version xs added) d) c
+      → (c : List ℕ) → IsOfAppend seen banks added.after_gate.items c → HoldsBy first g (HoldsAdded (λ xs. IsRecordOf version xs added) d) c
   of_append first long g low version same added made c it =
       let below : k.content.generation ≤ g = omega (arith, low, k.keeps.generation) in
       record {
         long = it.elsewhere.same_length ∙ long;
-        generation = neither_later g k.content (with_payload k.content made.0) below below c (it.holds k.content made.0 k.keeps made.1.behind);
+        generation = neither_later g k.content (with_payload k.content made.0) below below c (it.holds k.content made.0 k.keeps made.1.after_gate);
         holds = record {
           either = λ xs is follows.
               let of_these = in_version version k.content.version (same ∙ k.keeps.version) xs added is in
-              either k.content d of_these.payload xs k.makes of_these.recorded follows c (it.holds k.content of_these.payload k.keeps of_these.is.behind);
+              either k.content d of_these.payload xs k.makes of_these.recorded follows c (it.holds k.content of_these.payload k.keeps of_these.is.after_gate);
         };
       }
 
@@ -198,9 +198,9 @@ module _ {D : Type 0} {seen : D → List ℕ} {banks : Banks D} {d : PlainDurabl
       have_more new of_these.payload xs k of_these.recorded follows (kept k.content of_these.payload k.keeps of_these.is)
 
   -- the other bank is being begun
-  pub of_switch : (next : NextBank) → IsBankOf banks.generation next d → (c : List ℕ) → IsOfSwitch seen banks next.behind.items c → HoldsBy read (banks.generation + 1) (λ image. Holds image d) c
+  pub of_switch : (next : NextBank) → IsBankOf banks.generation next d → (c : List ℕ) → IsOfSwitch seen banks next.after_gate.items c → HoldsBy read (banks.generation + 1) (λ image. Holds image d) c
   of_switch next is c it =
-      let either_one = it.holds k.content is.snapshot k.keeps is.next.behind in
+      let either_one = it.holds k.content is.snapshot k.keeps is.next.after_gate in
       let low : k.content.generation ≤ banks.generation + 1 = omega (arith, k.keeps.generation) in
       record {
         long = it.elsewhere.same_length;

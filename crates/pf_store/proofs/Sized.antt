@@ -12,7 +12,7 @@ use Rattle.pf_state.specs.{declared.step.StateStep.{StateStep, TheVariants.{Inse
 use Rattle.pf_core.specs.{declared.durable.change.Item.Item, Durable.{Changes.{PlainDurable, commits, adds, deletes, sets, acts, removes, expires, kept_nothing}, Forms.{tick_form, durable_form, plain_durable, durable_length}}, Worlds.raised}
 use Rattle.pf_core.specs.declared.durable.change.Item.TheVariants as item
 use Rattle.pf_ticket.specs.NamedTables.{PlainDefinedTable}
-use Rattle.pf_store.specs.{declared.groups.recorded.Recorded.{Recorded, TheVariants.Made as made, TheVariants.Opens as opens}, Durables.IsDurable, Groups.{allows_item, allows_record, allows_group, IsRecorded, item_form, plain_item, items_form, defined_form, tables_form, edit_form, expire_form, change_form, group_form, plain_record}, Lengths.{total, snapshot_length, item_length, named_length, edit_length, step_length, recorded_length, payload_length}, Stores.{IsRoomy, HasSpare}}
+use Rattle.pf_store.specs.{declared.encoding.recorded.Recorded.{Recorded, TheVariants.Made as made, TheVariants.Opens as opens}, Durables.IsDurable, Groups.{allows_item, allows_record, allows_group, IsRecorded, item_form, plain_item, items_form, defined_form, tables_form, edit_form, expire_form, change_form, group_form, plain_record}, Lengths.{total, snapshot_length, item_length, named_length, edit_length, step_length, recorded_length, payload_length}, Stores.{IsRoomy, HasSpare}}
 use Rattle.pf_state.proofs.Expiries.{expiry_long}
 use Rattle.pf_store.proofs.Allowing.{recorded_allowed}
 

@@ -7,9 +7,9 @@ use Rattle.pf_form.specs.Bytes.{Forms.{Value, counted, reads}, Lists.{in_order, 
 use Rattle.pf_core.specs.declared.durable.change.Item.{Item}
 use Rattle.pf_store.proofs.InOrder.{sorted_of}
 use Rattle.pf_ticket.specs.{declared.limits.TheConstants.OFFERED_TABLE_LIMIT, NamedTables.PlainDefinedTable}
-use Rattle.pf_store.specs.declared.groups.{items.StoredItem.StoredItem, tables.StoredTable.StoredTable}
+use Rattle.pf_store.specs.declared.encoding.{items.StoredItem.StoredItem, tables.StoredTable.StoredTable}
 use Rattle.pf_anchor.specs.Forms.{NamedShape, named_form, plain_named}
-use Rattle.pf_store.specs.declared.groups.recorded.Recorded.{Recorded}
+use Rattle.pf_store.specs.declared.encoding.recorded.Recorded.{Recorded}
 use Rattle.pf_store.specs.Groups.{defined_form, named_before, ItemShape, item_form, items_form, plain_item, is_commit, change_form, group_form, plain_record, is_group}
 use Rattle.pf_store.proofs.Pushed.{few}
 

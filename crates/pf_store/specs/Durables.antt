@@ -17,7 +17,7 @@ durable_has_form_in version d = durable_has_form d && allows version d
 -- These bytes are the snapshot of what is kept, in a version: its data spell them, and determine it.
 pub record IsDurable (version : ℕ) (d : PlainDurable) (bytes : List ℕ) : Type 0 where
   pub spelled : Spells (durable_form version) (plain_durable d) bytes
-  pub told : d ≡ durable_in (plain_durable d)
+  pub read_back : d ≡ durable_in (plain_durable d)
 
 -- ---- an example
 

@@ -15,12 +15,12 @@
 use Rattle.std.specs.{Prelude.{◌≡◌, ℕ, ◌==◌, ◌^◌, ◌&&◌, not, nat_le, nat_lt, Bool, true, false, if◌then◌else◌, List, [], ◌∷◌, length, map}, List.list_all, Ordering.is_lt}
 use Rattle.std.proofs.Common.{inl, inr}
 use Rattle.pf_addr.specs.Path.{Names.name_order, PathForms.{TextShape, path_form, table_name_form}}
-use Rattle.pf_form.specs.Bytes.{Forms.{Shape, nat, both, either, list, Value, Form, Spells, nothing, number, front, or, pair, counted, that}, Lists.ordered}
+use Rattle.pf_form.specs.Bytes.{Forms.{Shape, nat, both, either, list, Value, ByteForm, Spells, nothing, number, front, or, pair, counted, that}, Lists.ordered}
 use Rattle.pf_anchor.specs.Forms.{at_most, RulesShape, rules_form, plain_ruled, ruled_in, NamedShape, named_form, plain_entries, plain_named, entries_in, named_in, allows_ruleset}
 use Rattle.pf_journal.specs.{Journal.IsOf, declared.journal.Record.Record}
 use Rattle.pf_core.specs.{declared.durable.change.Item.Item, Durable.Changes.{PlainChange, commits, adds, deletes, sets, acts, removes, expires}}
 use Rattle.pf_core.specs.declared.durable.change.Item.TheVariants as item
-use Rattle.pf_store.specs.declared.groups.recorded.Recorded.{Recorded, TheVariants.Made as made, TheVariants.Opens as opens}
+use Rattle.pf_store.specs.declared.encoding.recorded.Recorded.{Recorded, TheVariants.Made as made, TheVariants.Opens as opens}
 use Rattle.pf_state.specs.Layouts.{States.{NameShape, name_form, plain_name, name_in, has_expiry}, Steps.{StepShape, step_form, plain_step, step_in, allows_steps}}
 use Rattle.pf_table.specs.EntryForms.{EntryShape, entry}
 use Rattle.pf_ticket.specs.declared.limits.TheConstants.{ENTRY_LIMIT, OFFERED_TABLE_LIMIT}
@@ -34,23 +34,23 @@ named_before a b = is_lt (name_order a.0 b.0)
 abbrev pub TablesShape : Shape
 TablesShape = both TextShape (list NamedShape)
 
-unfoldable pub defined_form : Form (list NamedShape)
+unfoldable pub defined_form : ByteForm (list NamedShape)
 defined_form = that (at_most OFFERED_TABLE_LIMIT) (ordered named_before 4 named_form)
 
-unfoldable pub tables_form : Form TablesShape
+unfoldable pub tables_form : ByteForm TablesShape
 tables_form = pair path_form defined_form
 
 abbrev pub ItemShape : Shape
 ItemShape = either RulesShape TablesShape
 
-unfoldable pub item_form : ℕ → Form ItemShape
+unfoldable pub item_form : ℕ → ByteForm ItemShape
 item_form version = or 1 (rules_form version) (front (2 ∷ []) tables_form)
 
 -- as many as a commit may name
 abbrev pub is_commit : {A : Type 0} → List A → Bool
 is_commit items = not (length items == 0) && nat_le (length items) ENTRY_LIMIT
 
-unfoldable pub items_form : ℕ → Form (list ItemShape)
+unfoldable pub items_form : ℕ → ByteForm (list ItemShape)
 items_form version = that is_commit (counted 1 (item_form version))
 
 -- ---- changes
@@ -58,18 +58,18 @@ items_form version = that is_commit (counted 1 (item_form version))
 abbrev pub EditShape : Shape
 EditShape = both TextShape (both TextShape (list EntryShape))
 
-unfoldable pub edit_form : Form EditShape
+unfoldable pub edit_form : ByteForm EditShape
 edit_form = pair path_form (pair table_name_form (counted 4 entry))
 
 -- of the versions that have expiries
-unfoldable pub expire_form : Bool → Form nat
+unfoldable pub expire_form : Bool → ByteForm nat
 expire_form has = if has then front (8 ∷ []) (number 8) else that (λ tick. false) (nothing 0)
 
 abbrev pub ChangeShape : Shape
 ChangeShape =
     either (list ItemShape) (either EditShape (either EditShape (either EditShape (either (list StepShape) (either NameShape (either nat nat))))))
 
-unfoldable pub change_form : ℕ → Form ChangeShape
+unfoldable pub change_form : ℕ → ByteForm ChangeShape
 change_form version =
     or 1 (items_form version) (or 2 edit_form (or 3 edit_form (or 4 edit_form
     (or 5 (counted 4 (step_form version)) (or 6 name_form (or 7 (number 4) (expire_form (has_expiry version))))))))
@@ -78,7 +78,7 @@ change_form version =
 abbrev pub is_group : {A : Type 0} → List A → Bool
 is_group rs = not (length rs == 0) && nat_le (length rs) GROUP_LIMIT
 
-unfoldable pub group_form : ℕ → Form (list ChangeShape)
+unfoldable pub group_form : ℕ → ByteForm (list ChangeShape)
 group_form version = that is_group (counted 1 (change_form version))
 
 -- ---- what a change's bytes say
@@ -210,7 +210,7 @@ have_form_in version rs = have_form rs && allows_group version rs
 -- The payload is the bytes of a group, in a version: its data spell them, and determine it.
 pub record IsRecorded (version : ℕ) (rs : List Recorded) (payload : List ℕ) : Type 0 where
   pub spelled : Spells (group_form version) (map plain_record rs) payload
-  pub told : rs ≡ map record_in (map plain_record rs)
+  pub read_back : rs ≡ map record_in (map plain_record rs)
 
 -- The record's payload is the bytes of this group, in a version.
 pub record IsRecordOf (version : ℕ) (rs : List Recorded) (whole : Record) : Type 0 where

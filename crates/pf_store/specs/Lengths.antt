@@ -7,7 +7,7 @@ use Rattle.pf_core.specs.{declared.durable.change.Item.Item, Durable.{Changes.Pl
 use Rattle.pf_state.specs.{declared.step.StateStep.StateStep, Layouts.Steps.{step_form, plain_step}}
 use Rattle.pf_table.specs.Entries.{PlainEntry}
 use Rattle.pf_ticket.specs.NamedTables.{PlainDefinedTable}
-use Rattle.pf_store.specs.{declared.groups.recorded.Recorded.Recorded, Groups.{item_form, plain_item, edit_form, change_form, plain_record}}
+use Rattle.pf_store.specs.{declared.encoding.recorded.Recorded.Recorded, Groups.{item_form, plain_item, edit_form, change_form, plain_record}}
 
 abbrev pub total : {A : Type 0} → (A → ℕ) → List A → ℕ
 total f [] = 0

@@ -7,7 +7,7 @@ use Rattle.pf_snap.specs.Banks as snap
 use Rattle.pf_snap.specs.declared.fault.LookFault.TheVariants as looking
 use Rattle.pf_core.specs.{Durable.Changes.{PlainDurable}, Worlds.{down, refused_opening, last_epoch, raised, next, IsLegal}}
 use Rattle.pf_store.specs.{Durables.IsDurable, Groups.IsRecorded, Lengths.snapshot_length, Stores.{FollowInTurn, Holds, HoldsEither, IsRoomy, Leads, Makes, left_by_all}}
-use Rattle.pf_store.specs.declared.{groups.recorded.Recorded.Recorded, store.fault.OpenFault.OpenFault, store.fault.OpenFault.TheVariants.{BadSize, NoBank, Corrupt, Memory, Fault, EpochsExhausted, Full, Places}}
+use Rattle.pf_store.specs.declared.{encoding.recorded.Recorded.Recorded, store.fault.OpenFault.OpenFault, store.fault.OpenFault.TheVariants.{BadSize, NoBank, Corrupt, Memory, Fault, EpochsExhausted, Full, Places}}
 use Rattle.pf_store.specs.declared.limits.TheConstants.{OPENING_RECORD}
 
 -- The snapshot of the bank at place `at`, of this version, is of nothing that can be kept.
@@ -44,7 +44,7 @@ MakesNone torn bank content place =
     BreaksInSnapshot content.version bank content.snapshot place ⊎ (NoGroup bank content place ⊎ IsTorn torn bank content place)
 
 -- The header of the bank that counts can be read, but the snapshot and records after it break off at this place.
-pub record BreaksBehind (seen : List ℕ) (place : ℕ) : Type 0 where
+pub record BreaksAfterHeader (seen : List ℕ) (place : ℕ) : Type 0 where
   pub bank : ℕ
   pub other : ℕ
   pub content : Content
@@ -124,7 +124,7 @@ pub record IsFull (seen : List ℕ) (d : PlainDurable) : Type 0 where
 abbrev pub IsUnopened : OpenFault → List ℕ → Type 0
 IsUnopened BadSize seen = IsRefused looking.BadSize seen
 IsUnopened NoBank seen = IsRefused looking.NoBank seen
-IsUnopened (Corrupt at) seen = IsRefused (looking.Corrupt at) seen ⊎ BreaksBehind seen at
+IsUnopened (Corrupt at) seen = IsRefused (looking.Corrupt at) seen ⊎ BreaksAfterHeader seen at
 IsUnopened Memory seen = IsRefused looking.Memory seen
 IsUnopened Fault seen = IsRefused looking.Fault seen
 IsUnopened EpochsExhausted seen = (d : PlainDurable) × (held : Holds seen d) × (generation_of seen d held < 2 ^ 63) × (d.epoch ≡ last_epoch)

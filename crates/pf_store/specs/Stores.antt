@@ -3,8 +3,8 @@ use Rattle.std.specs.Prelude.{◌≡◌, ◌⊎◌, ◌≤◌, ℕ, ◌+◌, tru
 use Rattle.pf_snap.specs.{Banks.Content, declared.header.TheConstants.{BANK_HEADER}}
 use Rattle.pf_snap.specs.Banks as snap
 use Rattle.pf_core.specs.Durable.{Changes.{PlainDurable, PlainChange, in_epoch, applied, fits}}
-use Rattle.pf_store.specs.{Durables.IsDurable, Groups.{IsRecorded, have_form, made_all}, Lengths.{snapshot_length, payload_length}, declared.groups.recorded.Recorded.Recorded}
-use Rattle.pf_store.specs.declared.groups.recorded.Recorded.TheVariants as recorded
+use Rattle.pf_store.specs.{Durables.IsDurable, Groups.{IsRecorded, have_form, made_all}, Lengths.{snapshot_length, payload_length}, declared.encoding.recorded.Recorded.Recorded}
+use Rattle.pf_store.specs.declared.encoding.recorded.Recorded.TheVariants as recorded
 use Rattle.pf_store.specs.declared.limits.TheConstants.{AROUND, ROOM_KEPT, ROOM_TO_OPEN}
 
 -- ---- what is held
@@ -64,7 +64,7 @@ HasSpare size d = BANK_HEADER + snapshot_length d + ROOM_TO_OPEN ≤ size
 -- payload's record after one of what is kept before.
 pub record HasRoom (size : ℕ) (before next : PlainDurable) (n : ℕ) : Type 0 where
   pub then : HasSpare size next
-  pub behind : BANK_HEADER + snapshot_length before + (n + AROUND) ≤ size
+  pub room_left : BANK_HEADER + snapshot_length before + (n + AROUND) ≤ size
 
 -- changes have a payload, and it finds room
 pub record FindsRoom (size : ℕ) (before next : PlainDurable) (es : List PlainChange) : Type 0 where

@@ -110,15 +110,19 @@ pub fn asked_in_turn(alloc: Global, rows: &str) -> Result<Vec<Asked>, AllocError
 }
 
 /// What is told to what is asked, with bars between lines.
-pub fn told_to<B: Answer>(alloc: Global, book: &mut B, asked: Asked) -> Result<String, AllocError> {
+pub fn answered_text<B: Answer>(
+    alloc: Global,
+    book: &mut B,
+    asked: Asked,
+) -> Result<String, AllocError> {
     match asked {
         Asked::One(command) => text_of(alloc, &book.answer(command)),
-        Asked::Group(commands) => told_to_group(alloc, book, &commands),
-        Asked::Nothing(told) => Ok(told),
+        Asked::Group(commands) => answer_to_group(alloc, book, &commands),
+        Asked::Nothing(reported) => Ok(reported),
     }
 }
 
-fn told_to_group<B: Answer>(
+fn answer_to_group<B: Answer>(
     alloc: Global,
     book: &mut B,
     commands: &[Command],
@@ -130,14 +134,14 @@ fn told_to_group<B: Answer>(
 }
 
 /// What is told to all that is asked in turn, with commas between.
-pub fn told_in_turn<B: Answer>(
+pub fn answers_in_turn<B: Answer>(
     alloc: Global,
     book: &mut B,
     all: Vec<Asked>,
 ) -> Result<String, AllocError> {
     let mut texts = Vec::new(alloc);
     for asked in all {
-        texts.push(told_to(alloc, book, asked)?)?;
+        texts.push(answered_text(alloc, book, asked)?)?;
     }
     joined(alloc, &texts, ", ")
 }
@@ -151,16 +155,16 @@ pub struct Moment {
 
 /// What a device was opened as, or why it wasn't opened; what was told over it, which is nothing if it wasn't; and the device then.
 #[derive(Drop)]
-pub struct Told<D: Disk + Drop> {
+pub struct Played<D: Disk + Drop> {
     pub opened: Result<Moment, OpenFault>,
     pub text: String,
     pub disk: D,
 }
 
-impl<D: Disk + Drop> Told<D> {
+impl<D: Disk + Drop> Played<D> {
     /// A device that wasn't opened.
-    pub fn nothing(alloc: Global, fault: OpenFault, disk: D) -> Told<D> {
-        Told {
+    pub fn nothing(alloc: Global, fault: OpenFault, disk: D) -> Played<D> {
+        Played {
             opened: Err(fault),
             text: String::new(alloc),
             disk,
@@ -174,12 +178,12 @@ pub fn ask<D: Disk + Drop, H: Wait + Drop>(
     alloc: Global,
     disk: D,
     asked: Vec<Asked>,
-) -> Result<Told<D>, AllocError>
+) -> Result<Played<D>, AllocError>
     requires { D.fault_count disk < 2 ^ 63 }
 {
     match Opening::open(alloc, disk) {
         Ok(opening) => ask_opened::<_, Brand, _>(waits, alloc, opening, asked),
-        Err((fault, disk)) => Ok(Told::nothing(alloc, fault, disk)),
+        Err((fault, disk)) => Ok(Played::nothing(alloc, fault, disk)),
     }
 }
 
@@ -189,26 +193,26 @@ pub fn ask_opened<D: Disk + Drop, J: Chapter, H: Wait + Drop>(
     alloc: Global,
     opening: Opening<D>,
     asked: Vec<Asked>,
-) -> Result<Told<D>, AllocError>
+) -> Result<Played<D>, AllocError>
     requires { IsNamed J.base J.history J.setting opening HISTORY_LIMIT }
 {
     match Book::<D, J, H>::of(waits, alloc, opening, HISTORY_LIMIT, 1) {
-        Ok((book, _seers)) => told_over(alloc, book, asked),
+        Ok((book, _seers)) => play_new_book(alloc, book, asked),
         Err(_) => Err(AllocError),
     }
 }
 
 // The same of a new Book. It is gone before any of what comes of it is looked at: a Book that lives over few steps is proved quickly.
-fn told_over<D: Disk + Drop, J: Chapter, S: Publisher<J> + Drop>(
+fn play_new_book<D: Disk + Drop, J: Chapter, S: Publisher<J> + Drop>(
     alloc: Global,
     book: book::Book<D, J, S>,
     asked: Vec<Asked>,
-) -> Result<Told<D>, AllocError> {
+) -> Result<Played<D>, AllocError> {
     let mut book = book;
     let opened = Ok(moment_of(&book));
-    let text = told_in_turn(alloc, &mut book, asked);
+    let text = answers_in_turn(alloc, &mut book, asked);
     let disk = book.into_disk();
-    Ok(Told {
+    Ok(Played {
         opened,
         text: text?,
         disk,

@@ -76,10 +76,10 @@ impl Tally {
     }
 
     /// Writes each kind and how often it came, in the order of their texts, and the checksum.
-    pub fn tell(&self, told: &mut String) -> Result<(), AllocError> {
+    pub fn tell(&self, reported: &mut String) -> Result<(), AllocError> {
         for (kind, count) in self.counts.iter() {
-            write!(told, "\n  {kind}: {count}")?;
+            write!(reported, "\n  {kind}: {count}")?;
         }
-        write!(told, "\n  checksum {:016x}", self.checksum)
+        write!(reported, "\n  checksum {:016x}", self.checksum)
     }
 }

@@ -72,15 +72,15 @@ fn read_image(rt: &HostRuntime, name: &str) -> Result<Image, ReadFault> {
     }
 }
 
-pub fn play(rt: &HostRuntime, told: &mut String) -> Result<(), ReadFault> {
-    tell_script(rt, told)?;
+pub fn play(rt: &HostRuntime, reported: &mut String) -> Result<(), ReadFault> {
+    tell_script(rt, reported)?;
     for size in [0, SIZE - 1, SIZE + 1] {
-        tell_taken(rt, told, "script", size)?;
+        tell_taken(rt, reported, "script", size)?;
     }
     // Its length is 0, and 0 bytes are read from it, but no system syncs it: so taking a file as a device syncs it, as later syncs do.
-    tell_taken(rt, told, "/dev/null", 0)?;
-    tell_other_bytes(rt, told)?;
-    tell_read_only(rt, told)
+    tell_taken(rt, reported, "/dev/null", 0)?;
+    tell_other_bytes(rt, reported)?;
+    tell_read_only(rt, reported)
 }
 
 fn open(rt: &HostRuntime, name: &str) -> Result<File, ReadFault> {
@@ -130,7 +130,7 @@ fn play_call<D: Disk>(disk: &mut D, random: u64, given: &mut Vec<u8>) -> Result<
 }
 
 /// The same script on a file and in memory.
-fn tell_script(rt: &HostRuntime, told: &mut String) -> Result<(), ReadFault> {
+fn tell_script(rt: &HostRuntime, reported: &mut String) -> Result<(), ReadFault> {
     let alloc = rt.alloc();
     let mut memory = MemDisk::of(alloc, vec![in alloc; b'0'; SIZE]?)?;
     let mut file = device(alloc, open(rt, "script")?)?;
@@ -144,7 +144,7 @@ fn tell_script(rt: &HostRuntime, told: &mut String) -> Result<(), ReadFault> {
     let calls = memory.calls();
     let len = given.len();
     write!(
-        told,
+        reported,
         "{calls} calls gave {len} bytes, on a file the same: {same}, and left it the same: {}\n",
         read && left
     )?;
@@ -154,33 +154,33 @@ fn tell_script(rt: &HostRuntime, told: &mut String) -> Result<(), ReadFault> {
 /// What a file is taken as if it should have `size` bytes.
 fn tell_taken(
     rt: &HostRuntime,
-    told: &mut String,
+    reported: &mut String,
     name: &str,
     size: usize,
 ) -> Result<(), ReadFault> {
     match FileDisk::of(rt.alloc(), open(rt, name)?, size) {
-        Ok(_) => write!(told, "{name} is a device of {size} bytes\n")?,
-        Err(fault) => write!(told, "{name} is none of {size} bytes: {fault:?}\n")?,
+        Ok(_) => write!(reported, "{name} is a device of {size} bytes\n")?,
+        Err(fault) => write!(reported, "{name} is none of {size} bytes: {fault:?}\n")?,
     }
     Ok(())
 }
 
 /// A read fails after another program wrote other bytes than were written here.
-fn tell_other_bytes(rt: &HostRuntime, told: &mut String) -> Result<(), ReadFault> {
+fn tell_other_bytes(rt: &HostRuntime, reported: &mut String) -> Result<(), ReadFault> {
     let mut disk = device(rt.alloc(), open(rt, "other")?)?;
     let mut buffer = [0u8; 8];
     let before = disk.read_at(8, &mut buffer);
     let other = open(rt, "other")?.write_all_at(b"1", 12).is_ok();
     let after = disk.read_at(8, &mut buffer);
     write!(
-        told,
+        reported,
         "a read: {before:?}, once another writes ({other}): {after:?}\n"
     )?;
     Ok(())
 }
 
 /// A file that is open for reading only takes no write, and nothing more after that.
-fn tell_read_only(rt: &HostRuntime, told: &mut String) -> Result<(), ReadFault> {
+fn tell_read_only(rt: &HostRuntime, reported: &mut String) -> Result<(), ReadFault> {
     let Ok(file) = File::open(rt, "other") else {
         return Err(ReadFault::Fault);
     };
@@ -192,7 +192,7 @@ fn tell_read_only(rt: &HostRuntime, told: &mut String) -> Result<(), ReadFault> 
     let synced = disk.sync();
     let faults = disk.faults();
     write!(
-        told,
+        reported,
         "a read: {before:?}, a write: {answer:?}, then a read: {after:?}, a sync: {synced:?}, {faults} faults\n"
     )?;
     Ok(())

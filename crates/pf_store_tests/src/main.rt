@@ -32,22 +32,22 @@ use std::io;
 use std::sync::Wait;
 
 fn main(rt: HostRuntime) -> io::Result<()> {
-    let mut told = String::new(rt.alloc());
+    let mut reported = String::new(rt.alloc());
     let rows = io::read_to_string(rt.alloc(), rt.stdin())?;
-    if let Err(fault) = play(&rt, &rt, &mut told, rows.as_str()) {
-        write!(told, "stopped: {fault:?}\n")?;
+    if let Err(fault) = play(&rt, &rt, &mut reported, rows.as_str()) {
+        write!(reported, "stopped: {fault:?}\n")?;
     }
-    print!(rt; "{told}")
+    print!(rt; "{reported}")
 }
 
 fn play<H: Wait + Drop + Copy>(
     waits: H,
     rt: &HostRuntime,
-    told: &mut String,
+    reported: &mut String,
     rows: &str,
 ) -> Result<(), ReadFault> {
     let alloc = rt.alloc();
-    files::play(rt, told)?;
+    files::play(rt, reported)?;
     let images = files::older_images(rt)?;
-    Ok(saves::play(waits, alloc, images, told, rows)?)
+    Ok(saves::play(waits, alloc, images, reported, rows)?)
 }

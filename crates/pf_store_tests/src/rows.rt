@@ -42,11 +42,11 @@ pub fn segments<'a>(alloc: Global, text: &'a str) -> Result<Vec<Segment<'a>>, Al
 }
 
 /// Writes a row, and returns whether it is played: comments, headings and empty rows aren't.
-pub fn tell_row(told: &mut String, row: &str) -> Result<bool, AllocError> {
-    told.push_str(row)?;
+pub fn tell_row(reported: &mut String, row: &str) -> Result<bool, AllocError> {
+    reported.push_str(row)?;
     let is_played = !row.is_empty() && !row.starts_with("//") && !row.starts_with("==");
     if is_played {
-        told.push_str(" -> ")?;
+        reported.push_str(" -> ")?;
     }
     Ok(is_played)
 }

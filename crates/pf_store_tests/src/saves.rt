@@ -9,8 +9,8 @@ mod renewals;
 mod stops;
 
 use crate::books::{
-    HISTORY_LIMIT, Hold, Moment, Told, ask, asked_by_row, asked_in_turn, closed_gate, told_in_turn,
-    told_to,
+    HISTORY_LIMIT, Hold, Moment, Played, answered_text, answers_in_turn, ask, asked_by_row,
+    asked_in_turn, closed_gate,
 };
 use crate::files::Image;
 use crate::rows::{
@@ -68,7 +68,7 @@ pub fn play<H: Wait + Drop + Copy>(
     waits: H,
     alloc: Global,
     images: Vec<Image>,
-    told: &mut String,
+    reported: &mut String,
     text: &str,
 ) -> Result<(), AllocError> {
     let mut bench = Bench {
@@ -80,22 +80,22 @@ pub fn play<H: Wait + Drop + Copy>(
         words: Words::new(alloc),
     };
     for segment in &segments(alloc, text)? {
-        bench.play_segment(told, segment)?;
+        bench.play_segment(reported, segment)?;
     }
     Ok(())
 }
 
 /// The replies to the questions, and the tick after them.
-fn with_tick(alloc: Global, told: &str, tick: u64) -> Result<String, AllocError> {
-    format!(in alloc; "{told}, tick {tick}")
+fn with_tick(alloc: Global, reported: &str, tick: u64) -> Result<String, AllocError> {
+    format!(in alloc; "{reported}, tick {tick}")
 }
 
 /// Writes how many bytes a snapshot of what is kept has, and whether it reads back the same.
-fn tell_snapshot(alloc: Global, told: &mut String, kept: &Durable) -> Result<(), AllocError> {
+fn tell_snapshot(alloc: Global, reported: &mut String, kept: &Durable) -> Result<(), AllocError> {
     let bytes = snapshot_of(alloc, kept)?;
     let again = snapshot_again(alloc, &bytes)?;
     let is_same = bytes.as_slice() == again.as_slice();
-    write!(told, "{} bytes, read back: {is_same}", bytes.len())
+    write!(reported, "{} bytes, read back: {is_same}", bytes.len())
 }
 
 /// The bytes of a snapshot of what is kept.
@@ -146,8 +146,11 @@ fn opened_as(
 }
 
 /// What was told to the questions over a device, if it was opened.
-fn opened_of(alloc: Global, told: Told<MemDisk>) -> Result<Result<Opened, OpenFault>, AllocError> {
-    let Told { opened, text, disk } = told;
+fn opened_of(
+    alloc: Global,
+    reported: Played<MemDisk>,
+) -> Result<Result<Opened, OpenFault>, AllocError> {
+    let Played { opened, text, disk } = reported;
     match opened {
         Ok(moment) => match opened_as(alloc, moment, text.as_str(), disk) {
             Ok(opened) => Ok(Ok(opened)),
@@ -158,7 +161,7 @@ fn opened_of(alloc: Global, told: Told<MemDisk>) -> Result<Result<Opened, OpenFa
 }
 
 /// What was told over an opening, or why there was none.
-fn told_text(
+fn opening_text(
     alloc: Global,
     opened: &Result<Moment, OpenFault>,
     text: String,
@@ -173,13 +176,13 @@ fn told_text(
 fn play_over<J: Chapter, H: Wait + Drop + Copy>(
     bench: &mut Bench<H>,
     opening: Opening<MemDisk>,
-    told: &mut String,
+    reported: &mut String,
     rows: &[&str],
 ) -> Result<(), AllocError>
     requires { IsNamed J.base J.history J.setting opening HISTORY_LIMIT }
 {
     match Book::<MemDisk, J, H>::of(bench.waits, bench.alloc, opening, HISTORY_LIMIT, 1) {
-        Ok((book, _seers)) => bench.play_opened(told, book, rows),
+        Ok((book, _seers)) => bench.play_opened(reported, book, rows),
         Err(_) => Err(AllocError),
     }
 }
@@ -195,17 +198,17 @@ fn epoch_of(alloc: Global, device: MemDisk) -> Result<(u32, MemDisk), OpenFault>
 }
 
 impl<H: Wait + Drop + Copy> Bench<H> {
-    fn play_segment(&mut self, told: &mut String, segment: &Segment) -> Result<(), AllocError> {
+    fn play_segment(&mut self, reported: &mut String, segment: &Segment) -> Result<(), AllocError> {
         if !segment.opens {
-            return self.play_unopened(told, &segment.rows);
+            return self.play_unopened(reported, &segment.rows);
         }
-        told.push_str("open -> ")?;
+        reported.push_str("open -> ")?;
         let device = self.device()?;
-        match self.play_opening(told, device, &segment.rows) {
+        match self.play_opening(reported, device, &segment.rows) {
             Ok(played) => played,
             Err(fault) => {
-                write!(told, "{fault:?}\n")?;
-                self.play_unopened(told, &segment.rows)
+                write!(reported, "{fault:?}\n")?;
+                self.play_unopened(reported, &segment.rows)
             }
         }
     }
@@ -213,117 +216,117 @@ impl<H: Wait + Drop + Copy> Bench<H> {
     /// Plays rows over an opening of a device, or says why it isn't opened.
     fn play_opening(
         &mut self,
-        told: &mut String,
+        reported: &mut String,
         device: MemDisk,
         rows: &[&str],
     ) -> Result<Result<(), AllocError>, OpenFault>
         requires { ⟦<MemDisk as Disk>⟧.fault_count device ≡ 0 }
     {
         match Opening::open(self.alloc, device) {
-            Ok(opening) => Ok(play_over::<Brand, _>(self, opening, told, rows)),
+            Ok(opening) => Ok(play_over::<Brand, _>(self, opening, reported, rows)),
             Err((fault, _disk)) => Err(fault),
         }
     }
 
-    fn play_unopened(&mut self, told: &mut String, rows: &[&str]) -> Result<(), AllocError> {
+    fn play_unopened(&mut self, reported: &mut String, rows: &[&str]) -> Result<(), AllocError> {
         for row in rows {
-            if tell_row(told, row)? {
-                self.play_device(told, row)?;
+            if tell_row(reported, row)? {
+                self.play_device(reported, row)?;
             }
-            told.push('\n')?;
+            reported.push('\n')?;
         }
         Ok(())
     }
 
     fn play_opened<B: Hold + Drop>(
         &mut self,
-        told: &mut String,
+        reported: &mut String,
         book: B,
         rows: &[&str],
     ) -> Result<(), AllocError> {
         let mut book = book;
-        self.begin(told, &mut book)?;
+        self.begin(reported, &mut book)?;
         for row in rows {
-            if tell_row(told, row)? {
-                self.play_row(told, &mut book, row)?;
+            if tell_row(reported, row)? {
+                self.play_row(reported, &mut book, row)?;
             }
-            told.push('\n')?;
+            reported.push('\n')?;
         }
         Ok(())
     }
 
     /// Plays a row for which nothing has to be open.
-    fn play_device(&mut self, told: &mut String, row: &str) -> Result<(), AllocError> {
+    fn play_device(&mut self, reported: &mut String, row: &str) -> Result<(), AllocError> {
         let (word, rest) = cut_word(row);
         match word {
-            "zeros" => self.make(told, number(rest)),
-            "file" => self.load(told, rest),
-            "format" => self.format(told),
-            "put" => self.put(told, rest),
-            "bytes" => self.tell_bytes(told, rest),
-            "with" => self.tell_changed(told, rest),
-            "openings" => self.open_often(told, number(rest)),
-            "faults" => self.tell_faults(told, rest),
-            "failing" => self.tell_failing(told, rest),
-            "again" => self.tell_again(told, rest),
-            "twice" => self.tell_again_twice(told, rest),
-            "pairs" => self.tell_pairs(told, rest),
-            "torn" => self.tell_torn(told, rest),
-            "word" => self.add_word(told, rest),
-            "streams" => self.tell_streams(told, rest),
-            "cuts" => self.tell_cuts(told, rest),
-            "images" => self.tell_images(told, rest),
+            "zeros" => self.make(reported, number(rest)),
+            "file" => self.load(reported, rest),
+            "format" => self.format(reported),
+            "put" => self.put(reported, rest),
+            "bytes" => self.tell_bytes(reported, rest),
+            "with" => self.tell_changed(reported, rest),
+            "openings" => self.open_often(reported, number(rest)),
+            "faults" => self.tell_faults(reported, rest),
+            "failing" => self.tell_failing(reported, rest),
+            "again" => self.tell_again(reported, rest),
+            "twice" => self.tell_again_twice(reported, rest),
+            "pairs" => self.tell_pairs(reported, rest),
+            "torn" => self.tell_torn(reported, rest),
+            "word" => self.add_word(reported, rest),
+            "streams" => self.tell_streams(reported, rest),
+            "cuts" => self.tell_cuts(reported, rest),
+            "images" => self.tell_images(reported, rest),
             _ => Ok(()),
         }
     }
 
     fn play_row<B: Hold>(
         &mut self,
-        told: &mut String,
+        reported: &mut String,
         book: &mut B,
         row: &str,
     ) -> Result<(), AllocError> {
         let (word, rest) = cut_word(row);
         match word {
-            "times" => self.call_often(told, book, rest),
-            "snapshot" => tell_snapshot(self.alloc, told, book.kept()),
-            "crash" => self.tell_crash(told, book.device(), rest),
-            "crashes" => self.tell_crashes(told, book.device()),
-            "stopped" => self.tell_stopped(told, book.device()),
-            "lines" => self.tell_lines(told, book, rest),
-            "each" => self.tell_each_byte(told, book.device(), number(rest)),
-            _ if OF_DEVICES.contains(&word) => self.play_device(told, row),
-            _ => self.call(told, book, row),
+            "times" => self.call_often(reported, book, rest),
+            "snapshot" => tell_snapshot(self.alloc, reported, book.kept()),
+            "crash" => self.tell_crash(reported, book.device(), rest),
+            "crashes" => self.tell_crashes(reported, book.device()),
+            "stopped" => self.tell_stopped(reported, book.device()),
+            "lines" => self.tell_lines(reported, book, rest),
+            "each" => self.tell_each_byte(reported, book.device(), number(rest)),
+            _ if OF_DEVICES.contains(&word) => self.play_device(reported, row),
+            _ => self.call(reported, book, row),
         }
     }
 
-    fn make(&mut self, told: &mut String, size: usize) -> Result<(), AllocError> {
+    fn make(&mut self, reported: &mut String, size: usize) -> Result<(), AllocError> {
         self.bytes = vec![in self.alloc; 0u8; size]?;
-        told.push_str("closed")?;
+        reported.push_str("closed")?;
         Ok(())
     }
 
     /// Makes a device with the bytes of an image.
-    fn load(&mut self, told: &mut String, name: &str) -> Result<(), AllocError> {
+    fn load(&mut self, reported: &mut String, name: &str) -> Result<(), AllocError> {
         match self.images.iter().find(|it| it.name.as_str() == name) {
             Some(image) => {
                 self.bytes = image.bytes.to_vec(self.alloc)?;
-                told.push_str("closed")
+                reported.push_str("closed")
             }
-            None => told.push_str("no such file"),
+            None => reported.push_str("no such file"),
         }
     }
 
-    fn format(&mut self, told: &mut String) -> Result<(), AllocError> {
+    fn format(&mut self, reported: &mut String) -> Result<(), AllocError> {
         let mut disk = self.device()?;
         let answer = format(self.alloc, &mut disk);
         self.bytes = disk.image(self.alloc, u64::MAX, Fill::Old)?;
-        write!(told, "{answer:?}, {} calls", disk.calls())?;
+        write!(reported, "{answer:?}, {} calls", disk.calls())?;
         Ok(())
     }
 
     /// Opens the device `times` times in turn, or until an opening is refused.
-    fn open_often(&mut self, told: &mut String, times: usize) -> Result<(), AllocError> {
+    fn open_often(&mut self, reported: &mut String, times: usize) -> Result<(), AllocError> {
         let mut epoch = 0;
         for number in 0..times {
             match epoch_of(self.alloc, self.device()?) {
@@ -331,10 +334,10 @@ impl<H: Wait + Drop + Copy> Bench<H> {
                     epoch = opened;
                     self.bytes = disk.image(self.alloc, u64::MAX, Fill::New)?;
                 }
-                Err(fault) => return write!(told, "{number} times, then {fault:?}"),
+                Err(fault) => return write!(reported, "{number} times, then {fault:?}"),
             }
         }
-        write!(told, "epoch {epoch}")
+        write!(reported, "epoch {epoch}")
     }
 
     /// The device with its bytes, before its first call.
@@ -345,12 +348,12 @@ impl<H: Wait + Drop + Copy> Bench<H> {
     }
 
     /// Writes what was opened. What is kept then is what was kept after no save.
-    fn begin<B: Hold>(&mut self, told: &mut String, book: &mut B) -> Result<(), AllocError> {
+    fn begin<B: Hold>(&mut self, reported: &mut String, book: &mut B) -> Result<(), AllocError> {
         self.kept = Vec::new(self.alloc);
         self.keep(book)?;
         let gate = closed_gate(self.alloc, &self.bytes)?;
         let (epoch, calls) = (book.kept().epoch(), book.device().calls());
-        write!(told, "epoch {epoch}, gate {gate}, {calls} calls\n")
+        write!(reported, "epoch {epoch}, gate {gate}, {calls} calls\n")
     }
 
     /// Takes over what the Book's device holds now.
@@ -363,65 +366,70 @@ impl<H: Wait + Drop + Copy> Bench<H> {
 
     /// All that the Book keeps, but for the epoch.
     fn kept_by<B: Hold>(&self, book: &mut B) -> Result<String, AllocError> {
-        let told = told_in_turn(self.alloc, book, asked_in_turn(self.alloc, QUESTIONS)?)?;
-        with_tick(self.alloc, told.as_str(), book.kept().tick())
+        let reported = answers_in_turn(self.alloc, book, asked_in_turn(self.alloc, QUESTIONS)?)?;
+        with_tick(self.alloc, reported.as_str(), book.kept().tick())
     }
 
     /// Plays one line of a client, or one group.
     fn call<B: Hold>(
         &mut self,
-        told: &mut String,
+        reported: &mut String,
         book: &mut B,
         row: &str,
     ) -> Result<(), AllocError> {
-        let text = told_to(self.alloc, book, asked_by_row(self.alloc, row)?)?;
-        told.push_str(&text)?;
+        let text = answered_text(self.alloc, book, asked_by_row(self.alloc, row)?)?;
+        reported.push_str(&text)?;
         if !text.contains("applied") {
             return Ok(());
         }
         self.keep(book)?;
         let gate = closed_gate(self.alloc, &self.bytes)?;
-        write!(told, ", gate {gate}")
+        write!(reported, ", gate {gate}")
     }
 
     /// Plays one line of a client several times, and writes the reply to the last.
     fn call_often<B: Hold>(
         &mut self,
-        told: &mut String,
+        reported: &mut String,
         book: &mut B,
         how: &str,
     ) -> Result<(), AllocError> {
         let (times, line) = cut_word(how);
         for _ in 1..number(times) {
-            told_to(self.alloc, book, asked_by_row(self.alloc, line)?)?;
+            answered_text(self.alloc, book, asked_by_row(self.alloc, line)?)?;
         }
-        self.call(told, book, line)
+        self.call(reported, book, line)
     }
 
     /// Puts other bytes at some places, until the device is opened.
-    fn put(&mut self, told: &mut String, changes: &str) -> Result<(), AllocError> {
+    fn put(&mut self, reported: &mut String, changes: &str) -> Result<(), AllocError> {
         put_bytes(&mut self.bytes, changes);
-        told.push_str("put")
+        reported.push_str("put")
     }
 
     /// Writes the bytes between two places.
-    fn tell_bytes(&self, told: &mut String, places: &str) -> Result<(), AllocError> {
+    fn tell_bytes(&self, reported: &mut String, places: &str) -> Result<(), AllocError> {
         let (start, end) = cut_word(places);
         for byte in self.bytes.get(number(start)..number(end)).unwrap_or(&[]) {
-            write!(told, "{byte:02x}")?;
+            write!(reported, "{byte:02x}")?;
         }
         Ok(())
     }
 
     /// Writes what the device is opened as with some bytes changed.
-    fn tell_changed(&self, told: &mut String, changes: &str) -> Result<(), AllocError> {
+    fn tell_changed(&self, reported: &mut String, changes: &str) -> Result<(), AllocError> {
         let mut bytes = self.bytes.to_vec(self.alloc)?;
         put_bytes(&mut bytes, changes);
-        self.tell_opened(told, bytes)
+        self.tell_opened(reported, bytes)
     }
 
     /// Writes what the device is opened as after a crash in a call, with these bytes where it may leave any, and the replies to lines then.
-    fn tell_crash(&self, told: &mut String, disk: &MemDisk, how: &str) -> Result<(), AllocError> {
+    fn tell_crash(
+        &self,
+        reported: &mut String,
+        disk: &MemDisk,
+        how: &str,
+    ) -> Result<(), AllocError> {
         let (crash, lines) = cut_bar(how);
         let (call, changes) = cut_word(crash);
         let moment = number(call) as u64;
@@ -431,32 +439,32 @@ impl<H: Wait + Drop + Copy> Bench<H> {
             return Ok(());
         }
         let image = disk.image(self.alloc, moment, Fill::Bytes(&bytes))?;
-        self.tell_opened(told, image.to_vec(self.alloc)?)?;
+        self.tell_opened(reported, image.to_vec(self.alloc)?)?;
         if lines.is_empty() {
             return Ok(());
         }
-        told.push_str(": ")?;
-        self.tell_replies(told, image, lines)
+        reported.push_str(": ")?;
+        self.tell_replies(reported, image, lines)
     }
 
     /// Writes what the device is opened as after a crash in each call, with each byte in turn at a place where the crash may leave any. It
     /// comes after the first of the bytes that lead to it.
     fn tell_each_byte(
         &self,
-        told: &mut String,
+        reported: &mut String,
         disk: &MemDisk,
         place: usize,
     ) -> Result<(), AllocError> {
         for moment in 1..disk.calls().saturating_add(2) {
-            write!(told, "\n  in call {moment}:")?;
-            self.tell_bytes_in_turn(told, disk, moment, place)?;
+            write!(reported, "\n  in call {moment}:")?;
+            self.tell_bytes_in_turn(reported, disk, moment, place)?;
         }
         Ok(())
     }
 
     fn tell_bytes_in_turn(
         &self,
-        told: &mut String,
+        reported: &mut String,
         disk: &MemDisk,
         moment: u64,
         place: usize,
@@ -467,7 +475,7 @@ impl<H: Wait + Drop + Copy> Bench<H> {
             let mut text = String::new(self.alloc);
             self.tell_crash(&mut text, disk, &how)?;
             if text != last {
-                write!(told, " {byte:02x} {text};")?;
+                write!(reported, " {byte:02x} {text};")?;
                 last = text;
             }
         }
@@ -475,13 +483,13 @@ impl<H: Wait + Drop + Copy> Bench<H> {
     }
 
     /// Writes by call and by fill after how many saves what a crash leaves was kept.
-    fn tell_crashes(&self, told: &mut String, disk: &MemDisk) -> Result<(), AllocError> {
+    fn tell_crashes(&self, reported: &mut String, disk: &MemDisk) -> Result<(), AllocError> {
         for moment in 1..disk.calls().saturating_add(2) {
-            write!(told, "\n  in call {moment}:")?;
+            write!(reported, "\n  in call {moment}:")?;
             for number in 0..FILLS {
                 let image = self.left(disk, moment, number)?;
-                told.push(' ')?;
-                self.tell_place(told, image)?;
+                reported.push(' ')?;
+                self.tell_place(reported, image)?;
             }
         }
         Ok(())
@@ -500,41 +508,41 @@ impl<H: Wait + Drop + Copy> Bench<H> {
     }
 
     /// Plays an opening and the same line twice, on devices whose calls fail.
-    fn tell_faults(&self, told: &mut String, line: &str) -> Result<(), AllocError> {
+    fn tell_faults(&self, reported: &mut String, line: &str) -> Result<(), AllocError> {
         let lines = format!(in self.alloc; "{line} | {line}")?;
         for calls in 0..CALLS {
-            write!(told, "\n  one behind {calls} calls fails: ")?;
-            self.tell_fault(told, FuseDisk::once(self.device()?, calls), &lines)?;
-            write!(told, "\n  all behind {calls} calls fail: ")?;
-            self.tell_fault(told, FuseDisk::after(self.device()?, calls), &lines)?;
+            write!(reported, "\n  one behind {calls} calls fails: ")?;
+            self.tell_fault(reported, FuseDisk::once(self.device()?, calls), &lines)?;
+            write!(reported, "\n  all behind {calls} calls fail: ")?;
+            self.tell_fault(reported, FuseDisk::after(self.device()?, calls), &lines)?;
         }
         Ok(())
     }
 
     /// Plays an opening and some lines, on a device whose calls all fail after the first few.
-    fn tell_failing(&self, told: &mut String, how: &str) -> Result<(), AllocError> {
+    fn tell_failing(&self, reported: &mut String, how: &str) -> Result<(), AllocError> {
         let (calls, lines) = cut_bar(how);
         let disk = FuseDisk::after(self.device()?, number(calls) as u64);
-        self.tell_fault(told, disk, lines)
+        self.tell_fault(reported, disk, lines)
     }
 
     /// Writes what the lines come to, and what the device below is opened as then: with the bytes of its last sync, and with all written
     /// bytes.
     fn tell_fault(
         &self,
-        told: &mut String,
+        reported: &mut String,
         disk: FuseDisk<MemDisk>,
         lines: &str,
     ) -> Result<(), AllocError>
         requires { ⟦<FuseDisk<MemDisk> as Disk>⟧.fault_count disk ≡ 0 }
     {
         let (text, disk) = self.played(disk, lines)?;
-        told.push_str(&text)?;
+        reported.push_str(&text)?;
         let below = disk.into_inner();
-        told.push_str("; then ")?;
-        self.tell_opened(told, below.image(self.alloc, u64::MAX, Fill::Old)?)?;
-        told.push_str("; or ")?;
-        self.tell_opened(told, below.image(self.alloc, u64::MAX, Fill::New)?)
+        reported.push_str("; then ")?;
+        self.tell_opened(reported, below.image(self.alloc, u64::MAX, Fill::Old)?)?;
+        reported.push_str("; or ")?;
+        self.tell_opened(reported, below.image(self.alloc, u64::MAX, Fill::New)?)
     }
 
     /// Plays an opening and some lines: what the lines come to, or why it isn't opened, and the device.
@@ -546,39 +554,39 @@ impl<H: Wait + Drop + Copy> Bench<H> {
         requires { ⟦<FuseDisk<MemDisk> as Disk>⟧.fault_count disk ≡ 0 }
     {
         let asked = asked_in_turn(self.alloc, lines)?;
-        let Told { opened, text, disk } = ask(self.waits, self.alloc, disk, asked)?;
-        Ok((told_text(self.alloc, &opened, text)?, disk))
+        let Played { opened, text, disk } = ask(self.waits, self.alloc, disk, asked)?;
+        Ok((opening_text(self.alloc, &opened, text)?, disk))
     }
 
     /// Plays each of some lines with each of them after it, in one group and after other lines: writes the replies to the two, and whether
     /// they come to the same one by one.
-    fn tell_pairs(&self, told: &mut String, how: &str) -> Result<(), AllocError> {
+    fn tell_pairs(&self, reported: &mut String, how: &str) -> Result<(), AllocError> {
         let (before, lines) = how.rsplit_once(" | ").unwrap_or(("", how));
         for first in lines.split(GROUPED) {
-            self.tell_pairs_of(told, before, first, lines)?;
+            self.tell_pairs_of(reported, before, first, lines)?;
         }
         Ok(())
     }
 
     fn tell_pairs_of(
         &self,
-        told: &mut String,
+        reported: &mut String,
         before: &str,
         first: &str,
         lines: &str,
     ) -> Result<(), AllocError> {
         let places = before.split(" | ").count();
         for second in lines.split(GROUPED) {
-            let one_by_one = self.replies_behind(
+            let one_by_one = self.replies_after(
                 before,
                 &format!(in self.alloc; "{first} | {second}")?,
             )?;
             let pair = format!(in self.alloc; "{first}{GROUPED}{second}")?;
-            let grouped = self.replies_behind(before, &format!(in self.alloc; "group {pair}")?)?;
+            let grouped = self.replies_after(before, &format!(in self.alloc; "group {pair}")?)?;
             let replies = grouped.split(", ").nth(places).unwrap_or("");
             let is_same = grouped.replace(self.alloc, GROUPED, ", ")? == one_by_one;
             write!(
-                told,
+                reported,
                 "\n  {pair}: {replies}; one by one the same: {is_same}"
             )?;
         }
@@ -586,17 +594,17 @@ impl<H: Wait + Drop + Copy> Bench<H> {
     }
 
     /// The replies to lines and to some after them over the device with its bytes, and to the questions for all that is kept then.
-    fn replies_behind(&self, before: &str, lines: &str) -> Result<String, AllocError> {
-        let mut told = String::new(self.alloc);
+    fn replies_after(&self, before: &str, lines: &str) -> Result<String, AllocError> {
+        let mut reported = String::new(self.alloc);
         let all = format!(in self.alloc; "{before} | {lines} | {QUESTIONS}")?;
-        self.tell_replies(&mut told, self.bytes.to_vec(self.alloc)?, &all)?;
-        Ok(told)
+        self.tell_replies(&mut reported, self.bytes.to_vec(self.alloc)?, &all)?;
+        Ok(reported)
     }
 
     /// Writes the replies to lines over a device with these bytes.
     fn tell_replies(
         &self,
-        told: &mut String,
+        reported: &mut String,
         bytes: Vec<u8>,
         lines: &str,
     ) -> Result<(), AllocError> {
@@ -605,7 +613,7 @@ impl<H: Wait + Drop + Copy> Bench<H> {
             asked_in_turn(self.alloc, lines)?,
         );
         let over = ask(self.waits, self.alloc, disk, asked)?;
-        told.push_str(&over.text)
+        reported.push_str(&over.text)
     }
 
     /// Opens a device with these bytes.
@@ -615,41 +623,41 @@ impl<H: Wait + Drop + Copy> Bench<H> {
             asked_in_turn(self.alloc, QUESTIONS)?,
         );
         match ask(self.waits, self.alloc, disk, asked) {
-            Ok(told) => opened_of(self.alloc, told),
+            Ok(reported) => opened_of(self.alloc, reported),
             Err(fault) => Err(fault),
         }
     }
 
     /// Writes what a device with these bytes is opened as.
-    fn tell_opened(&self, told: &mut String, bytes: Vec<u8>) -> Result<(), AllocError> {
+    fn tell_opened(&self, reported: &mut String, bytes: Vec<u8>) -> Result<(), AllocError> {
         match self.opened(bytes)? {
             Ok(opened) => {
                 let Opened { epoch, gate, .. } = &opened;
-                write!(told, "epoch {epoch}, gate {gate}, saves ")?;
-                self.tell_saves(told, &opened.kept)
+                write!(reported, "epoch {epoch}, gate {gate}, saves ")?;
+                self.tell_saves(reported, &opened.kept)
             }
-            Err(fault) => write!(told, "{fault:?}"),
+            Err(fault) => write!(reported, "{fault:?}"),
         }
     }
 
     /// Writes after how many saves what a device with these bytes holds was kept; and, if its opening switches to the other bank, how many
     /// of the crashes in the calls of that opening leave the same.
-    fn tell_place(&self, told: &mut String, bytes: Vec<u8>) -> Result<(), AllocError> {
+    fn tell_place(&self, reported: &mut String, bytes: Vec<u8>) -> Result<(), AllocError> {
         let (gate, half) = (closed_gate(self.alloc, &bytes)?, bytes.len() / 2);
         match self.opened(bytes)? {
             Ok(opened) => {
-                self.tell_saves(told, &opened.kept)?;
+                self.tell_saves(reported, &opened.kept)?;
                 if (gate < half) != (opened.gate < half) {
-                    self.tell_stops(told, &opened)?;
+                    self.tell_stops(reported, &opened)?;
                 }
                 Ok(())
             }
-            Err(fault) => write!(told, "{fault:?}"),
+            Err(fault) => write!(reported, "{fault:?}"),
         }
     }
 
     /// Writes how many of the crashes in the calls of an opening leave what it gave, in its epoch or the next.
-    fn tell_stops(&self, told: &mut String, opened: &Opened) -> Result<(), AllocError> {
+    fn tell_stops(&self, reported: &mut String, opened: &Opened) -> Result<(), AllocError> {
         let (mut same, mut all) = (0u64, 0u64);
         for moment in 1..opened.disk.calls().saturating_add(2) {
             for number in 0..FILLS {
@@ -660,7 +668,7 @@ impl<H: Wait + Drop + Copy> Bench<H> {
                 }
             }
         }
-        write!(told, "({same} of {all})")
+        write!(reported, "({same} of {all})")
     }
 
     /// Whether a device with these bytes is opened as what an earlier opening gave, in that epoch or the next.
@@ -675,10 +683,10 @@ impl<H: Wait + Drop + Copy> Bench<H> {
     }
 
     /// Writes after how many saves this was kept.
-    fn tell_saves(&self, told: &mut String, text: &String) -> Result<(), AllocError> {
+    fn tell_saves(&self, reported: &mut String, text: &String) -> Result<(), AllocError> {
         match self.kept.iter().position(|kept| kept == text) {
-            Some(saves) => write!(told, "{saves}"),
-            None => write!(told, "?"),
+            Some(saves) => write!(reported, "{saves}"),
+            None => write!(reported, "?"),
         }
     }
 }

@@ -42,12 +42,12 @@ pub fn stream_at_random(
 // The stream with another byte, mostly; or cut, or with some bytes dropped or doubled.
 fn changed(alloc: Global, chance: &mut Chance, stream: &[u8]) -> Result<Vec<u8>, AllocError> {
     let (how, place) = (chance.below(8), chance.below(stream.len()));
-    let (front, back) = (front_of(stream, place), behind(stream, place));
+    let (front, back) = (front_of(stream, place), rest_from(stream, place));
     let count = chance.below(70);
     let mut made = Vec::from_slice(alloc, front)?;
     match how {
         0 => {}
-        1 => made.extend_from_slice(behind(back, count))?,
+        1 => made.extend_from_slice(rest_from(back, count))?,
         2 => {
             made.extend_from_slice(front_of(back, count))?;
             made.extend_from_slice(back)?;
@@ -68,7 +68,7 @@ pub fn front_of(bytes: &[u8], count: usize) -> &[u8] {
 }
 
 /// What stands behind the first so many of the bytes.
-pub fn behind(bytes: &[u8], count: usize) -> &[u8] {
+pub fn rest_from(bytes: &[u8], count: usize) -> &[u8] {
     bytes.get(count..).unwrap_or(&[])
 }
 
@@ -87,7 +87,7 @@ pub fn pieces_of<'a>(
         }
         let count = chance.below(most).saturating_add(1);
         pieces.push(front_of(rest, count))?;
-        rest = behind(rest, count);
+        rest = rest_from(rest, count);
     }
     pieces.push(rest)?;
     Ok(pieces)

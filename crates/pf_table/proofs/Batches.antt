@@ -2,7 +2,7 @@
 use Rattle.std.proofs.{Common.{◌≡◌, ℕ, zero, suc, ◌+◌, ◌<◌, ◌≤◌, Bool, true, false, not, cond, ◌&&◌, List, [], ◌∷◌, ◌++◌, length, get_or, take, drop, append-nil, append_assoc, drop-cons, Option, Some, None, is_some, is_none, refl, sym, ap, ◌∙◌, subst, true≢false, arith}, Math.Seq.take-suc, lemmas.Bool.or_parts, lemmas.List.take-append-drop, lemmas.List.Folds.list_any-append, lemmas.List.Sums.fold-append, lemmas.List.Elements.{All-nil, All-push}}
 use Rattle.std.specs.{Bool.beq, FinMap.put, FinMap.Entries.find_tied, Ordering.is_eq, List.{list_any, All, fold}, Option.option_or}
 use Rattle.pf_addr.specs.Address.{IsNetwork, PlainNet}
-use Rattle.pf_table.specs.{declared.answer.{Addition.{Addition, TheVariants.{Added, Same, Conflict}}, Deletion.Deletion}, Entries.PlainEntry, Laws.Edits.{Agree, any_is_sign, agree_push, or_none, sign_added, sign_left, sign_deleted}, Tables.sign_of, Edits.{with_entry, added, addition, additions, is_sign, has_entry, without_entry, deleted, deletion, deletions, same_entry, is_opposite, conflict_behind, conflict_in}, Noted.{first_sign, noted_with}}
+use Rattle.pf_table.specs.{declared.answer.{Addition.{Addition, TheVariants.{Added, Same, Conflict}}, Deletion.Deletion}, Entries.PlainEntry, Laws.Edits.{Agree, any_is_sign, agree_push, or_none, sign_added, sign_left, sign_deleted}, Tables.sign_of, Edits.{with_entry, added, addition, additions, is_sign, has_entry, without_entry, deleted, deletion, deletions, same_entry, is_opposite, conflict_after, conflict_in}, Noted.{first_sign, noted_with}}
 use Rattle.pf_addr.specs.{NetOrder.net_order, Laws.NetOrder.net_total}
 use Rattle.pf_map.specs.Maps.{with_value, without}
 use Rattle.pf_map.proofs.Tests.{equal_of}
@@ -26,27 +26,27 @@ all_taken (x ∷ xs) (suc i) le = let rest = all_taken xs i (omega arith) in (ap
 -- ---- conflicts
 
 -- where a list names no network with both signs, it is a list of networks with one sign each
-agree_behind : (before xs : List PlainEntry) → Agree before → conflict_behind before xs ≡ None → Agree (before ++ xs)
-unfolding conflict_behind
-agree_behind before [] agree none = subst Agree (sym (append-nil before)) agree
-agree_behind before (x ∷ xs) agree none = by (list_any (is_opposite x) before) refl (agree_behind (before ++ x ∷ []) xs) where
+agree_after : (before xs : List PlainEntry) → Agree before → conflict_after before xs ≡ None → Agree (before ++ xs)
+unfolding conflict_after
+agree_after before [] agree none = subst Agree (sym (append-nil before)) agree
+agree_after before (x ∷ xs) agree none = by (list_any (is_opposite x) before) refl (agree_after (before ++ x ∷ []) xs) where
   by : (b : Bool) → list_any (is_opposite x) before ≡ b →
-      (Agree (before ++ x ∷ []) → conflict_behind (before ++ x ∷ []) xs ≡ None → Agree ((before ++ x ∷ []) ++ xs)) →
+      (Agree (before ++ x ∷ []) → conflict_after (before ++ x ∷ []) xs ≡ None → Agree ((before ++ x ∷ []) ++ xs)) →
       Agree (before ++ x ∷ xs)
   by true is rest = let some : Some (length before) ≡ None = rw is at none in absurd (true≢false (ap is_some some))
-  by false is rest = let later : conflict_behind (before ++ x ∷ []) xs ≡ None = rw is at none in
+  by false is rest = let later : conflict_after (before ++ x ∷ []) xs ≡ None = rw is at none in
       subst Agree (append_assoc before (x ∷ []) xs) (rest (agree_push before x agree is) later)
 
 pub agreeing : (xs : List PlainEntry) → conflict_in xs ≡ None → Agree xs
-agreeing xs none = agree_behind [] xs tt none
+agreeing xs none = agree_after [] xs tt none
 
 agree_front : (xs ys : List PlainEntry) → Agree (xs ++ ys) → Agree xs
 agree_front [] ys agree = tt
 agree_front (x ∷ xs) ys agree = ((or_parts _ _ (sym (list_any-append (is_opposite x) xs ys) ∙ agree.0)).0, agree_front xs ys agree.1)
 
-pub none_before : (before xs : List PlainEntry) (i : ℕ) (x : PlainEntry) → i < length xs → x ≡ get_or xs i x → conflict_behind before xs ≡ None →
+pub none_before : (before xs : List PlainEntry) (i : ℕ) (x : PlainEntry) → i < length xs → x ≡ get_or xs i x → conflict_after before xs ≡ None →
     list_any (is_opposite x) (before ++ take i xs) ≡ false
-unfolding conflict_behind
+unfolding conflict_after
 none_before before [] i x lt at none = absurd (omega arith)
 none_before before (y ∷ xs) zero x lt at none = by (list_any (is_opposite y) before) refl where
   by : (b : Bool) → list_any (is_opposite y) before ≡ b → list_any (is_opposite x) (before ++ []) ≡ false
@@ -55,10 +55,10 @@ none_before before (y ∷ xs) zero x lt at none = by (list_any (is_opposite y) b
 none_before before (y ∷ xs) (suc i) x lt at none =
     by (list_any (is_opposite y) before) refl (none_before (before ++ y ∷ []) xs i x (omega arith) at) where
       by : (b : Bool) → list_any (is_opposite y) before ≡ b →
-          (conflict_behind (before ++ y ∷ []) xs ≡ None → list_any (is_opposite x) ((before ++ y ∷ []) ++ take i xs) ≡ false) →
+          (conflict_after (before ++ y ∷ []) xs ≡ None → list_any (is_opposite x) ((before ++ y ∷ []) ++ take i xs) ≡ false) →
           list_any (is_opposite x) (before ++ y ∷ take i xs) ≡ false
       by true is rest = let some : Some (length before) ≡ None = rw is at none in absurd (true≢false (ap is_some some))
-      by false is rest = let later : conflict_behind (before ++ y ∷ []) xs ≡ None = rw is at none in
+      by false is rest = let later : conflict_after (before ++ y ∷ []) xs ≡ None = rw is at none in
           ap (list_any (is_opposite x)) (sym (append_assoc before (y ∷ []) (take i xs))) ∙ rest later
 
 pub no_other_sign : (xs : List PlainEntry) (i : ℕ) (x : PlainEntry) → conflict_in xs ≡ None → i < length xs → x ≡ get_or xs i x →
@@ -72,7 +72,7 @@ no_other_sign xs i x none lt at =
 -- what is gathered of the first i entries
 pub record Gathering (xs : List PlainEntry) (i : ℕ) (rows : List PlainEntry) : Type 0 where
   pub named : rows ≡ added [] (take i xs)
-  pub conflict : conflict_behind (take i xs) (drop i xs) ≡ conflict_in xs
+  pub conflict : conflict_after (take i xs) (drop i xs) ≡ conflict_in xs
   pub agree : Agree (take i xs)
   pub networks : All (λ e. IsNetwork e.0) (take i xs)
 
@@ -92,26 +92,26 @@ one_more es xs i x lt at = sym (ap (fold with_entry es) (next_cut xs i x lt at).
 
 pub gathers_next : (xs : List PlainEntry) (i : ℕ) (named : List PlainEntry) (x : PlainEntry) → Gathering xs i named → i < length xs → x ≡ get_or xs i x →
     IsNetwork x.0 → is_sign (not x.1) (sign_of x.0 named) ≡ false → Gathering xs (i + 1) (with_entry named x)
-unfolding conflict_behind
+unfolding conflict_after
 gathers_next xs i named x g lt at network is =
     let (rest, front) = next_cut xs i x lt at in
     let none = other_named xs i named x false g is in
     record {
       named = ap (λ l. with_entry l x) g.named ∙ one_more [] xs i x lt at;
-      conflict = rw front (sym (ap (conflict_behind (take i xs)) rest
-          ∙ ap (λ b. cond b (Some (length (take i xs))) (conflict_behind (take i xs ++ x ∷ []) (drop (i + 1) xs))) none)) ∙ g.conflict;
+      conflict = rw front (sym (ap (conflict_after (take i xs)) rest
+          ∙ ap (λ b. cond b (Some (length (take i xs))) (conflict_after (take i xs ++ x ∷ []) (drop (i + 1) xs))) none)) ∙ g.conflict;
       agree = rw front (agree_push (take i xs) x g.agree none);
       networks = rw front (All-push (λ e. IsNetwork e.0) (take i xs) x g.networks network);
     }
 
 pub gathers_no_more : (xs : List PlainEntry) (i : ℕ) (named : List PlainEntry) (x : PlainEntry) → Gathering xs i named → i < length xs → x ≡ get_or xs i x →
     is_sign (not x.1) (sign_of x.0 named) ≡ true → conflict_in xs ≡ Some i
-unfolding conflict_behind
+unfolding conflict_after
 gathers_no_more xs i named x g lt at is =
     let (rest, front) = next_cut xs i x lt at in
     let some = other_named xs i named x true g is in
-    sym g.conflict ∙ ap (conflict_behind (take i xs)) rest
-    ∙ ap (λ b. cond b (Some (length (take i xs))) (conflict_behind (take i xs ++ x ∷ []) (drop (i + 1) xs))) some
+    sym g.conflict ∙ ap (conflict_after (take i xs)) rest
+    ∙ ap (λ b. cond b (Some (length (take i xs))) (conflict_after (take i xs ++ x ∷ []) (drop (i + 1) xs))) some
     ∙ ap (λ n. Some n) (length_of xs i lt)
   where
     length_of : (ys : List PlainEntry) (n : ℕ) → n < length ys → length (take n ys) ≡ n
@@ -126,11 +126,11 @@ pub record Gathered (xs rows : List PlainEntry) : Type 0 where
   pub networks : All (λ e. IsNetwork e.0) xs
 
 pub gathered_all : (xs : List PlainEntry) (i : ℕ) (named : List PlainEntry) → Gathering xs i named → length xs ≤ i → Gathered xs named
-unfolding conflict_behind
+unfolding conflict_after
 gathered_all xs i named g le =
     let (whole, none) = all_taken xs i le in
     record {
-      none = sym g.conflict ∙ ap (conflict_behind (take i xs)) none;
+      none = sym g.conflict ∙ ap (conflict_after (take i xs)) none;
       named = g.named ∙ ap (added []) whole;
       networks = subst (All (λ e. IsNetwork e.0)) whole g.networks;
     }
@@ -210,13 +210,13 @@ notes_next es before noted x (Some t) None are is at = λ q some.
 pub record Adding (es xs : List PlainEntry) (i : ℕ) (after noted : List PlainEntry) (answers : List Addition) : Type 0 where
   pub so_far : after ≡ added es (take i xs)
   pub signs : IsNoted es (take i xs) noted
-  pub told : answers ++ additions (added es (take i xs)) (drop i xs) ≡ additions es xs
+  pub reported : answers ++ additions (added es (take i xs)) (drop i xs) ≡ additions es xs
   pub list : Gathering xs i (added [] (take i xs))
 
 pub adding_nothing : (es xs after : List PlainEntry) (answers : List Addition) → after ≡ es → answers ≡ [] → Adding es xs 0 after [] answers
 unfolding added
 adding_nothing es xs after answers is none =
-    record { so_far = is; signs = λ q some. refl; told = ap (λ l. l ++ additions es xs) none; list = gathering_nothing xs }
+    record { so_far = is; signs = λ q some. refl; reported = ap (λ l. l ++ additions es xs) none; list = gathering_nothing xs }
 
 -- what is known of the next entry: its network's sign in the table so far, and the one with which it was first named
 pub record IsNext (es xs : List PlainEntry) (i : ℕ) (after noted : List PlainEntry) (x : PlainEntry) (there first : Option Bool) : Type 0 where
@@ -245,8 +245,8 @@ adding_next es xs i after noted answers x there first a n network is =
       so_far = ap (λ l. with_entry l x) a.so_far ∙ one_more es xs i x n.low n.at;
       signs = subst (λ l. IsNoted es l (noted_with noted there first x)) (sym front) (notes_next es (take i xs) noted x there first a.signs
           (n.is_there ∙ ap (sign_of x.0) a.so_far) (first-named es xs i after noted answers x there first a n));
-      told = ap (λ o. (answers ++ addition o x.1 ∷ []) ++ additions (added es (take (i + 1) xs)) (drop (i + 1) xs)) n.is_there
-          ∙ adds_next answers es after xs i x a.so_far n.low n.at ∙ a.told;
+      reported = ap (λ o. (answers ++ addition o x.1 ∷ []) ++ additions (added es (take (i + 1) xs)) (drop (i + 1) xs)) n.is_there
+          ∙ adds_next answers es after xs i x a.so_far n.low n.at ∙ a.reported;
       list = subst (Gathering xs (i + 1)) (one_more [] xs i x n.low n.at) (gathers_next xs i (added [] (take i xs)) x a.list n.low n.at network
           (opposed es xs i after noted answers x there first false a n is));
     }
@@ -259,7 +259,7 @@ adding_stops es xs i after noted answers x there first a n is =
 -- what is known after all entries were added
 pub record AllAdded (es xs after : List PlainEntry) (answers : List Addition) : Type 0 where
   pub leaves : after ≡ added es xs
-  pub told : answers ≡ additions es xs
+  pub reported : answers ≡ additions es xs
   pub none : conflict_in xs ≡ None
   pub networks : All (λ e. IsNetwork e.0) xs
 
@@ -269,7 +269,7 @@ all_added es xs i after noted answers a le =
     let list = gathered_all xs i (added [] (take i xs)) a.list le in
     record {
       leaves = a.so_far ∙ ap (added es) (all_taken xs i le).0;
-      told = adds_end answers es xs i le ∙ a.told;
+      reported = adds_end answers es xs i le ∙ a.reported;
       none = list.none;
       networks = list.networks;
     }
@@ -317,29 +317,29 @@ dels_end answers es xs i le = sym (append-nil answers)
 
 -- the answer for an entry that is added, where no network is named with both signs: by its network's sign in the table before the edit, and
 -- by whether it is the first of its network
-abbrev pub told : Option Bool → Bool → Bool → Addition
-told None true sign = Added
-told None false sign = Same
-told (Some there) first sign = cond (beq sign there) Same Conflict
+abbrev pub reported : Option Bool → Bool → Bool → Addition
+reported None true sign = Added
+reported None false sign = Same
+reported (Some there) first sign = cond (beq sign there) Same Conflict
 
-pub adds_told : (o p : Option Bool) (s : Bool) → is_sign (not s) p ≡ false → addition (option_or o p) s ≡ told o (is_none p) s
-adds_told (Some t) p s other = refl
-adds_told None None s other = refl
-adds_told None (Some true) true other = refl
-adds_told None (Some false) true other = absurd (true≢false other)
-adds_told None (Some true) false other = absurd (true≢false other)
-adds_told None (Some false) false other = refl
+pub adds_by_signs : (o p : Option Bool) (s : Bool) → is_sign (not s) p ≡ false → addition (option_or o p) s ≡ reported o (is_none p) s
+adds_by_signs (Some t) p s other = refl
+adds_by_signs None None s other = refl
+adds_by_signs None (Some true) true other = refl
+adds_by_signs None (Some false) true other = absurd (true≢false other)
+adds_by_signs None (Some true) false other = absurd (true≢false other)
+adds_by_signs None (Some false) false other = refl
 
 and_false : (b : Bool) → false ≡ (b && false)
 and_false true = refl
 and_false false = refl
 
-dels_told : (o p : Option Bool) (s : Bool) → is_sign (not s) p ≡ false → (named : Bool → Bool) → ((t : Bool) → named t ≡ is_sign t p) →
+dels_by_signs : (o p : Option Bool) (s : Bool) → is_sign (not s) p ≡ false → (named : Bool → Bool) → ((t : Bool) → named t ≡ is_sign t p) →
     (left : Option Bool → Option Bool) → (left None ≡ None) → ((t : Bool) → left (Some t) ≡ cond (named t) None (Some t)) →
     is_sign s (left o) ≡ (is_none p && is_sign s o)
-dels_told None p s other named are left at_none at_some = ap (is_sign s) at_none ∙ and_false (is_none p)
-dels_told (Some t) None s other named are left at_none at_some = ap (is_sign s) (at_some t ∙ ap (λ b. cond b None (Some t)) (are t))
-dels_told (Some t) (Some u) s other named are left at_none at_some = ap (is_sign s) (at_some t ∙ ap (λ b. cond b None (Some t)) (are t))
+dels_by_signs None p s other named are left at_none at_some = ap (is_sign s) at_none ∙ and_false (is_none p)
+dels_by_signs (Some t) None s other named are left at_none at_some = ap (is_sign s) (at_some t ∙ ap (λ b. cond b None (Some t)) (are t))
+dels_by_signs (Some t) (Some u) s other named are left at_none at_some = ap (is_sign s) (at_some t ∙ ap (λ b. cond b None (Some t)) (are t))
     ∙ by t u s other where
       by : (t u s : Bool) → beq (not s) u ≡ false → is_sign s (cond (beq t u) None (Some t)) ≡ false
       by true true s other = refl
@@ -355,5 +355,5 @@ pub dels_by_old : (es xs : List PlainEntry) (i : ℕ) (x : PlainEntry) → confl
 dels_by_old es xs i x none lt at =
     let agree = agree_front (take i xs) (drop i xs) (subst Agree (sym (take-append-drop i xs)) (agreeing xs none)) in
     ap (is_sign x.1) (sign_deleted es (take i xs) x.0)
-    ∙ dels_told (sign_of x.0 es) (sign_of x.0 (take i xs)) x.1 (no_other_sign xs i x none lt at)
+    ∙ dels_by_signs (sign_of x.0 es) (sign_of x.0 (take i xs)) x.1 (no_other_sign xs i x none lt at)
     (λ t. list_any (same_entry (x.0, t)) (take i xs)) (any_is_sign (take i xs) agree x.0) (sign_left (take i xs) x.0) refl (λ t. refl)

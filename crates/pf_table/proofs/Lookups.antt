@@ -107,9 +107,9 @@ sign_there (f ∷ es) e is (zero, lt, at) =
     subst (λ (x : PlainEntry). sign_of x.0 (f ∷ es) ≡ Some x.1) at (ap (λ r. cond (is_eq r) (Some f.1) (sign_of f.0 es))
     (tied_itself net_total f.0))
 sign_there (f ∷ es) e is (suc k, lt, at) =
-    let behind : net_order f.0 e.0 ≡ Less = ap (λ (x : PlainEntry). net_order f.0 x.0) (sym at)
+    let following : net_order f.0 e.0 ≡ Less = ap (λ (x : PlainEntry). net_order f.0 x.0) (sym at)
     ∙ below_at f.0 es k e (first_of _ _ is) (omega arith) in
-    ap (λ r. cond (is_eq r) (Some f.1) (sign_of e.0 es)) (net_total.antisymm e.0 f.0 ∙ ap ordering_reverse behind)
+    ap (λ r. cond (is_eq r) (Some f.1) (sign_of e.0 es)) (net_total.antisymm e.0 f.0 ∙ ap ordering_reverse following)
     ∙ sign_there es e (second_of _ _ is) (k, omega arith, at)
 
 pub one_entry : (es : List PlainEntry) (e f : PlainEntry) → sorted es → Contains es e → Contains es f → e.0 ≡ f.0 → e ≡ f

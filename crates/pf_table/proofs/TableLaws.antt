@@ -2,10 +2,10 @@
 use Rattle.std.proofs.{Common.{◌≡◌, ◌≢◌, ℕ, zero, suc, ◌+◌, ◌<◌, T, Bool, true, false, not, cond, List, [], ◌∷◌, ◌++◌, ◌&&◌, length, get_or, slice_get, take, append-nil, append_assoc, length-append, filter, Option, Some, None, is_some, is_none, option_map, refl, sym, ap, ◌∙◌, subst, true≢false, arith, Contains}, lemmas.List.Elements.{All-from_recursion, recursion_from_All}, lemmas.Option.{slice_get_within, get_or_from_slice_get}}
 use Rattle.std.specs.{Bool.beq, Cmp.tied_itself, FinMap.{put, is_sorted}, FinMap.Entries.{where_key, find-put, length-put, length_without, is_sorted-put, is_sorted-where_key}, List.list_any, Option.{option_or, option_map_or}, Ordering.{eq_by_cmp, is_eq}}
 use Rattle.pf_addr.specs.Address.{PlainNet, contains, IsNetwork}
-use Rattle.pf_table.specs.{declared.answer.{Addition.{Addition, TheVariants.{Same, Conflict}}, Deletion.{Deletion, TheVariants.Absent}}, Entries.PlainEntry, Tables.{sign_of, Decides, deciding, table_holds}, Edits.{added, addition, additions, with_entry, is_sign, has_entry, without_entry, deleted, deletion, deletions, same_entry, is_opposite, conflict_behind, conflict_in}, Laws.Edits.{exchanged, or_none, sign_added, sign_deleted, sign_left, sorted_added, sorted_deleted, added_all, deleted_all, deleted_fewer, one_table}}
+use Rattle.pf_table.specs.{declared.answer.{Addition.{Addition, TheVariants.{Same, Conflict}}, Deletion.{Deletion, TheVariants.Absent}}, Entries.PlainEntry, Tables.{sign_of, Decides, deciding, table_holds}, Edits.{added, addition, additions, with_entry, is_sign, has_entry, without_entry, deleted, deletion, deletions, same_entry, is_opposite, conflict_after, conflict_in}, Laws.Edits.{exchanged, or_none, sign_added, sign_deleted, sign_left, sorted_added, sorted_deleted, added_all, deleted_all, deleted_fewer, one_table}}
 use Rattle.pf_addr.specs.{NetOrder.net_order, Laws.NetOrder.net_total}
 use Rattle.pf_table.specs.Laws.Tables as Laws
-use Rattle.pf_table.proofs.{Batches.{told, none_before, no_other_sign, adds_told, dels_by_old}, Edits.still_few, Lookups.{none_contains, decides, decided, contains_family}}
+use Rattle.pf_table.proofs.{Batches.{reported, none_before, no_other_sign, adds_by_signs, dels_by_old}, Edits.still_few, Lookups.{none_contains, decides, decided, contains_family}}
 
 pub table_decides : Laws.TableDecides
 table_decides es a is = record {
@@ -204,7 +204,7 @@ other_sign false = refl
 
 pub answers_in_order : Laws.AnswersInOrder
 answers_in_order es xs none i x at = record {
-  added = λ there before. adds ∙ by_old there ∙ ap (λ o. Some (told None (is_none o) x.1)) before;
+  added = λ there before. adds ∙ by_old there ∙ ap (λ o. Some (reported None (is_none o) x.1)) before;
   added_before = λ there before. adds ∙ by_old there ∙ again (sign_of x.0 (take i xs)) before;
   same = λ there. adds ∙ by_old there ∙ ap (λ b. Some (cond b Same Conflict)) (own_sign x.1);
   conflict = λ there. adds ∙ by_old there ∙ ap (λ b. Some (cond b Same Conflict)) (other_sign x.1);
@@ -219,16 +219,16 @@ answers_in_order es xs none i x at = record {
     read : x ≡ get_or xs i x
     read = sym (get_or_from_slice_get xs i x x at)
 
-    adds : slice_get (additions es xs) i ≡ Some (told (sign_of x.0 es) (is_none (sign_of x.0 (take i xs))) x.1)
-    adds = adds_at es xs i x at ∙ ap (λ o. Some (addition o x.1)) (sign_added es (take i xs) x.0) ∙ ap (λ a. Some a) (adds_told (sign_of x.0 es) (sign_of x.0 (take i xs)) x.1 (no_other_sign xs i x none lt read))
+    adds : slice_get (additions es xs) i ≡ Some (reported (sign_of x.0 es) (is_none (sign_of x.0 (take i xs))) x.1)
+    adds = adds_at es xs i x at ∙ ap (λ o. Some (addition o x.1)) (sign_added es (take i xs) x.0) ∙ ap (λ a. Some a) (adds_by_signs (sign_of x.0 es) (sign_of x.0 (take i xs)) x.1 (no_other_sign xs i x none lt read))
 
     dels : slice_get (deletions es xs) i ≡ Some (deletion (is_none (sign_of x.0 (take i xs)) && is_sign x.1 (sign_of x.0 es)))
     dels = dels_at es xs i x at ∙ ap (λ b. Some (deletion b)) (dels_by_old es xs i x none lt read)
 
-    by_old : {o : Option Bool} → sign_of x.0 es ≡ o → Some (told (sign_of x.0 es) (is_none (sign_of x.0 (take i xs))) x.1) ≡ Some (told o (is_none (sign_of x.0 (take i xs))) x.1)
-    by_old there = ap (λ o. Some (told o (is_none (sign_of x.0 (take i xs))) x.1)) there
+    by_old : {o : Option Bool} → sign_of x.0 es ≡ o → Some (reported (sign_of x.0 es) (is_none (sign_of x.0 (take i xs))) x.1) ≡ Some (reported o (is_none (sign_of x.0 (take i xs))) x.1)
+    by_old there = ap (λ o. Some (reported o (is_none (sign_of x.0 (take i xs))) x.1)) there
 
-    again : (o : Option Bool) → o ≢ None → Some (told None (is_none o) x.1) ≡ Some Same
+    again : (o : Option Bool) → o ≢ None → Some (reported None (is_none o) x.1) ≡ Some Same
     again None some = absurd (some refl)
     again (Some s) some = refl
 
@@ -249,18 +249,18 @@ answers_in_order es xs none i x at = record {
 
 -- ---- conflicts
 
-first_from : (before xs : List PlainEntry) (n : ℕ) → conflict_behind before xs ≡ Some n → (i : ℕ) × (n ≡ length before + i) × (i < length xs) × ((x : PlainEntry) → x ≡ get_or xs i x → list_any (is_opposite x) (before ++ take i xs) ≡ true) × ((j : ℕ) → j < i → (x : PlainEntry) → x ≡ get_or xs j x → list_any (is_opposite x) (before ++ take j xs) ≡ false)
-unfolding conflict_behind
+first_from : (before xs : List PlainEntry) (n : ℕ) → conflict_after before xs ≡ Some n → (i : ℕ) × (n ≡ length before + i) × (i < length xs) × ((x : PlainEntry) → x ≡ get_or xs i x → list_any (is_opposite x) (before ++ take i xs) ≡ true) × ((j : ℕ) → j < i → (x : PlainEntry) → x ≡ get_or xs j x → list_any (is_opposite x) (before ++ take j xs) ≡ false)
+unfolding conflict_after
 first_from before [] n is = absurd (true≢false (sym (ap is_some is)))
 first_from before (y ∷ xs) n is = by (list_any (is_opposite y) before) refl (first_from (before ++ y ∷ []) xs n) where
-  by : (b : Bool) → list_any (is_opposite y) before ≡ b → (conflict_behind (before ++ y ∷ []) xs ≡ Some n → (i : ℕ) × (n ≡ length (before ++ y ∷ []) + i) × (i < length xs) × ((x : PlainEntry) → x ≡ get_or xs i x → list_any (is_opposite x) ((before ++ y ∷ []) ++ take i xs) ≡ true) × ((j : ℕ) → j < i → (x : PlainEntry) → x ≡ get_or xs j x → list_any (is_opposite x) ((before ++ y ∷ []) ++ take j xs) ≡ false)) →
+  by : (b : Bool) → list_any (is_opposite y) before ≡ b → (conflict_after (before ++ y ∷ []) xs ≡ Some n → (i : ℕ) × (n ≡ length (before ++ y ∷ []) + i) × (i < length xs) × ((x : PlainEntry) → x ≡ get_or xs i x → list_any (is_opposite x) ((before ++ y ∷ []) ++ take i xs) ≡ true) × ((j : ℕ) → j < i → (x : PlainEntry) → x ≡ get_or xs j x → list_any (is_opposite x) ((before ++ y ∷ []) ++ take j xs) ≡ false)) →
       (i : ℕ) × (n ≡ length before + i) × (i < suc (length xs)) × ((x : PlainEntry) → x ≡ get_or (y ∷ xs) i x → list_any (is_opposite x) (before ++ take i (y ∷ xs)) ≡ true) × ((j : ℕ) → j < i → (x : PlainEntry) → x ≡ get_or (y ∷ xs) j x → list_any (is_opposite x) (before ++ take j (y ∷ xs)) ≡ false)
   by true found rest =
       let some : Some (length before) ≡ Some n = rw found at is in
       let same : length before ≡ n = cc in
       (0, omega (arith, same), omega arith, λ x at. ap (list_any (is_opposite x)) (append-nil before) ∙ ap (λ e. list_any (is_opposite e) before) at ∙ found, λ j lt. absurd (omega (arith, lt)))
   by false none rest =
-      let later : conflict_behind (before ++ y ∷ []) xs ≡ Some n = rw none at is in
+      let later : conflict_after (before ++ y ∷ []) xs ≡ Some n = rw none at is in
       let (i, at_i, within, here, earlier) = rest later in (
         suc i,
         omega (arith, at_i, length-append before (y ∷ [])),

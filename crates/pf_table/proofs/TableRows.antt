@@ -34,11 +34,11 @@ less_is o e = less_of o (by (is_lt o) e) where
   by true e = tt
   by false e = absurd cc
 
-behind : (x : PlainNet) (e : PlainEntry) (es : List PlainEntry) → net_order x e.0 ≡ Less → T (below_all net_order e.0 es) → T (below_all net_order x es)
-behind x e [] less h = tt
-behind x e (f ∷ es) less h =
+below_rest : (x : PlainNet) (e : PlainEntry) (es : List PlainEntry) → net_order x e.0 ≡ Less → T (below_all net_order e.0 es) → T (below_all net_order x es)
+below_rest x e [] less h = tt
+below_rest x e (f ∷ es) less h =
     let next : net_order x f.0 ≡ Less = net_total.trans x e.0 f.0 less (less_of _ (first_of _ _ h)) in
-    rw next (behind x e es less (second_of _ _ h))
+    rw next (below_rest x e es less (second_of _ _ h))
 
 pub in_order_is : (es : List PlainEntry) → in_order entry_before (map plain_entry es) ≡ true → T (is_sorted net_order es)
 in_order_is [] e = tt
@@ -47,7 +47,7 @@ in_order_is (x ∷ y ∷ es) e =
     let parts = and_parts (entry_before (plain_entry x) (plain_entry y)) (in_order entry_before (map plain_entry (y ∷ es))) e in
     let less = less_is _ (sym (before_is x y) ∙ parts.0) in
     let rest = in_order_is (y ∷ es) parts.1 in
-    rw less (by _ _ (behind x.0 y es less (first_of _ _ rest)) rest) where
+    rw less (by _ _ (below_rest x.0 y es less (first_of _ _ rest)) rest) where
       by : (a b : Bool) → T a → T b → T (a && b)
       by true b p q = q
       by false b p q = absurd p

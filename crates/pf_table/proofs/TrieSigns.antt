@@ -197,21 +197,21 @@ as_many_deleted es (x ∷ xs) = let rest = as_many_deleted (without_entry es x) 
 
 -- ---- entries in order, one after the other
 
-abbrev Behind : PlainEntry → List PlainEntry → Type 0
-Behind x es = AllByRecursion (λ e. net_order x.0 e.0 ≡ Greater) es
+abbrev IsAfterAll : PlainEntry → List PlainEntry → Type 0
+IsAfterAll x es = AllByRecursion (λ e. net_order x.0 e.0 ≡ Greater) es
 
-behind : (es : List PlainEntry) (i : ℕ) (x : PlainEntry) → sorted es → i < length es → x ≡ get_or es i x → Behind x (take i es)
-behind [] i x is lt at = absurd (omega arith)
-behind (e ∷ es) zero x is lt at = tt
-behind (e ∷ es) (suc i) x is lt at =
+after_front : (es : List PlainEntry) (i : ℕ) (x : PlainEntry) → sorted es → i < length es → x ≡ get_or es i x → IsAfterAll x (take i es)
+after_front [] i x is lt at = absurd (omega arith)
+after_front (e ∷ es) zero x is lt at = tt
+after_front (e ∷ es) (suc i) x is lt at =
     let less : net_order e.0 x.0 ≡ Less = ap (λ (y : PlainEntry). net_order e.0 y.0) at ∙ below_at e.0 es i x (first_of _ _ is) (omega arith) in
-    (net_total.antisymm x.0 e.0 ∙ ap ordering_reverse less, behind es i x (second_of _ _ is) (omega arith) at)
+    (net_total.antisymm x.0 e.0 ∙ ap ordering_reverse less, after_front es i x (second_of _ _ is) (omega arith) at)
 
-none_there : (es : List PlainEntry) (x : PlainEntry) → Behind x es → sign_of x.0 es ≡ None
+none_there : (es : List PlainEntry) (x : PlainEntry) → IsAfterAll x es → sign_of x.0 es ≡ None
 none_there [] x all = refl
 none_there (e ∷ es) x all = let first : net_order x.0 e.0 ≡ Greater = all.0 in rw first (none_there es x all.1)
 
-put_last : (es : List PlainEntry) (x : PlainEntry) → Behind x es → put net_order x.0 x.1 es ≡ es ++ x ∷ []
+put_last : (es : List PlainEntry) (x : PlainEntry) → IsAfterAll x es → put net_order x.0 x.1 es ≡ es ++ x ∷ []
 put_last [] x all = refl
 put_last (e ∷ es) x all = let first : net_order x.0 e.0 ≡ Greater = all.0 in rw first (ap (λ l. e ∷ l) (put_last es x all.1))
 
@@ -219,7 +219,7 @@ put_last (e ∷ es) x all = let first : net_order x.0 e.0 ≡ Greater = all.0 in
 pub grows : (es : List PlainEntry) (i : ℕ) (x : PlainEntry) → sorted es → i < length es → x ≡ get_or es i x
     → with_value net_order (take i es) x.0 (Some x.1) ≡ take (i + 1) es
 grows es i x is lt at =
-    let all = behind es i x is lt at in
+    let all = after_front es i x is lt at in
     put_only (take i es) x (none_there (take i es) x all) ∙ put_last (take i es) x all ∙ sym (next_cut es i x lt at).1
 
 -- ---- what is found

@@ -66,13 +66,13 @@ abbrev pub is_opposite : PlainEntry → PlainEntry → Bool
 is_opposite x e = same_entry (x.0, not x.1) e
 
 -- the place of the first entry after `before` whose network came earlier with the other sign
-unfoldable pub conflict_behind : List PlainEntry → List PlainEntry → Option ℕ
-conflict_behind before [] = None
-conflict_behind before (x ∷ xs) = cond (list_any (is_opposite x) before) (Some (length before)) (conflict_behind (before ++ x ∷ []) xs)
+unfoldable pub conflict_after : List PlainEntry → List PlainEntry → Option ℕ
+conflict_after before [] = None
+conflict_after before (x ∷ xs) = cond (list_any (is_opposite x) before) (Some (length before)) (conflict_after (before ++ x ∷ []) xs)
 
 -- in a list, counted from 0
 abbrev pub conflict_in : List PlainEntry → Option ℕ
-conflict_in xs = conflict_behind [] xs
+conflict_in xs = conflict_after [] xs
 
 abbrev pub conflict_refusal : List PlainEntry → Option TableRefusal
 conflict_refusal xs = option_map refusal.Conflict (conflict_in xs)

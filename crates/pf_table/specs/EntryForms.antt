@@ -8,14 +8,14 @@
 --       4    16 the network's first address, IPv4 in the first four
 use Rattle.std.specs.{Prelude.{◌==◌, Bool, [], ◌∷◌}, Ordering.is_lt}
 use Rattle.pf_addr.specs.NetForms.{family, family_byte, address_in, first_number, is_network, network_at}
-use Rattle.pf_form.specs.Bytes.{Forms.{Shape, nat, both, Value, Form, number, front, pair, pair_by, that}, Codes.{flag, flag_byte}}
+use Rattle.pf_form.specs.Bytes.{Forms.{Shape, nat, both, Value, ByteForm, number, front, pair, pair_by, that}, Codes.{flag, flag_byte}}
 use Rattle.pf_table.specs.Entries.{PlainEntry}
 use Rattle.pf_addr.specs.NetOrder.{net_order}
 
 abbrev pub EntryShape : Shape
 EntryShape = both nat (both nat (both nat nat))
 
-unfoldable pub entry : Form EntryShape
+unfoldable pub entry : ByteForm EntryShape
 entry = that (λ e. is_network e.0 e.1.0 e.1.1.1)
     (pair_by family (λ f. pair (number 1) (pair flag (front (0 ∷ []) (address_in f)))))
 

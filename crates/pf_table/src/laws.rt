@@ -60,7 +60,7 @@ pub fn answers_say_what_changed()
 /// The conflict that is answered is at the first entry whose network came before it with the other sign; if none is answered, there is no
 /// such entry.
 #[tactic(auto, using(crate::proofs::TableLaws::tells_the_first_conflict))]
-pub fn the_first_conflict_is_told()
+pub fn the_first_conflict_is_answered()
     ensures { TellsTheFirstConflict }
 {}
 

@@ -29,7 +29,7 @@ abbrev StoodOrGiven : PlainTickets → List Mention → RulesetName → Ticket �
 StoodOrGiven t ms name u = ((valid_ticket t name ≡ Some u) × AreQuiet name u ms) ⊎ IsGivenLast t ms name u
 
 later : (t : PlainTickets) (m : Mention) (ms : List Mention) (name : RulesetName) (u : Ticket) → IsGivenLast (moved t m) ms name u → IsGivenLast t (m ∷ ms) name u
-later t m ms name u g = record { before = m ∷ g.before; given = g.given; behind = g.behind; all = ap (λ (xs : List Mention). m ∷ xs) g.all; same = g.same; ticket = g.ticket; quiet = g.quiet }
+later t m ms name u g = record { before = m ∷ g.before; given = g.given; following = g.following; all = ap (λ (xs : List Mention). m ∷ xs) g.all; same = g.same; ticket = g.ticket; quiet = g.quiet }
 
 loaded-stood : (t : PlainTickets) (n : RulesetName) (w u : Ticket) (l : Loaded) (b : Bool) → is_valid t n w ≡ b → ticket_in (cond b (Some (offer_with w l)) (offer_at t.offers n)) ≡ Some u → valid_ticket t n ≡ Some u
 loaded-stood t n w u l true e h = valid-is (valid_ticket t n) w e ∙ h
@@ -41,7 +41,7 @@ dropped-stood t n w u false e h = (h, ap (λ (v : Option Ticket). is_ticket v w)
 
 -- for the mention's own ruleset
 own-stood : (t : PlainTickets) (m : Mention) (ms : List Mention) (u : Ticket) → ticket_in (made_by t m) ≡ Some u → AreQuiet (named_in m) u ms → StoodOrGiven t (m ∷ ms) (named_in m) u
-own-stood t (gave n) ms u h quiet = inr (record { before = []; given = n; behind = ms; all = refl; same = names_alike.refl n; ticket = (let is : Some (next_ticket t) ≡ Some u = h in cc (is)); quiet = quiet })
+own-stood t (gave n) ms u h quiet = inr (record { before = []; given = n; following = ms; all = refl; same = names_alike.refl n; ticket = (let is : Some (next_ticket t) ≡ Some u = h in cc (is)); quiet = quiet })
 own-stood t (added n w r) ms u h quiet = inl (loaded-stood t n w u (with_rule (loaded t n) r) (is_valid t n w) refl h, (refl, quiet))
 own-stood t (defined n w name xs) ms u h quiet = inl (loaded-stood t n w u (with_table (loaded t n) name (replaced xs)) (is_valid t n w) refl h, (refl, quiet))
 own-stood t (extended n w name xs) ms u h quiet = inl (loaded-stood t n w u (with_entries (loaded t n) name xs) (is_valid t n w) refl h, (refl, quiet))
@@ -133,15 +133,15 @@ quiet-on t (m ∷ ms) q u h quiet =
     (rest.0, rest.1 ∙ ap (λ (l : Loaded). fold (loads q u) l ms) one.1)
 
 -- since it was given
-given-since : (t : PlainTickets) (ms : List Mention) (q : RulesetName) (u : Ticket) → (g : IsGivenLast t ms q u) → Has u (fold (loads q u) nothing g.behind) (offer_at (after t ms).offers q)
+given-since : (t : PlainTickets) (ms : List Mention) (q : RulesetName) (u : Ticket) → (g : IsGivenLast t ms q u) → Has u (fold (loads q u) nothing g.following) (offer_at (after t ms).offers q)
 given-since t ms q u g =
     let s : PlainTickets = after t g.before in
     let now : offer_at (moved s (gave g.given)).offers q ≡ made_by s (gave g.given) =
     reads s (gave g.given) q ∙ ap (λ (b : Bool). cond b (made_by s (gave g.given)) (offer_at s.offers q)) g.same in
-    let all : after (moved s (gave g.given)) g.behind ≡ after t ms = sym (ap (after t) g.all ∙ fold-append moved t g.before (gave g.given ∷ g.behind)) in
-    let since : Has u (fold (loads q u) (loaded (moved s (gave g.given)) q) g.behind) (offer_at (after (moved s (gave g.given)) g.behind).offers q) =
-    quiet-on (moved s (gave g.given)) g.behind q u (ap ticket_in now ∙ ap Some (sym g.ticket)) g.quiet in
-    subst (λ (o : PlainTickets). Has u (fold (loads q u) nothing g.behind) (offer_at o.offers q)) all (since.0, since.1 ∙ ap (λ (v : Option PlainInactive). fold (loads q u) (loaded_in v) g.behind) now)
+    let all : after (moved s (gave g.given)) g.following ≡ after t ms = sym (ap (after t) g.all ∙ fold-append moved t g.before (gave g.given ∷ g.following)) in
+    let since : Has u (fold (loads q u) (loaded (moved s (gave g.given)) q) g.following) (offer_at (after (moved s (gave g.given)) g.following).offers q) =
+    quiet-on (moved s (gave g.given)) g.following q u (ap ticket_in now ∙ ap Some (sym g.ticket)) g.quiet in
+    subst (λ (o : PlainTickets). Has u (fold (loads q u) nothing g.following) (offer_at o.offers q)) all (since.0, since.1 ∙ ap (λ (v : Option PlainInactive). fold (loads q u) (loaded_in v) g.following) now)
 
 pub given_last_is_valid : GivenLastIsValid
 given_last_is_valid epoch ms name u g = (given-since (fresh epoch) ms name u g).0
@@ -182,7 +182,7 @@ rules-loaded q u l (m ∷ ms) =
 pub offers_the_added : OffersTheAdded
 offers_the_added epoch ms path u g =
     let q : RulesetName = filter_at path in
-    ap (λ (l : Loaded). l.rules) (given-since (fresh epoch) ms q u g).1 ∙ rules-loaded q u nothing g.behind
+    ap (λ (l : Loaded). l.rules) (given-since (fresh epoch) ms q u g).1 ∙ rules-loaded q u nothing g.following
 
 -- ---- the tables that are loaded
 
@@ -280,8 +280,8 @@ tables-sorted q u l (m ∷ ms) s = tables-sorted q u (loads q u l m) ms (sorted-
 pub offers_the_defined : OffersTheDefined
 offers_the_defined epoch ms path u g =
     let q : RulesetName = table_ruleset_at path in
-    let is : (loaded (after (fresh epoch) ms) q).tables ≡ (fold (loads q u) nothing g.behind).tables = ap (λ (l : Loaded). l.tables) (given-since (fresh epoch) ms q u g).1 in
+    let is : (loaded (after (fresh epoch) ms) q).tables ≡ (fold (loads q u) nothing g.following).tables = ap (λ (l : Loaded). l.tables) (given-since (fresh epoch) ms q u g).1 in
     record {
-      last = λ k. ap (find name_order k) is ∙ table-loaded q u nothing k g.behind ∙ since-nothing (entries_since q u k g.behind);
-      order = subst (λ (ts : List PlainDefinedTable). T (is_sorted name_order ts)) (sym is) (tables-sorted q u nothing g.behind tt);
+      last = λ k. ap (find name_order k) is ∙ table-loaded q u nothing k g.following ∙ since-nothing (entries_since q u k g.following);
+      order = subst (λ (ts : List PlainDefinedTable). T (is_sorted name_order ts)) (sym is) (tables-sorted q u nothing g.following tt);
     }

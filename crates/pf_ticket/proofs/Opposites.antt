@@ -3,7 +3,7 @@
 use Rattle.std.proofs.{Common.{◌≡◌, ℕ, ◌+◌, Bool, true, false, not, cond, ◌&&◌, ◌||◌, List, [], ◌∷◌, ◌++◌, length, map, nat_lt, Some, None, refl, sym, ap, ◌∙◌}, lemmas.List.{length-map, map-append}}
 use Rattle.std.specs.{Bool.beq, FinMap.Entries.where_key, List.{list_any, position, position_or_len}, Ordering.eq_by_cmp}
 use Rattle.pf_addr.specs.NetOrder.{net_order}
-use Rattle.pf_table.specs.{Entries.PlainEntry, Edits.{is_opposite, conflict_behind, conflict_in, has_entry, deletion, deletions}, Laws.Tables.is_deleted}
+use Rattle.pf_table.specs.{Entries.PlainEntry, Edits.{is_opposite, conflict_after, conflict_in, has_entry, deletion, deletions}, Laws.Tables.is_deleted}
 use Rattle.pf_table.proofs.TableLaws.{one_answer_each}
 use Rattle.pf_ticket.specs.Replies.{opposite, conflict_with}
 
@@ -22,16 +22,16 @@ any_opposite : (x : PlainEntry) (es : List PlainEntry) → list_any (is_opposite
 any_opposite x [] = refl
 any_opposite x (e ∷ es) = λ i. opposite_still x e i || any_opposite x es i
 
-conflicts_behind : (before xs : List PlainEntry) → conflict_behind (map opposite before) (map opposite xs) ≡ conflict_behind before xs
-unfolding conflict_behind
-conflicts_behind before [] = refl
-conflicts_behind before (x ∷ xs) =
-    let next : conflict_behind (map opposite before ++ opposite x ∷ []) (map opposite xs) ≡ conflict_behind (before ++ x ∷ []) xs =
-    ap (λ (es : List PlainEntry). conflict_behind es (map opposite xs)) (sym (map-append opposite before (x ∷ []))) ∙ conflicts_behind (before ++ x ∷ []) xs in
+conflicts_after : (before xs : List PlainEntry) → conflict_after (map opposite before) (map opposite xs) ≡ conflict_after before xs
+unfolding conflict_after
+conflicts_after before [] = refl
+conflicts_after before (x ∷ xs) =
+    let next : conflict_after (map opposite before ++ opposite x ∷ []) (map opposite xs) ≡ conflict_after (before ++ x ∷ []) xs =
+    ap (λ (es : List PlainEntry). conflict_after es (map opposite xs)) (sym (map-append opposite before (x ∷ []))) ∙ conflicts_after (before ++ x ∷ []) xs in
     λ i. cond (any_opposite x before i) (Some (length-map before opposite i)) (next i)
 
 pub as_many_conflicts : (xs : List PlainEntry) → conflict_in (map opposite xs) ≡ conflict_in xs
-as_many_conflicts xs = conflicts_behind [] xs
+as_many_conflicts xs = conflicts_after [] xs
 
 -- ---- what is deleted
 

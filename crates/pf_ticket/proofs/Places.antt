@@ -91,8 +91,8 @@ module _ {K X : Type 0} {R : K → K → Ordering} (o : IsTotalOrder R) where
   with_there [] i v d h lt = absurd (omega arith)
   with_there (e ∷ es) zero v d h lt = ap (put R e.0 v) (without_there (e ∷ es) zero d h lt) ∙ put_below e.0 v es (first_of _ _ h)
   with_there (e ∷ es) (suc i) v d h lt =
-      let behind = back o e.0 (get_or es i d).0 Less (below_at e.0 es i d (first_of _ _ h) (omega arith)) in
-      rw (behind, behind) (ap (λ l. e ∷ l) (with_there es i v d (second_of _ _ h) (omega arith)))
+      let following = back o e.0 (get_or es i d).0 Less (below_at e.0 es i d (first_of _ _ h) (omega arith)) in
+      rw (following, following) (ap (λ l. e ∷ l) (with_there es i v d (second_of _ _ h) (omega arith)))
 
   abbrev pub StandsAt : K → List (K × X) → ℕ → Type 0
   StandsAt k es i = HoldsAt (λ e. e.0 ≡ k) es i

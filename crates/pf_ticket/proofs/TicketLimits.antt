@@ -50,7 +50,7 @@ begun t names given h = begun-by t names given (bad_count (length names)) (nat_l
 
 pub begins_give : BeginsGive
 begins_give = record {
-  told = λ t names given h. ap (λ (g : TicketRange). tickets_of g) (sym (begun t names given h).range);
+  reported = λ t names given h. ap (λ (g : TicketRange). tickets_of g) (sym (begun t names given h).range);
   begin = begin-gives;
   add = λ t n u r. load-keeps t n u (with_rule (loaded t n) r) (AreGiven 0 t) (λ new. none-given t (with_offer t.offers n (Some new))) (none-given t t.offers);
   define = λ t n u name xs. load-keeps t n u (with_table (loaded t n) name (replaced xs)) (AreGiven 0 t) (λ new. none-given t (with_offer t.offers n (Some new))) (none-given t t.offers);
@@ -60,14 +60,14 @@ begins_give = record {
 }
 
 -- the ticket at a ruleset's place is the ruleset's own
-own-ticket : (t : PlainTickets) (before : List RulesetName) (name : RulesetName) (behind : List RulesetName) → is_named behind name ≡ false → valid_ticket (after t (gives (before ++ name ∷ behind))) name ≡ slice_get (tickets_from t.epoch t.next (length (before ++ name ∷ behind))) (length before)
-own-ticket t [] name behind last =
-    ap ticket_in (leaves_the_others (moved t (gave name)) (gives behind) name (ap (λ (ns : List RulesetName). is_named ns name) (gives-named behind) ∙ last) ∙ reads t (gave name) name ∙ ap (λ (b : Bool). cond b (made_by t (gave name)) (offer_at t.offers name)) (names_alike.refl name))
-own-ticket t (n ∷ ns) name behind last = own-ticket (moved t (gave n)) ns name behind last
+own-ticket : (t : PlainTickets) (before : List RulesetName) (name : RulesetName) (following : List RulesetName) → is_named following name ≡ false → valid_ticket (after t (gives (before ++ name ∷ following))) name ≡ slice_get (tickets_from t.epoch t.next (length (before ++ name ∷ following))) (length before)
+own-ticket t [] name following last =
+    ap ticket_in (leaves_the_others (moved t (gave name)) (gives following) name (ap (λ (ns : List RulesetName). is_named ns name) (gives-named following) ∙ last) ∙ reads t (gave name) name ∙ ap (λ (b : Bool). cond b (made_by t (gave name)) (offer_at t.offers name)) (names_alike.refl name))
+own-ticket t (n ∷ ns) name following last = own-ticket (moved t (gave n)) ns name following last
 
 pub tells_what_is_given : TellsWhatIsGiven
-tells_what_is_given t range before name behind h last =
-    own-ticket t before name behind last ∙ ap (λ (ts : List Ticket). slice_get ts (length before)) (sym (begins_give.told t (before ++ name ∷ behind) range h))
+tells_what_is_given t range before name following h last =
+    own-ticket t before name following last ∙ ap (λ (ts : List Ticket). slice_get ts (length before)) (sym (begins_give.reported t (before ++ name ∷ following) range h))
 
 -- ---- how much is offered
 

@@ -16,13 +16,13 @@ abbrev pub bad_count : ℕ → Bool
 bad_count n = (n == 0) || nat_lt ENTRY_LIMIT n
 
 -- the place of the first of these rulesets, coming after those in `before`, that is named before it
-abbrev pub twice_behind : List RulesetName → List RulesetName → Option ℕ
-twice_behind before [] = None
-twice_behind before (n ∷ ns) = cond (is_named before n) (Some (length before)) (twice_behind (before ++ n ∷ []) ns)
+abbrev pub twice_after : List RulesetName → List RulesetName → Option ℕ
+twice_after before [] = None
+twice_after before (n ∷ ns) = cond (is_named before n) (Some (length before)) (twice_after (before ++ n ∷ []) ns)
 
 -- the place of the first entry that names a ruleset named before it
 abbrev pub twice_in : List RulesetTicket → Option ℕ
-twice_in entries = twice_behind [] (names_of entries)
+twice_in entries = twice_after [] (names_of entries)
 
 -- the place of the first entry whose ticket isn't valid
 abbrev pub busy_in : PlainTickets → List RulesetTicket → Option ℕ

@@ -9,7 +9,7 @@ ghost use Rattle.pf_ticket.specs.declared.limits.TheConstants.{LAST_COUNT};
 ghost use Rattle.pf_ticket.specs.declared.refusal.TicketRefusal.TheVariants.{Memory};
 ghost use Rattle.pf_ticket.specs.Mentions.{added, defined, extended, load, moved, take_out, after, gives, switches, drops};
 ghost use Rattle.pf_ticket.specs.Names.{filter_at, table_ruleset_at, is_named, same_name};
-ghost use Rattle.pf_ticket.specs.Replies.{bad_count, twice_behind, twice_in, busy_in, list_check, commit_check, begin_reply, add_reply};
+ghost use Rattle.pf_ticket.specs.Replies.{bad_count, twice_after, twice_in, busy_in, list_check, commit_check, begin_reply, add_reply};
 ghost use Rattle.pf_ticket.specs.Replies.{table_reply, define_reply, opposite, conflict_with, growth_check, extend_reply};
 ghost use Rattle.pf_ticket.specs.Tickets.{PlainInactive, offer_at, loaded, with_rule, with_table, with_entries, given_from, IsPlace, fresh, tickets_with};
 ghost use Rattle.pf_ticket.specs.Tickets.{content, is_valid};
@@ -66,7 +66,7 @@ fn is_named(names: &[RulesetName], name: &RulesetName) -> bool
 
 /// The place of the first of these rulesets, from 0, that is named before it. It takes no memory.
 pub fn named_twice(names: &[RulesetName]) -> Option<usize>
-    ensures { result ≡ twice_behind [] names.now }
+    ensures { result ≡ twice_after [] names.now }
 {
     for (place, name) in names.iter().enumerate() {
         if is_named(&names[..place], name) {
@@ -225,8 +225,8 @@ impl Tickets {
     }
 
     // The same, after the tickets of these rulesets were voided.
-    #[tactic(auto, using(crate::proofs::Voided::valid_behind))]
-    fn is_valid_behind(&self, voided: &[RulesetName], name: &RulesetName, ticket: Ticket) -> bool
+    #[tactic(auto, using(crate::proofs::Voided::valid_after))]
+    fn is_valid_after(&self, voided: &[RulesetName], name: &RulesetName, ticket: Ticket) -> bool
         ensures { result ≡ is_valid (after self.now (switches voided.now)) name.now ticket }
     {
         !is_named(voided, name) && self.is_valid(name, ticket)
@@ -236,7 +236,7 @@ impl Tickets {
     fn first_busy(&self, voided: &[RulesetName], entries: &[RulesetTicket]) -> Option<usize>
         ensures { result ≡ busy_in (after self.now (switches voided.now)) entries.now }
     {
-        entries.iter().position(|entry| !self.is_valid_behind(voided, &entry.name, entry.ticket))
+        entries.iter().position(|entry| !self.is_valid_after(voided, &entry.name, entry.ticket))
     }
 
     // How many rulesets have a valid ticket after these get one too.
@@ -487,7 +487,7 @@ impl Tickets {
     }
 
     /// As [`Tickets::contents`], after the tickets of these rulesets were voided.
-    #[tactic(auto, using(crate::proofs::Voided::content_behind))]
+    #[tactic(auto, using(crate::proofs::Voided::content_after))]
     pub fn contents_after(
         &self,
         voided: &[RulesetName],

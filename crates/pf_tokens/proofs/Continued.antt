@@ -2,7 +2,7 @@
 use Rattle.std.proofs.Common.{◌≡◌, ℕ, ◌==◌, Bool, true, false, List, [], ◌∷◌, ◌++◌, refl, ap, if◌then◌else◌}
 use Rattle.std.proofs.lemmas.Bool.{eqb-true}
 use Rattle.pf_tokens.specs.declared.{place.Place.Place, place.Placed.Placed}
-use Rattle.pf_tokens.specs.{Places.{at, behind, next_line, next_column}, Placed.{placed, pair_at, behind_pair}, Laws.{located, end_of, uncontinued}}
+use Rattle.pf_tokens.specs.{Places.{at, place_after, next_line, next_column}, Placed.{placed, pair_at, place_after_pair}, Laws.{located, end_of, uncontinued}}
 
 -- what is placed is what is left of the bytes, and a newline
 abbrev Left : Place → List ℕ → Type 0
@@ -18,11 +18,11 @@ pair_is true p c bs is = is
 pair_is false p c bs is = ap (λ (cs : List Placed). at 92 p ∷ at c (next_column p) ∷ cs) is
 
 -- two bytes before others, of which it is so, and of which it is so with the second
-two_are : (pair : Bool) (p : Place) (b c : ℕ) (bs : List ℕ) → (b == 92) ≡ pair → Left (behind_pair p c) bs → Left (behind b p) (c ∷ bs) →
-    (if pair then pair_at p c ++ placed (behind_pair p c) bs else at b p ∷ placed (behind b p) (c ∷ bs))
-    ≡ (if pair then (if c == 10 then uncontinued (located (behind c (behind b p)) bs) else at b p ∷ at c (behind b p) ∷ uncontinued (located (behind c (behind b p)) bs))
-    else at b p ∷ uncontinued (at c (behind b p) ∷ located (behind c (behind b p)) bs))
-    ++ at 10 (end_of (behind c (behind b p)) bs) ∷ []
+two_are : (pair : Bool) (p : Place) (b c : ℕ) (bs : List ℕ) → (b == 92) ≡ pair → Left (place_after_pair p c) bs → Left (place_after b p) (c ∷ bs) →
+    (if pair then pair_at p c ++ placed (place_after_pair p c) bs else at b p ∷ placed (place_after b p) (c ∷ bs))
+    ≡ (if pair then (if c == 10 then uncontinued (located (place_after c (place_after b p)) bs) else at b p ∷ at c (place_after b p) ∷ uncontinued (located (place_after c (place_after b p)) bs))
+    else at b p ∷ uncontinued (at c (place_after b p) ∷ located (place_after c (place_after b p)) bs))
+    ++ at 10 (end_of (place_after c (place_after b p)) bs) ∷ []
 two_are true p b c bs is after_pair after_one =
     let b_is : b ≡ 92 = eqb-true b 92 is in
     rw b_is (pair_is (c == 10) p c bs after_pair)
@@ -32,4 +32,4 @@ pub placed_is : (p : Place) (text : List ℕ) → placed p text ≡ uncontinued 
 unfolding placed
 placed_is p [] = refl
 placed_is p (b ∷ []) = refl
-placed_is p (b ∷ c ∷ bs) = two_are (b == 92) p b c bs refl (placed_is (behind_pair p c) bs) (placed_is (behind b p) (c ∷ bs))
+placed_is p (b ∷ c ∷ bs) = two_are (b == 92) p b c bs refl (placed_is (place_after_pair p c) bs) (placed_is (place_after b p) (c ∷ bs))

@@ -52,11 +52,11 @@ quoted-in_front c cs f is =
 
 word-in_front : (c : Placed) (cs : List Placed) (f : Front) → word c cs ≡ Ok f → InFront c cs f
 word-in_front c cs f is =
-    let behind : List Placed = run_of runs.Word cs in
-    let made : Front = token_of Word c (c ∷ behind) (length behind) in
-    let P : List Placed → Type 0 = λ bs. HasInOrder (c ∷ bs) (c ∷ behind) in
-    let has : HasInOrder (c ∷ take (length behind) cs) (c ∷ behind) = subst P (sym (take_run runs.Word cs)) (all_of (c ∷ behind)) in
-    then_all (InFront c cs) (word_checked (c ∷ behind)) (λ _. Ok made) f (λ u checked. ok_all (InFront c cs) made f (one_token Word c cs (c ∷ behind) (length behind) has)) is
+    let following : List Placed = run_of runs.Word cs in
+    let made : Front = token_of Word c (c ∷ following) (length following) in
+    let P : List Placed → Type 0 = λ bs. HasInOrder (c ∷ bs) (c ∷ following) in
+    let has : HasInOrder (c ∷ take (length following) cs) (c ∷ following) = subst P (sym (take_run runs.Word cs)) (all_of (c ∷ following)) in
+    then_all (InFront c cs) (word_checked (c ∷ following)) (λ _. Ok made) f (λ u checked. ok_all (InFront c cs) made f (one_token Word c cs (c ∷ following) (length following) has)) is
 
 symbol-in_front : (c : Placed) (cs : List Placed) (f : Front) → a_symbol c cs ≡ Ok f → InFront c cs f
 symbol-in_front c cs f is =
@@ -110,5 +110,5 @@ lex-in_order s n zero (c ∷ cs) ts is =
     let P : List Token → Type 0 = λ us. HasInOrder (c ∷ cs) (bytes_of us) in
     then_all P (front s c cs) (λ f. counted_some n f.token >>= λ m. lex s m f.more cs >>= λ us. Ok (option_to_list f.token ++ us)) ts
     (λ f at_front counts. then_all P (counted_some n f.token) (λ m. lex s m f.more cs >>= λ us. Ok (option_to_list f.token ++ us)) ts
-    (λ m fits behind. then_all P (lex s m f.more cs) (λ us. Ok (option_to_list f.token ++ us)) ts
-    (λ us others. ok_all P (option_to_list f.token ++ us) ts (joined c cs f us (front-in_front s c cs f at_front) (lex-in_order s m f.more cs us others))) behind) counts) is
+    (λ m fits following. then_all P (lex s m f.more cs) (λ us. Ok (option_to_list f.token ++ us)) ts
+    (λ us others. ok_all P (option_to_list f.token ++ us) ts (joined c cs f us (front-in_front s c cs f at_front) (lex-in_order s m f.more cs us others))) following) counts) is

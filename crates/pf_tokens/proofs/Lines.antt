@@ -3,7 +3,7 @@ use Rattle.std.proofs.Common.{◌≡◌, ◌≢◌, ℕ, zero, suc, ◌+◌, ◌
 use Rattle.std.specs.List.{list_any}
 use Rattle.std.proofs.lemmas.{List.{take-append-drop, take_all}, List.Folds.list_any-append}
 use Rattle.pf_form.specs.Form.Forms.{◌>>=◌}
-use Rattle.pf_tokens.specs.declared.{place.Place.Place, token.Token.Token, files.File.File, flat.Flat.Flat, fault.Stop.Stop}
+use Rattle.pf_tokens.specs.declared.{place.Place.Place, token.Token.Token, files.File.File, flat.Flat.Flat, fault.TokenStop.TokenStop}
 use Rattle.pf_tokens.specs.declared.fault.Mistake.TheVariants.{DeepInclude}
 use Rattle.pf_tokens.specs.{Words.is_newline, Places.text_of, Stops.faulty, Files.text_of_file}
 use Rattle.pf_tokens.specs.Flat.{State, Including, Line, longer, lines, counted_uses, with_words, read_counted, read_line, read_lines, read_text, read_file, including, leaving, closed, is_definition, is_include, put_line, put, is_closed, with_left}
@@ -64,7 +64,7 @@ pub read_line_first : (include : Including) (line : List Token) (newline : Token
 unfolding read_line
 read_line_first include line newline x n counts = rw counts refl
 
-pub read_line_past : (include : Including) (line : List Token) (newline : Token) (x : State) (e : Stop) → counted_uses x.1.macros x.1.words_read line ≡ Err e → read_line include line newline x ≡ Err (e, x.1.macros)
+pub read_line_past : (include : Including) (line : List Token) (newline : Token) (x : State) (e : TokenStop) → counted_uses x.1.macros x.1.words_read line ≡ Err e → read_line include line newline x ≡ Err (e, x.1.macros)
 unfolding read_line
 read_line_past include line newline x e past = rw past refl
 
@@ -79,12 +79,12 @@ pub including_too_deep : (files : List File) (deep : ℕ) (name : Token) (s : Fl
 unfolding including
 including_too_deep files deep name s none = rw none refl
 
-pub including_stops : (files : List File) (deep : ℕ) (name : Token) (s : Flat) (d : Stop) → deep ≢ 0 → text_of_file files s.files_read name.place (text_of name.text) ≡ Err d → including files deep name s ≡ Err (d, s.macros)
+pub including_stops : (files : List File) (deep : ℕ) (name : Token) (s : Flat) (d : TokenStop) → deep ≢ 0 → text_of_file files s.files_read name.place (text_of name.text) ≡ Err d → including files deep name s ≡ Err (d, s.macros)
 including_stops files deep name s d some stops =
     including_deeper files deep name s some
-    ∙ ap (λ (r : Result (ℕ × List ℕ) Stop). leaving s.macros r >>= λ (found : ℕ × List ℕ). read_text (including files (deep - 1)) found.0 found.1 s) stops
+    ∙ ap (λ (r : Result (ℕ × List ℕ) TokenStop). leaving s.macros r >>= λ (found : ℕ × List ℕ). read_text (including files (deep - 1)) found.0 found.1 s) stops
 
 pub including_goes_on : (files : List File) (deep : ℕ) (name : Token) (s : Flat) (number : ℕ) (text : List ℕ) → deep ≢ 0 → text_of_file files s.files_read name.place (text_of name.text) ≡ Ok (number, text) → including files deep name s ≡ read_file files (deep - 1) number text s
 including_goes_on files deep name s number text some found =
     including_deeper files deep name s some
-    ∙ ap (λ (r : Result (ℕ × List ℕ) Stop). leaving s.macros r >>= λ (found : ℕ × List ℕ). read_text (including files (deep - 1)) found.0 found.1 s) found
+    ∙ ap (λ (r : Result (ℕ × List ℕ) TokenStop). leaving s.macros r >>= λ (found : ℕ × List ℕ). read_text (including files (deep - 1)) found.0 found.1 s) found

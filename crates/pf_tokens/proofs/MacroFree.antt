@@ -3,7 +3,7 @@ use Rattle.std.proofs.Common.{◌≡◌, ℕ, zero, suc, ◌+◌, ◌==◌, ◌&
 use Rattle.std.specs.{List.{list_any, list_all}, Option.{option_to_list}}
 use Rattle.std.proofs.lemmas.List.Folds.{list_any-append}
 use Rattle.pf_form.specs.Form.Forms.{◌>>=◌}
-use Rattle.pf_tokens.specs.declared.{place.Place.Place, place.Placed.Placed, token.Token.Token, token.Kind.Kind, files.File.File, flat.Macro.Macro, flat.Flat.Flat, counting.TheConstants.TOKEN_LIMIT, lexing.Front.Front, fault.Stop.Stop}
+use Rattle.pf_tokens.specs.declared.{place.Place.Place, place.Placed.Placed, token.Token.Token, token.Kind.Kind, files.File.File, flat.Macro.Macro, flat.Flat.Flat, counting.TheConstants.TOKEN_LIMIT, lexing.Front.Front, fault.TokenStop.TokenStop}
 use Rattle.pf_tokens.specs.declared.token.Kind.TheVariants.{Word, Quoted, Symbol, Macro as Use, Newline}
 use Rattle.pf_tokens.specs.declared.fault.Mistake.TheVariants.{CommentInValue, MacroInValue}
 use Rattle.pf_tokens.specs.declared.fault.Mistake.TheVariants as mistakes
@@ -72,8 +72,8 @@ lex-free n (suc more) (c ∷ cs) ts is = lex-free n more cs ts is
 lex-free n zero (c ∷ cs) ts is =
     then_all Free (front sources.Value c cs) (λ (f : Front). counted_some n f.token >>= λ m. lex sources.Value m f.more cs >>= λ us. Ok (option_to_list f.token ++ us)) ts
     (λ f at_front counts. then_all Free (counted_some n f.token) (λ (m : ℕ). lex sources.Value m f.more cs >>= λ us. Ok (option_to_list f.token ++ us)) ts
-    (λ m fits behind. then_all Free (lex sources.Value m f.more cs) (λ (us : List Token). Ok (option_to_list f.token ++ us)) ts
-    (λ us others. ok_all Free (option_to_list f.token ++ us) ts (free-append (option_to_list f.token) us (front-free c cs f at_front) (lex-free m f.more cs us others))) behind) counts) is
+    (λ m fits following. then_all Free (lex sources.Value m f.more cs) (λ (us : List Token). Ok (option_to_list f.token ++ us)) ts
+    (λ us others. ok_all Free (option_to_list f.token ++ us) ts (free-append (option_to_list f.token) us (front-free c cs f at_front) (lex-free m f.more cs us others))) following) counts) is
 
 -- ---- what tokens stand for
 
@@ -129,15 +129,15 @@ put_each-free : (ts : List Token) (x y : Left) → Free ts → LeftFree x → pu
 unfolding put_each
 put_each-free [] x y all free is = ok_all LeftFree x y free is
 put_each-free (t ∷ ts) x y all free is =
-    then_all LeftFree (put t x) (put_each ts) y (λ z at_first behind. put_each-free ts z y (free-tail t ts all) (put-free t x z (free-head t ts all) free at_first) behind) is
+    then_all LeftFree (put t x) (put_each ts) y (λ z at_first following. put_each-free ts z y (free-tail t ts all) (put-free t x z (free-head t ts all) free at_first) following) is
 
 put_line-free : (ms : List Macro) (ts : List Token) (x y : Left) → Values ms → LeftFree x → put_line ms ts x ≡ Ok y → LeftFree y
 unfolding put_line
 put_line-free ms [] x y values free is = ok_all LeftFree x y free is
 put_line-free ms (t ∷ ts) x y values free is =
     then_all LeftFree (parts_of ms t) (λ (ps : List Token). put_each ps x >>= put_line ms ts) y
-    (λ ps parts behind. then_all LeftFree (put_each ps x) (put_line ms ts) y
-    (λ z here others. put_line-free ms ts z y values (put_each-free ps x z (parts_of-free ms t ps values parts) free here) others) behind) is
+    (λ ps parts following. then_all LeftFree (put_each ps x) (put_line ms ts) y
+    (λ z here others. put_line-free ms ts z y values (put_each-free ps x z (parts_of-free ms t ps values parts) free here) others) following) is
 
 -- ---- definitions
 
@@ -151,23 +151,23 @@ macro_of-free n name text m is =
     (λ value read here. ok_all MacroFree (record { name = name; is_word = is_one_word text value; value = value }) m
     (lex-free n 0 text value read) here) is
 
-defined-free : (n : ℕ) (ms : List Macro) (name : Token) (behind : List Token) (p : Place) (m : Macro) → defined n ms name behind p ≡ Ok m → MacroFree m
+defined-free : (n : ℕ) (ms : List Macro) (name : Token) (following : List Token) (p : Place) (m : Macro) → defined n ms name following p ≡ Ok m → MacroFree m
 unfolding defined
-defined-free n ms name behind p m is =
-    then_all MacroFree (name_checked name) (λ _. replaced ms behind >>= text_of_value (first_place behind p) p
+defined-free n ms name following p m is =
+    then_all MacroFree (name_checked name) (λ _. replaced ms following >>= text_of_value (first_place following p) p
     >>= macro_of n (text_of name.text)) m
-    (λ u checked whole. then_all MacroFree (replaced ms behind >>= text_of_value (first_place behind p) p)
+    (λ u checked whole. then_all MacroFree (replaced ms following >>= text_of_value (first_place following p) p)
     (macro_of n (text_of name.text)) m
     (λ text read here. macro_of-free n (text_of name.text) text m here) whole) is
 
 defined_by-free : (n : ℕ) (ms : List Macro) (line : List Token) (p : Place) (m : Macro) → defined_by n ms line p ≡ Ok m → MacroFree m
 defined_by-free n ms [] p m is = err_all MacroFree (faulty p mistakes.NoValue) m is
 defined_by-free n ms (name ∷ []) p m is = err_all MacroFree (faulty p mistakes.NoValue) m is
-defined_by-free n ms (name ∷ equals ∷ behind) p m is = defined-free n ms name behind p m is
+defined_by-free n ms (name ∷ equals ∷ following) p m is = defined-free n ms name following p m is
 
 -- ---- files
 
-left_all : {A : Type 0} (P : A → Type 0) (ms : List Macro) (r : Result A Stop) (y : A) → (r ≡ Ok y → P y) → leaving ms r ≡ Ok y → P y
+left_all : {A : Type 0} (P : A → Type 0) (ms : List Macro) (r : Result A TokenStop) (y : A) → (r ≡ Ok y → P y) → leaving ms r ≡ Ok y → P y
 left_all {A} P ms (Ok x) y all is = let same : x ≡ y = cc in all (ap (λ (z : A). Ok z) same)
 left_all P ms (Err e) y all is = err_all P (e, ms) y is
 
@@ -262,19 +262,19 @@ read_lines-free include keeps [] x t ended free is =
     then_all HasNoMacro (leaving x.1.macros (all_closed x.0)) (λ _. Ok x.1) t (λ u closes here. ok_all HasNoMacro x.1 t free here) is
 read_lines-free include keeps (l ∷ ls) x t ended free is =
     then_all HasNoMacro (read_line include l.0 l.1 x) (read_lines include ls) t
-    (λ y here behind. read_lines-free include keeps ls y t (and-right (is_newline l.1) (list_all (λ (m : Line). is_newline m.1) ls) ended) (read_line-free include keeps l.0 l.1 x y (and-left (is_newline l.1) (list_all (λ (m : Line). is_newline m.1) ls) ended) free here) behind) is
+    (λ y here following. read_lines-free include keeps ls y t (and-right (is_newline l.1) (list_all (λ (m : Line). is_newline m.1) ls) ended) (read_line-free include keeps l.0 l.1 x y (and-left (is_newline l.1) (list_all (λ (m : Line). is_newline m.1) ls) ended) free here) following) is
 
 read_text-free : (include : Including) → Keeps include → (number : ℕ) (text : List ℕ) (s t : Flat) → HasNoMacro s → read_text include number text s ≡ Ok t → HasNoMacro t
 read_text-free include keeps number text s t free is =
     then_all HasNoMacro (leaving s.macros (lex sources.File s.words_read 0 (placed (start_of number) text))) (λ (ts : List Token). read_lines include (lines ts) ([], begun s ts)) t
-    (λ ts tokens behind. read_lines-free include keeps (lines ts) ([], begun s ts) t (lines-ended ts) (record { tokens = free.tokens; values = free.values }) behind) is
+    (λ ts tokens following. read_lines-free include keeps (lines ts) ([], begun s ts) t (lines-ended ts) (record { tokens = free.tokens; values = free.values }) following) is
 
 including-free : (files : List File) (deep : ℕ) → Keeps (including files deep)
 unfolding including
 including-free files zero name s t free is = err_all HasNoMacro (faulty name.place mistakes.DeepInclude, s.macros) t is
 including-free files (suc deep) name s t free is =
     then_all HasNoMacro (leaving s.macros (text_of_file files s.files_read name.place (text_of name.text))) (λ (found : ℕ × List ℕ). read_text (including files deep) found.0 found.1 s) t
-    (λ found named behind. read_text-free (including files deep) (including-free files deep) found.0 found.1 s t free behind) is
+    (λ found named following. read_text-free (including files deep) (including-free files deep) found.0 found.1 s t free following) is
 
 pub read_file_free : (files : List File) (deep number : ℕ) (text : List ℕ) (s t : Flat) → HasNoMacro s → read_file files deep number text s ≡ Ok t → HasNoMacro t
 read_file_free files deep number text s t free is = read_text-free (including files deep) (including-free files deep) number text s t free is

@@ -2,7 +2,7 @@
 use Rattle.std.proofs.Common.{◌≡◌, ℕ, zero, suc, ◌+◌, ◌-◌, ◌<◌, ◌≤◌, nat_le, List, [], ◌∷◌, ◌++◌, Option, Some, None, Result, Ok, Err, length, get_or, drop, refl, sym, ap, ◌∙◌, append_assoc, arith}
 use Rattle.std.specs.Option.{option_to_list}
 use Rattle.pf_form.specs.Form.Forms.{◌>>=◌}
-use Rattle.pf_tokens.specs.declared.{place.Place.Place, place.Placed.Placed, token.Token.Token, counting.TheConstants.TOKEN_LIMIT, lexing.Source.Source, lexing.Front.Front, fault.Stop.Stop}
+use Rattle.pf_tokens.specs.declared.{place.Place.Place, place.Placed.Placed, token.Token.Token, counting.TheConstants.TOKEN_LIMIT, lexing.Source.Source, lexing.Front.Front, fault.TokenStop.TokenStop}
 use Rattle.pf_tokens.specs.declared.fault.Mistake.TheVariants.{ManyWords}
 use Rattle.pf_tokens.specs.{Stops.faulty, Counting.{weight, words_in, counted, counted_some}, Lexing.{front, lex}}
 use Rattle.pf_tokens.proofs.{Binds.{bind_assoc, bind_same, or_else, ok_all, err_all}}
@@ -27,38 +27,38 @@ lex-end s w zero = refl
 lex-end s w (suc n) = refl
 
 -- what is left behind a front, of which so many words were read, is what is left of the whole
-lex_front : (s : Source) (w w' : ℕ) (cs : List Placed) (ts : List Token) (f : Front) (r : Result Front Stop) → r ≡ Ok f → counted_some w f.token ≡ Ok w' → ((r >>= λ g. counted_some w g.token >>= λ m. lex s m g.more cs >>= λ us. Ok (option_to_list g.token ++ us)) >>= λ us. Ok (ts ++ us)) ≡ (lex s w' 0 (drop f.more cs) >>= λ us. Ok ((ts ++ option_to_list f.token) ++ us))
+lex_front : (s : Source) (w w' : ℕ) (cs : List Placed) (ts : List Token) (f : Front) (r : Result Front TokenStop) → r ≡ Ok f → counted_some w f.token ≡ Ok w' → ((r >>= λ g. counted_some w g.token >>= λ m. lex s m g.more cs >>= λ us. Ok (option_to_list g.token ++ us)) >>= λ us. Ok (ts ++ us)) ≡ (lex s w' 0 (drop f.more cs) >>= λ us. Ok ((ts ++ option_to_list f.token) ++ us))
 lex_front s w w' cs ts f r is counts =
     rw (is, counts) (
     bind_assoc (lex s w' f.more cs) (λ us. Ok (option_to_list f.token ++ us)) (λ us. Ok (ts ++ us))
     ∙ bind_same (lex s w' f.more cs) (λ us. Ok (ts ++ (option_to_list f.token ++ us))) (λ us. Ok ((ts ++ option_to_list f.token) ++ us)) (λ us. ap (λ (vs : List Token). Ok vs) (sym (append_assoc ts (option_to_list f.token) us)))
-    ∙ ap (λ (r : Result (List Token) Stop). r >>= λ us. Ok ((ts ++ option_to_list f.token) ++ us)) (lex-more s w' f.more cs))
+    ∙ ap (λ (r : Result (List Token) TokenStop). r >>= λ us. Ok ((ts ++ option_to_list f.token) ++ us)) (lex-more s w' f.more cs))
 
 -- the first byte that is left, and those behind it
-module _ (s : Source) (w : ℕ) (cs behind : List Placed) (i : ℕ) (d : Placed) (in_text : i < length cs) (rest : behind ≡ drop (i + 1) cs) where
-  lex-drop : lex s w 0 (drop i cs) ≡ (front s (get_or cs i d) behind >>= λ f. counted_some w f.token >>= λ m. lex s m f.more behind >>= λ ts. Ok (option_to_list f.token ++ ts))
-  lex-drop = ap (λ (xs : List Placed). lex s w 0 xs) (drop_more cs i d in_text ∙ ap (λ (xs : List Placed). get_or cs i d ∷ xs) (sym rest)) ∙ lex-cons s w (get_or cs i d) behind
+module _ (s : Source) (w : ℕ) (cs following : List Placed) (i : ℕ) (d : Placed) (in_text : i < length cs) (rest : following ≡ drop (i + 1) cs) where
+  lex-drop : lex s w 0 (drop i cs) ≡ (front s (get_or cs i d) following >>= λ f. counted_some w f.token >>= λ m. lex s m f.more following >>= λ ts. Ok (option_to_list f.token ++ ts))
+  lex-drop = ap (λ (xs : List Placed). lex s w 0 xs) (drop_more cs i d in_text ∙ ap (λ (xs : List Placed). get_or cs i d ∷ xs) (sym rest)) ∙ lex-cons s w (get_or cs i d) following
 
   -- one more token, or nothing, is taken and counted
-  pub lex-step : (w' : ℕ) (ts ts' : List Token) (f : Front) → front s (get_or cs i d) behind ≡ Ok f → counted_some w f.token ≡ Ok w' → ts' ≡ ts ++ option_to_list f.token → (lex s w 0 (drop i cs) >>= λ us. Ok (ts ++ us)) ≡ (lex s w' 0 (drop (i + (f.more + 1)) cs) >>= λ us. Ok (ts' ++ us))
+  pub lex-step : (w' : ℕ) (ts ts' : List Token) (f : Front) → front s (get_or cs i d) following ≡ Ok f → counted_some w f.token ≡ Ok w' → ts' ≡ ts ++ option_to_list f.token → (lex s w 0 (drop i cs) >>= λ us. Ok (ts ++ us)) ≡ (lex s w' 0 (drop (i + (f.more + 1)) cs) >>= λ us. Ok (ts' ++ us))
   lex-step w' ts ts' f is counts more =
-      ap (λ (r : Result (List Token) Stop). r >>= λ us. Ok (ts ++ us)) lex-drop
-      ∙ lex_front s w w' behind ts f (front s (get_or cs i d) behind) is counts
+      ap (λ (r : Result (List Token) TokenStop). r >>= λ us. Ok (ts ++ us)) lex-drop
+      ∙ lex_front s w w' following ts f (front s (get_or cs i d) following) is counts
       ∙ ap (λ (xs : List Placed). lex s w' 0 xs >>= λ us. Ok ((ts ++ option_to_list f.token) ++ us)) (ap (λ (xs : List Placed). drop f.more xs) rest ∙ drop-drop f.more (i + 1) cs ∙ ap (λ (n : ℕ). drop n cs) (omega arith))
       ∙ ap (λ (vs : List Token). lex s w' 0 (drop (i + (f.more + 1)) cs) >>= λ us. Ok (vs ++ us)) (sym more)
 
   -- a fault at the front is the whole's
-  pub lex-fault : (ts : List Token) (e : Stop) → front s (get_or cs i d) behind ≡ Err e → (lex s w 0 (drop i cs) >>= λ us. Ok (ts ++ us)) ≡ Err e
+  pub lex-fault : (ts : List Token) (e : TokenStop) → front s (get_or cs i d) following ≡ Err e → (lex s w 0 (drop i cs) >>= λ us. Ok (ts ++ us)) ≡ Err e
   lex-fault ts e is = rw (lex-drop, is) refl
 
   -- and so is that of one token too many
-  pub lex-past : (ts : List Token) (f : Front) (e : Stop) → front s (get_or cs i d) behind ≡ Ok f → counted_some w f.token ≡ Err e → (lex s w 0 (drop i cs) >>= λ us. Ok (ts ++ us)) ≡ Err e
+  pub lex-past : (ts : List Token) (f : Front) (e : TokenStop) → front s (get_or cs i d) following ≡ Ok f → counted_some w f.token ≡ Err e → (lex s w 0 (drop i cs) >>= λ us. Ok (ts ++ us)) ≡ Err e
   lex-past ts f e is past = rw (lex-drop, is, past) refl
 
 -- all bytes were taken
 pub lex-last : (s : Source) (w : ℕ) (cs : List Placed) (i : ℕ) (ts : List Token) → length cs ≤ i → (lex s w 0 (drop i cs) >>= λ us. Ok (ts ++ us)) ≡ Ok ts
 lex-last s w cs i ts at_end =
-    ap (λ (xs : List Placed). lex s w 0 xs >>= λ us. Ok (ts ++ us)) (drop_all i cs at_end) ∙ ap (λ (r : Result (List Token) Stop). r >>= λ us. Ok (ts ++ us)) (lex-end s w 0)
+    ap (λ (xs : List Placed). lex s w 0 xs >>= λ us. Ok (ts ++ us)) (drop_all i cs at_end) ∙ ap (λ (r : Result (List Token) TokenStop). r >>= λ us. Ok (ts ++ us)) (lex-end s w 0)
     ∙ ap (λ (us : List Token). Ok us) (append-nil ts)
 
 -- ---- counted words

@@ -6,7 +6,7 @@ use Rattle.std.proofs.lemmas.{List.append-nil, Bool.ne_eqb}
 use Rattle.std.specs.{BTreeMap.{BTreeMap, Updates, is_at}, declared.vec.Vec.Vec, Map.{lookup, KeepsOthers}, Ordering.{is_eq, nat_cmp, eq_by_cmp}, Cmp.eq_by_cmp_equiv, Cmp.Lexicographic.{slice_cmp, bytes_decides, nat_list_cmp_total, nat_list_eq_equiv}}
 use Rattle.std.proofs.lemmas.Map.Text.{is_eq-slice_cmp}
 use Rattle.pf_form.specs.Form.Forms.{◌>>=◌}
-use Rattle.pf_tokens.specs.declared.{place.Place.Place, place.Placed.Placed, token.Token.Token, flat.Macro.Macro, fault.Stop.Stop}
+use Rattle.pf_tokens.specs.declared.{place.Place.Place, place.Placed.Placed, token.Token.Token, flat.Macro.Macro, fault.TokenStop.TokenStop}
 use Rattle.pf_tokens.specs.declared.fault.Mistake.TheVariants.{OpenBrace}
 use Rattle.pf_tokens.specs.{Stops.faulty}
 use Rattle.pf_tokens.specs.{Latest.{latest, latest_from, number_at}, Flat.{parts_of, with_parts, replaced, part_checked, parts_checked, spaced, has_bytes, value_text, with_part, Left, put, put_each, put_line, last_of, all_closed}}
@@ -33,14 +33,14 @@ latest_from-more n name (x ∷ xs) m =
     ∙ more_or (bytes_eq name m.name) (latest_from (n + 1) name xs) first (n + 1 + length xs) (n + length (x ∷ xs)) (omega arith)
 
 found_below : (b : Bool) (later : Option ℕ) (n k end : ℕ) → n < end → (later ≡ Some k → k < end) → option_or later (if b then Some n else None) ≡ Some k → k < end
-found_below b (Some j) n k end here behind is = behind is
-found_below true None n k end here behind is = let same : n ≡ k = cc in subst (λ (j : ℕ). j < end) same here
-found_below false None n k end here behind is = cc
+found_below b (Some j) n k end here following is = following is
+found_below true None n k end here following is = let same : n ≡ k = cc in subst (λ (j : ℕ). j < end) same here
+found_below false None n k end here following is = cc
 
 pub latest_from-below : (n : ℕ) (name : List ℕ) (ms : List Macro) (k : ℕ) → latest_from n name ms ≡ Some k → k < n + length ms
 latest_from-below n name [] k is = cc
 latest_from-below n name (m ∷ ms) k is =
-    found_below (bytes_eq name m.name) (latest_from (n + 1) name ms) n k (n + length (m ∷ ms)) (omega arith) (λ behind. let below : k < n + 1 + length ms = latest_from-below (n + 1) name ms k behind in omega (arith, below)) is
+    found_below (bytes_eq name m.name) (latest_from (n + 1) name ms) n k (n + length (m ∷ ms)) (omega arith) (λ following. let below : k < n + 1 + length ms = latest_from-below (n + 1) name ms k following in omega (arith, below)) is
 
 below_of : (o found : Option ℕ) (end : ℕ) → o ≡ found → ((k : ℕ) → found ≡ Some k → k < end) → IfSome o (λ k. k < end)
 below_of (Some k) found end is below = below k (sym is)
@@ -86,9 +86,9 @@ replaced-end ms = refl
 -- a token's parts behind none
 pub with_parts_first : (ms : List Macro) (t : Token) → with_parts ms t [] ≡ parts_of ms t
 unfolding with_parts
-with_parts_first ms t = elim (parts_of ms t) as (λ (r : Result (List Token) Stop). (r >>= λ ps. Ok ps) ≡ r) [ Ok ps ↦ refl | Err e ↦ refl ]
+with_parts_first ms t = elim (parts_of ms t) as (λ (r : Result (List Token) TokenStop). (r >>= λ ps. Ok ps) ≡ r) [ Ok ps ↦ refl | Err e ↦ refl ]
 
-more_parts : (out out' : List Token) (parts rest : Result (List Token) Stop) → (parts >>= λ ps. Ok (out ++ ps)) ≡ Ok out' → ((parts >>= λ ps. rest >>= λ qs. Ok (ps ++ qs)) >>= λ qs. Ok (out ++ qs)) ≡ (rest >>= λ qs. Ok (out' ++ qs))
+more_parts : (out out' : List Token) (parts rest : Result (List Token) TokenStop) → (parts >>= λ ps. Ok (out ++ ps)) ≡ Ok out' → ((parts >>= λ ps. rest >>= λ qs. Ok (ps ++ qs)) >>= λ qs. Ok (out ++ qs)) ≡ (rest >>= λ qs. Ok (out' ++ qs))
 more_parts out out' (Ok ps) (Ok qs) is = let same : out ++ ps ≡ out' = cc in ap (λ (ts : List Token). Ok ts) (sym (append_assoc out ps qs) ∙ ap (λ (ts : List Token). ts ++ qs) same)
 more_parts out out' (Ok ps) (Err e) is = refl
 more_parts out out' (Err e) rest is = cc
@@ -97,18 +97,18 @@ pub replaced-step : (ms : List Macro) (ts : List Token) (i : ℕ) (t : Token) (o
 unfolding with_parts
 replaced-step ms ts i t out out' in_list here is =
     ap (λ (us : List Token). replaced ms us >>= λ ps. Ok (out ++ ps)) (drop_item ts i t in_list here)
-    ∙ ap (λ (r : Result (List Token) Stop). r >>= λ ps. Ok (out ++ ps)) (replaced-cons ms t (drop (i + 1) ts))
+    ∙ ap (λ (r : Result (List Token) TokenStop). r >>= λ ps. Ok (out ++ ps)) (replaced-cons ms t (drop (i + 1) ts))
     ∙ more_parts out out' (parts_of ms t) (replaced ms (drop (i + 1) ts)) is
 
-failed_parts : (out : List Token) (parts rest : Result (List Token) Stop) (e : Stop) → (parts >>= λ ps. Ok (out ++ ps)) ≡ Err e → ((parts >>= λ ps. rest >>= λ qs. Ok (ps ++ qs)) >>= λ qs. Ok (out ++ qs)) ≡ Err e
+failed_parts : (out : List Token) (parts rest : Result (List Token) TokenStop) (e : TokenStop) → (parts >>= λ ps. Ok (out ++ ps)) ≡ Err e → ((parts >>= λ ps. rest >>= λ qs. Ok (ps ++ qs)) >>= λ qs. Ok (out ++ qs)) ≡ Err e
 failed_parts out (Ok ps) rest e is = cc
 failed_parts out (Err d) rest e is = is
 
-pub replaced-fault : (ms : List Macro) (ts : List Token) (i : ℕ) (t : Token) (out : List Token) (e : Stop) → i < length ts → t ≡ get_or ts i t → with_parts ms t out ≡ Err e → (replaced ms (drop i ts) >>= λ ps. Ok (out ++ ps)) ≡ Err e
+pub replaced-fault : (ms : List Macro) (ts : List Token) (i : ℕ) (t : Token) (out : List Token) (e : TokenStop) → i < length ts → t ≡ get_or ts i t → with_parts ms t out ≡ Err e → (replaced ms (drop i ts) >>= λ ps. Ok (out ++ ps)) ≡ Err e
 unfolding with_parts
 replaced-fault ms ts i t out e in_list here is =
     ap (λ (us : List Token). replaced ms us >>= λ ps. Ok (out ++ ps)) (drop_item ts i t in_list here)
-    ∙ ap (λ (r : Result (List Token) Stop). r >>= λ ps. Ok (out ++ ps)) (replaced-cons ms t (drop (i + 1) ts))
+    ∙ ap (λ (r : Result (List Token) TokenStop). r >>= λ ps. Ok (out ++ ps)) (replaced-cons ms t (drop (i + 1) ts))
     ∙ failed_parts out (parts_of ms t) (replaced ms (drop (i + 1) ts)) e is
 
 -- ---- a macro's value
@@ -154,12 +154,12 @@ put_each-end x = refl
 pub put_each-step : (ts : List Token) (i : ℕ) (t : Token) (x y : Left) → i < length ts → t ≡ get_or ts i t → put t x ≡ Ok y → put_each (drop i ts) x ≡ put_each (drop (i + 1) ts) y
 put_each-step ts i t x y in_list here is =
     ap (λ (us : List Token). put_each us x) (drop_item ts i t in_list here) ∙ put_each-cons t (drop (i + 1) ts) x
-    ∙ ap (λ (r : Result Left Stop). r >>= put_each (drop (i + 1) ts)) is
+    ∙ ap (λ (r : Result Left TokenStop). r >>= put_each (drop (i + 1) ts)) is
 
-pub put_each-fault : (ts : List Token) (i : ℕ) (t : Token) (x : Left) (e : Stop) → i < length ts → t ≡ get_or ts i t → put t x ≡ Err e → put_each (drop i ts) x ≡ Err e
+pub put_each-fault : (ts : List Token) (i : ℕ) (t : Token) (x : Left) (e : TokenStop) → i < length ts → t ≡ get_or ts i t → put t x ≡ Err e → put_each (drop i ts) x ≡ Err e
 put_each-fault ts i t x e in_list here is =
     ap (λ (us : List Token). put_each us x) (drop_item ts i t in_list here) ∙ put_each-cons t (drop (i + 1) ts) x
-    ∙ ap (λ (r : Result Left Stop). r >>= put_each (drop (i + 1) ts)) is
+    ∙ ap (λ (r : Result Left TokenStop). r >>= put_each (drop (i + 1) ts)) is
 
 pub put_line-cons : (ms : List Macro) (t : Token) (ts : List Token) (x : Left) → put_line ms (t ∷ ts) x ≡ (parts_of ms t >>= λ ps. put_each ps x >>= put_line ms ts)
 unfolding put_line
@@ -170,16 +170,16 @@ unfolding put_line
 put_line-end ms x = refl
 
 -- a token is replaced, and what it stands for is put
-pub put_line-step : (ms : List Macro) (ts : List Token) (i : ℕ) (t : Token) (ps : List Token) (x : Left) (r : Result Left Stop) → i < length ts → t ≡ get_or ts i t → with_parts ms t [] ≡ Ok ps → put_each ps x ≡ r → put_line ms (drop i ts) x ≡ (r >>= put_line ms (drop (i + 1) ts))
+pub put_line-step : (ms : List Macro) (ts : List Token) (i : ℕ) (t : Token) (ps : List Token) (x : Left) (r : Result Left TokenStop) → i < length ts → t ≡ get_or ts i t → with_parts ms t [] ≡ Ok ps → put_each ps x ≡ r → put_line ms (drop i ts) x ≡ (r >>= put_line ms (drop (i + 1) ts))
 put_line-step ms ts i t ps x r in_list here is put =
     ap (λ (us : List Token). put_line ms us x) (drop_item ts i t in_list here) ∙ put_line-cons ms t (drop (i + 1) ts) x
-    ∙ ap (λ (parts : Result (List Token) Stop). parts >>= λ qs. put_each qs x >>= put_line ms (drop (i + 1) ts)) (sym (with_parts_first ms t) ∙ is)
-    ∙ ap (λ (s : Result Left Stop). s >>= put_line ms (drop (i + 1) ts)) put
+    ∙ ap (λ (parts : Result (List Token) TokenStop). parts >>= λ qs. put_each qs x >>= put_line ms (drop (i + 1) ts)) (sym (with_parts_first ms t) ∙ is)
+    ∙ ap (λ (s : Result Left TokenStop). s >>= put_line ms (drop (i + 1) ts)) put
 
-pub put_line-fault : (ms : List Macro) (ts : List Token) (i : ℕ) (t : Token) (x : Left) (e : Stop) → i < length ts → t ≡ get_or ts i t → with_parts ms t [] ≡ Err e → put_line ms (drop i ts) x ≡ Err e
+pub put_line-fault : (ms : List Macro) (ts : List Token) (i : ℕ) (t : Token) (x : Left) (e : TokenStop) → i < length ts → t ≡ get_or ts i t → with_parts ms t [] ≡ Err e → put_line ms (drop i ts) x ≡ Err e
 put_line-fault ms ts i t x e in_list here is =
     ap (λ (us : List Token). put_line ms us x) (drop_item ts i t in_list here) ∙ put_line-cons ms t (drop (i + 1) ts) x
-    ∙ ap (λ (parts : Result (List Token) Stop). parts >>= λ qs. put_each qs x >>= put_line ms (drop (i + 1) ts)) (sym (with_parts_first ms t) ∙ is)
+    ∙ ap (λ (parts : Result (List Token) TokenStop). parts >>= λ qs. put_each qs x >>= put_line ms (drop (i + 1) ts)) (sym (with_parts_first ms t) ∙ is)
 
 -- ---- braces at a file's end
 

@@ -2,7 +2,7 @@
 use Rattle.std.specs.Prelude.{◌≡◌, ◌==◌, ℕ, zero, suc, ◌+◌, ◌-◌, nat_lt, nat_le, ◌&&◌, ◌||◌, not, Bool, true, false, List, [], ◌∷◌, ◌++◌, map, length, take, drop, codes, Option, Some, None, Result, Ok, Err, if◌then◌else◌}
 use Rattle.std.specs.List.{list_all, flat_map}
 use Rattle.pf_form.specs.Form.Forms.{◌>>=◌}
-use Rattle.pf_tokens.specs.declared.{place.Place.Place, place.Placed.Placed, token.Token.Token, flat.Macro.Macro, flat.Flat.Flat, counting.TheConstants.TOKEN_LIMIT, flat.TheConstants.VALUE_LIMIT, files.File.File, fault.Stop.Stop, fault.Stop.TheVariants.{Faulty, Needs, Memory}}
+use Rattle.pf_tokens.specs.declared.{place.Place.Place, place.Placed.Placed, token.Token.Token, flat.Macro.Macro, flat.Flat.Flat, counting.TheConstants.TOKEN_LIMIT, flat.TheConstants.VALUE_LIMIT, files.File.File, fault.TokenStop.TokenStop, fault.TokenStop.TheVariants.{Faulty, Needs, Memory}}
 use Rattle.pf_tokens.specs.declared.token.Kind.TheVariants as kinds
 use Rattle.pf_tokens.specs.declared.fault.Mistake.TheVariants as mistakes
 use Rattle.pf_tokens.specs.declared.lexing.Source.TheVariants as sources
@@ -19,7 +19,7 @@ abbrev pub modifier_of : Token → List Placed
 modifier_of t = drop (length (name_of t)) t.text
 
 -- A modifier goes on with the value's word (pf.conf(5), MACROS: a macro's value stands in place of its name), so the value has to be one.
-abbrev pub modifier_checked : Bool → List Placed → Result (Unit {0}) Stop
+abbrev pub modifier_checked : Bool → List Placed → Result (Unit {0}) TokenStop
 modifier_checked is_word [] = Ok tt
 modifier_checked is_word (c ∷ cs) = if is_word then Ok tt else Err (faulty c.place (mistakes.InterfaceAddress (text_of (c ∷ cs))))
 
@@ -27,33 +27,33 @@ modifier_checked is_word (c ∷ cs) = if is_word then Ok tt else Err (faulty c.p
 abbrev pub used : Place → List Placed → Token → Token
 used p modifier t = moved p (record t { text = t.text ++ modifier })
 
-abbrev pub value_at : Token → List Macro → Option ℕ → Result (List Token) Stop
+abbrev pub value_at : Token → List Macro → Option ℕ → Result (List Token) TokenStop
 value_at t ms None = Err (faulty t.place (mistakes.Undefined (text_of (name_of t))))
 value_at t ms (Some n) =
     modifier_checked (is_word_at ms n) (modifier_of t) >>= λ _. Ok (map (used (used_at t.place n) (modifier_of t)) (value_of ms n))
 
 -- what a token stands for: itself, unless it is the use of a macro
-unfoldable pub parts_of : List Macro → Token → Result (List Token) Stop
+unfoldable pub parts_of : List Macro → Token → Result (List Token) TokenStop
 parts_of ms t = if is_macro t then value_at t ms (latest (text_of (name_of t)) ms) else Ok (t ∷ [])
 
 -- these tokens, and behind them what a token stands for
-unfoldable pub with_parts : List Macro → Token → List Token → Result (List Token) Stop
+unfoldable pub with_parts : List Macro → Token → List Token → Result (List Token) TokenStop
 with_parts ms t ts = parts_of ms t >>= λ ps. Ok (ts ++ ps)
 
 -- How many words are read with what a token stands for. A token that uses no macro was counted when it was read.
-abbrev pub counted_value : ℕ → Token → List Macro → Option ℕ → Result ℕ Stop
+abbrev pub counted_value : ℕ → Token → List Macro → Option ℕ → Result ℕ TokenStop
 counted_value n t ms None = Ok n
 counted_value n t ms (Some k) = counted_at (used_at t.place k) n (value_of ms k)
 
-unfoldable pub counted_use : List Macro → ℕ → Token → Result ℕ Stop
+unfoldable pub counted_use : List Macro → ℕ → Token → Result ℕ TokenStop
 counted_use ms n t = if is_macro t then counted_value n t ms (latest (text_of (name_of t)) ms) else Ok n
 
 -- the same of a line's tokens
-unfoldable pub counted_uses : List Macro → ℕ → List Token → Result ℕ Stop
+unfoldable pub counted_uses : List Macro → ℕ → List Token → Result ℕ TokenStop
 counted_uses ms n [] = Ok n
 counted_uses ms n (t ∷ ts) = counted_use ms n t >>= λ m. counted_uses ms m ts
 
-unfoldable pub replaced : List Macro → List Token → Result (List Token) Stop
+unfoldable pub replaced : List Macro → List Token → Result (List Token) TokenStop
 replaced ms [] = Ok []
 replaced ms (t ∷ ts) = parts_of ms t >>= λ ps. replaced ms ts >>= λ qs. Ok (ps ++ qs)
 
@@ -67,19 +67,19 @@ is_definition (t ∷ u ∷ ts) = same_kind t.kind kinds.Word && is_symbol (codes
 abbrev pub has_letters_alone : List Placed → Bool
 has_letters_alone text = list_all (λ (c : Placed). is_letter c.byte) text
 
-abbrev pub name_checked : Token → Result (Unit {0}) Stop
+abbrev pub name_checked : Token → Result (Unit {0}) TokenStop
 name_checked t =
     if is_keyword_word t then Err (faulty t.place (mistakes.ReservedName (text_of t.text)))
     else if is_number t || not (has_letters_alone t.text) then Err (faulty t.place mistakes.MacroName)
     else Ok tt
 
-abbrev pub part_checked : Token → Result (Unit {0}) Stop
+abbrev pub part_checked : Token → Result (Unit {0}) TokenStop
 part_checked t =
     if same_kind t.kind kinds.Symbol then Err (faulty t.place (mistakes.SymbolInValue (text_of t.text)))
     else if is_keyword_word t then Err (faulty t.place (mistakes.ReservedInValue (text_of t.text)))
     else Ok tt
 
-abbrev pub parts_checked : List Token → Result (Unit {0}) Stop
+abbrev pub parts_checked : List Token → Result (Unit {0}) TokenStop
 parts_checked [] = Ok tt
 parts_checked (t ∷ ts) = part_checked t >>= λ _. parts_checked ts
 
@@ -100,14 +100,14 @@ value_text (t ∷ ts) = if has_bytes t.text then t.text ++ flat_map spaced ts el
 abbrev pub with_part : List Placed → Token → List Placed
 with_part value t = if length value == 0 then t.text else value ++ spaced t
 
-unfoldable pub joined : List Token → Result (List Placed) Stop
+unfoldable pub joined : List Token → Result (List Placed) TokenStop
 joined ts = parts_checked ts >>= λ _. Ok (value_text ts)
 
-abbrev pub short : Place → List Placed → Result (List Placed) Stop
+abbrev pub short : Place → List Placed → Result (List Placed) TokenStop
 short first value = if nat_le (length value) VALUE_LIMIT then Ok value else Err (faulty first mistakes.LongValue)
 
 -- the text of a value, given its parts, where what stands behind "=" begins, and where the line ends
-abbrev pub text_of_value : Place → Place → List Token → Result (List Placed) Stop
+abbrev pub text_of_value : Place → Place → List Token → Result (List Placed) TokenStop
 text_of_value first end_place parts =
     if length parts == 0 then Err (faulty end_place mistakes.NoValue) else (joined parts >>= short first)
 
@@ -118,7 +118,7 @@ is_one_word text (t ∷ []) = same_kind t.kind kinds.Word && (length t.text == l
 is_one_word text (t ∷ u ∷ ts) = false
 
 -- the macro of this name with this value, given how many words were read before
-abbrev pub macro_of : ℕ → List ℕ → List Placed → Result Macro Stop
+abbrev pub macro_of : ℕ → List ℕ → List Placed → Result Macro TokenStop
 macro_of n name text =
     lex sources.Value n 0 text >>= λ value. Ok (record { name = name; is_word = is_one_word text value; value = value })
 
@@ -128,16 +128,16 @@ first_place [] end_place = end_place
 first_place (t ∷ ts) end_place = t.place
 
 -- what a macro is defined as, by its name and what stands behind "="
-unfoldable pub defined : ℕ → List Macro → Token → List Token → Place → Result Macro Stop
-defined n ms name behind end_place =
-    name_checked name >>= λ _. replaced ms behind >>= text_of_value (first_place behind end_place) end_place
+unfoldable pub defined : ℕ → List Macro → Token → List Token → Place → Result Macro TokenStop
+defined n ms name following end_place =
+    name_checked name >>= λ _. replaced ms following >>= text_of_value (first_place following end_place) end_place
     >>= macro_of n (text_of name.text)
 
 -- the same, by the line's tokens
-abbrev pub defined_by : ℕ → List Macro → List Token → Place → Result Macro Stop
+abbrev pub defined_by : ℕ → List Macro → List Token → Place → Result Macro TokenStop
 defined_by n ms [] end_place = Err (faulty end_place mistakes.NoValue)
 defined_by n ms (name ∷ []) end_place = Err (faulty end_place mistakes.NoValue)
-defined_by n ms (name ∷ equals ∷ behind) end_place = defined n ms name behind end_place
+defined_by n ms (name ∷ equals ∷ following) end_place = defined n ms name following end_place
 
 -- ---- include FILE
 
@@ -145,15 +145,15 @@ abbrev pub is_include : List Token → Bool
 is_include [] = false
 is_include (t ∷ ts) = is_word (codes "include") t
 
-abbrev pub only_string : Place → List Token → Result Token Stop
+abbrev pub only_string : Place → List Token → Result Token TokenStop
 only_string p [] = Err (faulty p mistakes.NoFileName)
 only_string p (t ∷ []) = if is_string t then Ok t else Err (faulty p mistakes.NoFileName)
 only_string p (t ∷ u ∷ ts) = Err (faulty p mistakes.NoFileName)
 
 -- the token that names the file of a line that begins with the word "include"
-abbrev pub file_name : List Macro → List Token → Place → Result Token Stop
+abbrev pub file_name : List Macro → List Token → Place → Result Token TokenStop
 file_name ms [] end_place = Err (faulty end_place mistakes.NoFileName)
-file_name ms (word ∷ behind) end_place = replaced ms behind >>= only_string word.place
+file_name ms (word ∷ following) end_place = replaced ms following >>= only_string word.place
 
 -- ---- tokens that are left, and the places of the braces that are open, the innermost last
 
@@ -167,16 +167,16 @@ braces t opened =
     else if is_symbol (codes "}") t then take (length opened - 1) opened
     else opened
 
-unfoldable pub put : Token → Left → Result Left Stop
+unfoldable pub put : Token → Left → Result Left TokenStop
 put t x =
     if nat_lt (length x.1) TOKEN_LIMIT then Ok (braces t x.0, x.1 ++ (t ∷ [])) else Err (faulty t.place mistakes.ManyWords)
 
-unfoldable pub put_each : List Token → Left → Result Left Stop
+unfoldable pub put_each : List Token → Left → Result Left TokenStop
 put_each [] x = Ok x
 put_each (t ∷ ts) x = put t x >>= put_each ts
 
 -- the tokens of a line, each replaced by what it stands for
-unfoldable pub put_line : List Macro → List Token → Left → Result Left Stop
+unfoldable pub put_line : List Macro → List Token → Left → Result Left TokenStop
 put_line ms [] x = Ok x
 put_line ms (t ∷ ts) x = parts_of ms t >>= λ ps. put_each ps x >>= put_line ms ts
 
@@ -188,14 +188,14 @@ last_of p (q ∷ qs) = last_of q qs
 
 -- why reading stops, and the macros that were defined before
 abbrev pub Stopped : Type 0
-Stopped = Stop × List Macro
+Stopped = TokenStop × List Macro
 
-abbrev pub leaving : {A : Type 0} → List Macro → Result A Stop → Result A Stopped
+abbrev pub leaving : {A : Type 0} → List Macro → Result A TokenStop → Result A Stopped
 leaving ms (Ok x) = Ok x
 leaving ms (Err e) = Err (e, ms)
 
 -- What a function leaves is what is wanted, unless memory runs out; and so are the macros where it stops.
-abbrev pub Reaches : {A : Type 0} → Result A Stop → Flat → Result Flat Stopped → Type 0
+abbrev pub Reaches : {A : Type 0} → Result A TokenStop → Flat → Result Flat Stopped → Type 0
 Reaches (Ok x) s wanted = wanted ≡ Ok s
 Reaches (Err (Faulty f)) s wanted = wanted ≡ Err (Faulty f, s.macros)
 Reaches (Err (Needs name)) s wanted = wanted ≡ Err (Needs name, s.macros)
@@ -206,7 +206,7 @@ abbrev pub State : Type 0
 State = List Place × Flat
 
 -- the same of a line
-abbrev pub ReachesLine : {A : Type 0} → Result A Stop → State → Result State Stopped → Type 0
+abbrev pub ReachesLine : {A : Type 0} → Result A TokenStop → State → Result State Stopped → Type 0
 ReachesLine (Ok done) x wanted = wanted ≡ Ok x
 ReachesLine (Err (Faulty f)) x wanted = wanted ≡ Err (Faulty f, x.1.macros)
 ReachesLine (Err (Needs name)) x wanted = wanted ≡ Err (Needs name, x.1.macros)
@@ -219,7 +219,7 @@ Including = Token → Flat → Result Flat Stopped
 abbrev pub is_closed : List Place → Bool
 is_closed opened = length opened == 0
 
-abbrev pub all_closed : List Place → Result (Unit {0}) Stop
+abbrev pub all_closed : List Place → Result (Unit {0}) TokenStop
 all_closed [] = Ok tt
 all_closed (p ∷ ps) = Err (faulty (last_of p ps) mistakes.OpenBrace)
 

@@ -2,19 +2,19 @@
 use Rattle.std.specs.Prelude.{◌≡◌, ◌⊎◌, ℕ, ◌==◌, ◌&&◌, not, Bool, false, List, [], ◌∷◌, ◌++◌, fold, if◌then◌else◌}
 use Rattle.std.specs.List.{list_any, flat_map}
 use Rattle.pf_tokens.specs.declared.{place.Place.Place, place.Placed.Placed, token.Token.Token, flat.Macro.Macro, flat.Flat.Flat}
-use Rattle.pf_tokens.specs.{Places.{at, behind}, Words.{is_newline, is_macro}, Flat.{Line, braces, is_definition, is_include}}
+use Rattle.pf_tokens.specs.{Places.{at, place_after}, Words.{is_newline, is_macro}, Flat.{Line, braces, is_definition, is_include}}
 
 -- ---- continued lines
 
 -- the bytes of a text that begins at this place, each where it stands
 abbrev pub located : Place → List ℕ → List Placed
 located p [] = []
-located p (b ∷ bs) = at b p ∷ located (behind b p) bs
+located p (b ∷ bs) = at b p ∷ located (place_after b p) bs
 
 -- where such a text ends
 abbrev pub end_of : Place → List ℕ → Place
 end_of p [] = p
-end_of p (b ∷ bs) = end_of (behind b p) bs
+end_of p (b ∷ bs) = end_of (place_after b p) bs
 
 -- Without each backslash that has a newline behind it, and without that newline. A backslash goes with the byte behind it, whatever that is.
 abbrev pub uncontinued : List Placed → List Placed
@@ -50,5 +50,5 @@ abbrev pub tokens_of : List Line → List Token
 tokens_of ls = flat_map (λ (l : Line). l.0 ++ (l.1 ∷ [])) ls
 
 -- the braces that are open behind these tokens
-abbrev pub open_behind : List Place → List Token → List Place
-open_behind opened ts = fold (λ (o : List Place) (t : Token). braces t o) opened ts
+abbrev pub open_after : List Place → List Token → List Place
+open_after opened ts = fold (λ (o : List Place) (t : Token). braces t o) opened ts

@@ -16,8 +16,8 @@ abbrev pub next_column : Place → Place
 next_column p = record p { column = p.column + 1 }
 
 -- where the byte behind this one stands
-abbrev pub behind : ℕ → Place → Place
-behind b p = if b == 10 then next_line p else next_column p
+abbrev pub place_after : ℕ → Place → Place
+place_after b p = if b == 10 then next_line p else next_column p
 
 abbrev pub at : ℕ → Place → Placed
 at b p = record { byte = b; place = p }

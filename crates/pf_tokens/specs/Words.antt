@@ -1,7 +1,7 @@
 -- What tokens are (pf.conf(5), GRAMMAR; the words that it reserves are those of pfctl's grammar).
 use Rattle.std.specs.Prelude.{ℕ, ◌&&◌, ◌||◌, not, Bool, true, false, List, map}
 use Rattle.std.specs.{List.list_any, Str.bytes_eq}
-use Rattle.pf_tokens.specs.declared.{place.Place.Place, place.Placed.Placed, token.Token.Token, token.Kind.Kind, token.Kind.TheVariants.{Word, Quoted, Symbol, Macro, Newline}, reserved.TheConstants.RESERVED}
+use Rattle.pf_tokens.specs.declared.{place.Place.Place, place.Placed.Placed, token.Token.Token, token.Kind.Kind, token.Kind.TheVariants.{Word, Quoted, Symbol, Macro, Newline}, reserved.TheConstants.{STATEMENTS, SETTINGS, TESTS, ANSWERS, STATES, ADDRESSES, QUEUES}}
 use Rattle.pf_tokens.specs.Places.{text_of, is_digits, at}
 
 abbrev pub same_kind : Kind → Kind → Bool
@@ -30,7 +30,14 @@ is_macro t = same_kind t.kind Macro
 
 -- one of the words that the grammar reserves
 unfoldable pub is_keyword : List ℕ → Bool
-is_keyword text = list_any (λ word. bytes_eq text word.now) RESERVED
+is_keyword text =
+    list_any (λ word. bytes_eq text word.now) STATEMENTS ||
+    list_any (λ word. bytes_eq text word.now) SETTINGS ||
+    list_any (λ word. bytes_eq text word.now) TESTS ||
+    list_any (λ word. bytes_eq text word.now) ANSWERS ||
+    list_any (λ word. bytes_eq text word.now) STATES ||
+    list_any (λ word. bytes_eq text word.now) ADDRESSES ||
+    list_any (λ word. bytes_eq text word.now) QUEUES
 
 abbrev pub is_number : Token → Bool
 is_number t = same_kind t.kind Word && is_digits t.text

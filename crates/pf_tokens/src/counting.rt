@@ -2,7 +2,7 @@
 ghost use Rattle.std.specs.Prelude.{◌≡◌};
 ghost use Rattle.pf_tokens.specs.{Stops.Leaves, Counting.{weight, counted, counted_at}};
 
-use crate::fault::{Mistake, Stop, refusal};
+use crate::fault::{Mistake, TokenStop, refusal};
 use crate::place::Place;
 use crate::token::Token;
 
@@ -18,7 +18,7 @@ fn weight(token: &Token) -> usize
 
 /// Counts a token. `Faulty`, at this place: it is past the limit.
 #[tactic(auto, unfolding(crate::specs::Counting::counted))]
-pub(crate) fn count(place: Place, words_read: &mut usize, token: &Token) -> Result<(), Stop>
+pub(crate) fn count(place: Place, words_read: &mut usize, token: &Token) -> Result<(), TokenStop>
     ensures { Leaves result words_read.new (counted place words_read.old token.now) }
 {
     let weight = weight(token);
@@ -31,7 +31,11 @@ pub(crate) fn count(place: Place, words_read: &mut usize, token: &Token) -> Resu
 
 /// Counts the tokens that a macro stands for, whose use is at this place.
 #[tactic(auto, using(crate::proofs::Steps::drop_item, std::proofs::lemmas::List::drop_all), unfolding(crate::specs::Counting::counted_at))]
-pub(crate) fn count_at(place: Place, words_read: &mut usize, tokens: &[Token]) -> Result<(), Stop>
+pub(crate) fn count_at(
+    place: Place,
+    words_read: &mut usize,
+    tokens: &[Token],
+) -> Result<(), TokenStop>
     ensures { Leaves result words_read.new (counted_at place words_read.old tokens.now) }
 {
     for token in tokens {

@@ -1,6 +1,6 @@
 //! What is wrong with a text, and where.
 ghost use Rattle.std.specs.Prelude.{◌≡◌};
-ghost use Rattle.pf_tokens.specs.declared.fault.Stop.TheVariants.{Memory};
+ghost use Rattle.pf_tokens.specs.declared.fault.TokenStop.TheVariants.{Memory};
 ghost use Rattle.pf_tokens.specs.Stops.{faulty};
 
 use crate::items::Bytes;
@@ -113,7 +113,7 @@ impl Display for Mistake {
     fn fmt<W: Write>(&self, f: &mut Formatter<W>) -> fmt::Result {
         match self.text() {
             Text::Plain(text) => write!(f, "{text}"),
-            Text::Named(before, name, behind) => write!(f, "{before}{name}{behind}"),
+            Text::Named(before, name, following) => write!(f, "{before}{name}{following}"),
             Text::Byte(byte) => write!(f, "byte 0x{byte:02x} can't stand here"),
             Text::Character(character) => write!(f, "'{character}' can't stand here"),
         }
@@ -138,7 +138,7 @@ pub struct Fault {
 
 /// Why a text isn't read.
 #[derive(Debug, Drop)]
-pub enum Stop {
+pub enum TokenStop {
     /// There is a fault in it.
     Faulty(Fault),
     /// It names this file, which isn't given.
@@ -148,24 +148,24 @@ pub enum Stop {
 }
 
 /// A fault at a place.
-pub(crate) fn refusal(place: Place, mistake: Mistake) -> Stop
+pub(crate) fn refusal(place: Place, mistake: Mistake) -> TokenStop
     ensures { result ≡ faulty place mistake }
 {
-    Stop::Faulty(Fault { place, mistake })
+    TokenStop::Faulty(Fault { place, mistake })
 }
 
-impl From<AllocError> for Stop {
+impl From<AllocError> for TokenStop {
     ghost from_gives = { λ _ e. e ≡ Memory };
 
-    fn from(_e: AllocError) -> Stop {
-        Stop::Memory
+    fn from(_e: AllocError) -> TokenStop {
+        TokenStop::Memory
     }
 }
 
-impl<T: Drop> From<AllocFailed<T>> for Stop {
+impl<T: Drop> From<AllocFailed<T>> for TokenStop {
     ghost from_gives = { λ _ e. e ≡ Memory };
 
-    fn from(_e: AllocFailed<T>) -> Stop {
-        Stop::Memory
+    fn from(_e: AllocFailed<T>) -> TokenStop {
+        TokenStop::Memory
     }
 }

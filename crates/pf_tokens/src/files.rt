@@ -2,7 +2,7 @@
 ghost use Rattle.std.specs.Prelude.{◌≡◌, ◌≤◌, ◌<◌, length, IfOk};
 ghost use Rattle.pf_tokens.specs.Files.{file_from, IsFound, text_of_file, Finds};
 
-use crate::fault::{Mistake, Stop, refusal};
+use crate::fault::{Mistake, TokenStop, refusal};
 use crate::items::{Bytes, Items};
 use crate::place::Place;
 use std::alloc::Global;
@@ -54,7 +54,7 @@ pub fn text_of_file<'a>(
     files_read: usize,
     at: Place,
     name: &[u8],
-) -> Result<(usize, &'a [u8]), Stop>
+) -> Result<(usize, &'a [u8]), TokenStop>
     ensures found { Finds result (text_of_file files.now files_read at name.now) }
     ensures short { IfOk result (λ found. length found.1.now ≤ FILE_LIMIT) }
     ensures room { IfOk result (λ found. files_read < READING_LIMIT) }
@@ -63,7 +63,7 @@ pub fn text_of_file<'a>(
         return Err(refusal(at, Mistake::ManyFiles));
     }
     let Some((number, file)) = file_named(files.as_slice(), name) else {
-        return Err(Stop::Needs(Items::copied(alloc, name)?));
+        return Err(TokenStop::Needs(Items::copied(alloc, name)?));
     };
     match &file.contents {
         Contents::Text(text) if text.len() > FILE_LIMIT => Err(refusal(at, Mistake::LongFile)),

@@ -4,7 +4,7 @@ ghost use Rattle.pf_tokens.specs.{declared.place.{Place.Place, Placed.Placed}, P
 ghost use Rattle.pf_tokens.specs.Flat.{name_of, modifier_of, modifier_checked, used, with_parts, replaced, is_definition, has_letters_alone, name_checked, part_checked, with_part, joined, text_of_value, is_one_word, macro_of, first_place, defined, counted_value, counted_use, counted_uses, is_include, only_string, file_name, defining, lines, braces, put, put_each, put_line, all_closed, Reaches, ReachesLine, including, read_counted, read_line, read_file};
 
 use crate::counting::{TOKEN_LIMIT, count_at};
-use crate::fault::{Mistake, Stop, refusal};
+use crate::fault::{Mistake, TokenStop, refusal};
 use crate::files::{FILE_LIMIT, Files, READING_LIMIT, text_of_file};
 use crate::items::{Bytes, Items, PlacedText};
 use crate::lexing::{Source, is_letter, lex, name_in};
@@ -124,7 +124,7 @@ fn modifier_of(token: &Token) -> &[Placed]
 }
 
 /// Checks that a modifier, if there is one, stands behind a value that is one word.
-fn check_modifier(alloc: Global, is_word: bool, modifier: &[Placed]) -> Result<(), Stop>
+fn check_modifier(alloc: Global, is_word: bool, modifier: &[Placed]) -> Result<(), TokenStop>
     ensures { Gives result (modifier_checked is_word modifier.now) }
 {
     match modifier {
@@ -167,7 +167,7 @@ fn replace(
     macros: &Macros,
     token: &Token,
     out: &mut Items<Token>,
-) -> Result<(), Stop>
+) -> Result<(), TokenStop>
     ensures { Leaves result out.new (with_parts macros.now token.now out.old) }
 {
     if !token.is_macro() {
@@ -194,7 +194,7 @@ fn count_value(
     macros: &Macros,
     words_read: &mut usize,
     token: &Token,
-) -> Result<(), Stop>
+) -> Result<(), TokenStop>
     ensures { Leaves result words_read.new
         (counted_value words_read.old token.now macros.now (latest (text_of (name_of token.now)) macros.now)) }
 {
@@ -217,7 +217,7 @@ fn count_use(
     macros: &Macros,
     words_read: &mut usize,
     token: &Token,
-) -> Result<(), Stop>
+) -> Result<(), TokenStop>
     ensures { Leaves result words_read.new (counted_use macros.now words_read.old token.now) }
 {
     if token.is_macro() {
@@ -233,7 +233,7 @@ fn count_uses(
     macros: &Macros,
     words_read: &mut usize,
     line: &[Token],
-) -> Result<(), Stop>
+) -> Result<(), TokenStop>
     ensures { Leaves result words_read.new (counted_uses macros.now words_read.old line.now) }
 {
     for token in line {
@@ -244,7 +244,7 @@ fn count_uses(
 
 /// The tokens with their macros replaced.
 #[tactic(auto, using(crate::proofs::Steps::drop_item, std::proofs::lemmas::List::drop_all), unfolding(crate::specs::Flat::replaced))]
-fn replaced(alloc: Global, macros: &Macros, tokens: &[Token]) -> Result<Items<Token>, Stop>
+fn replaced(alloc: Global, macros: &Macros, tokens: &[Token]) -> Result<Items<Token>, TokenStop>
     ensures { Gives result (replaced macros.now tokens.now) }
 {
     let mut out = Items::new(alloc);
@@ -277,7 +277,7 @@ fn is_include(line: &[Token]) -> bool
 }
 
 /// Checks that a token can name a macro.
-fn check_name(alloc: Global, name: &Token) -> Result<(), Stop>
+fn check_name(alloc: Global, name: &Token) -> Result<(), TokenStop>
     ensures { Gives result (name_checked name.now) }
 {
     if name.is_keyword() {
@@ -297,7 +297,7 @@ fn has_letters_alone(text: &[Placed]) -> bool
 }
 
 /// Checks that a token can stand in a macro's value.
-fn check_part(alloc: Global, part: &Token) -> Result<(), Stop>
+fn check_part(alloc: Global, part: &Token) -> Result<(), TokenStop>
     ensures { Gives result (part_checked part.now) }
 {
     if part.kind == Kind::Symbol {
@@ -311,7 +311,7 @@ fn check_part(alloc: Global, part: &Token) -> Result<(), Stop>
 
 /// Appends a part's text to a value, behind a space if something stands before it.
 #[tactic(auto, using(crate::proofs::Steps::take_item))]
-fn join(value: &mut PlacedText, part: &Token) -> Result<(), Stop>
+fn join(value: &mut PlacedText, part: &Token) -> Result<(), TokenStop>
     ensures { Leaves result value.new (Ok (with_part value.old part.now)) }
 {
     if value.len() > 0 {
@@ -326,7 +326,7 @@ fn join(value: &mut PlacedText, part: &Token) -> Result<(), Stop>
 
 /// The texts of a value's parts, with one space between each two.
 #[tactic(auto, using(crate::proofs::Steps::drop_item, std::proofs::lemmas::List::drop_all, crate::proofs::Uses::value_step), unfolding(crate::specs::Flat::joined))]
-fn joined(alloc: Global, parts: &[Token]) -> Result<PlacedText, Stop>
+fn joined(alloc: Global, parts: &[Token]) -> Result<PlacedText, TokenStop>
     ensures { Gives result (joined parts.now) }
 {
     let mut value = Items::new(alloc);
@@ -343,7 +343,7 @@ fn text_of_value(
     parts: &[Token],
     first: Place,
     line_end: Place,
-) -> Result<PlacedText, Stop>
+) -> Result<PlacedText, TokenStop>
     ensures { Gives result (text_of_value first line_end parts.now) }
 {
     if parts.is_empty() {
@@ -372,7 +372,7 @@ fn macro_of(
     words_read: &mut usize,
     name: &Token,
     text: &PlacedText,
-) -> Result<Macro, Stop>
+) -> Result<Macro, TokenStop>
     ensures definition { Gives result (macro_of words_read.old (text_of name.now.text) text.now) }
     ensures counted { IfOk result (λ m. words_read.new ≡ words_read.old + words_in m.value) }
 {
@@ -403,21 +403,21 @@ fn definition(
     words_read: &mut usize,
     macros: &Macros,
     name: &Token,
-    behind: &[Token],
+    following: &[Token],
     line_end: Place,
-) -> Result<Macro, Stop>
-    ensures definition { Gives result (defined words_read.old macros.now name.now behind.now line_end) }
+) -> Result<Macro, TokenStop>
+    ensures definition { Gives result (defined words_read.old macros.now name.now following.now line_end) }
     ensures counted { IfOk result (λ m. words_read.new ≡ words_read.old + words_in m.value) }
 {
     check_name(alloc, name)?;
-    let parts = replaced(alloc, macros, behind)?;
-    let first = first_place(behind, line_end);
+    let parts = replaced(alloc, macros, following)?;
+    let first = first_place(following, line_end);
     let text = text_of_value(alloc, parts.as_slice(), first, line_end)?;
     macro_of(alloc, words_read, name, &text)
 }
 
 /// The one token, which is a string, that names a file.
-fn only_string(alloc: Global, place: Place, parts: &[Token]) -> Result<Token, Stop>
+fn only_string(alloc: Global, place: Place, parts: &[Token]) -> Result<Token, TokenStop>
     ensures { Gives result (only_string place parts.now) }
 {
     match parts {
@@ -427,7 +427,7 @@ fn only_string(alloc: Global, place: Place, parts: &[Token]) -> Result<Token, St
 }
 
 /// The token that names the file of a line that begins with `include`.
-fn file_name(alloc: Global, macros: &Macros, line: &[Token]) -> Result<Token, Stop>
+fn file_name(alloc: Global, macros: &Macros, line: &[Token]) -> Result<Token, TokenStop>
     requires { 1 ≤ length line.now }
     ensures { (line_end : Place) → Gives result (file_name macros.now line.now line_end) }
 {
@@ -436,7 +436,7 @@ fn file_name(alloc: Global, macros: &Macros, line: &[Token]) -> Result<Token, St
 }
 
 /// Keeps the places of the braces that are open behind this token.
-fn follow(token: &Token, opened: &mut Items<Place>) -> Result<(), Stop>
+fn follow(token: &Token, opened: &mut Items<Place>) -> Result<(), TokenStop>
     ensures { Leaves result opened.new (Ok (braces token.now opened.old)) }
 {
     if token.is_symbol(b"{") {
@@ -454,7 +454,7 @@ fn put(
     token: &Token,
     opened: &mut Items<Place>,
     tokens: &mut Items<Token>,
-) -> Result<(), Stop>
+) -> Result<(), TokenStop>
     ensures { Leaves result (opened.new, tokens.new) (put token.now (opened.old, tokens.old)) }
 {
     if tokens.len() >= TOKEN_LIMIT {
@@ -472,7 +472,7 @@ fn put_each(
     parts: &[Token],
     opened: &mut Items<Place>,
     tokens: &mut Items<Token>,
-) -> Result<(), Stop>
+) -> Result<(), TokenStop>
     ensures { Leaves result (opened.new, tokens.new) (put_each parts.now (opened.old, tokens.old)) }
 {
     for part in parts {
@@ -489,7 +489,7 @@ fn put_line(
     line: &[Token],
     opened: &mut Items<Place>,
     tokens: &mut Items<Token>,
-) -> Result<(), Stop>
+) -> Result<(), TokenStop>
     ensures { Leaves result (opened.new, tokens.new) (put_line macros.now line.now (opened.old, tokens.old)) }
 {
     for token in line {
@@ -506,7 +506,7 @@ fn tokens_of(
     words_read: &mut usize,
     number: usize,
     text: &[u8],
-) -> Result<Items<Token>, Stop>
+) -> Result<Items<Token>, TokenStop>
     requires { length text.now ≤ FILE_LIMIT }
     ensures tokens { Gives result (lex Source.File words_read.old 0 (placed (start_of number) text.now)) }
     ensures counted { IfOk result (λ ts. words_read.new ≡ words_read.old + words_in ts) }
@@ -530,7 +530,7 @@ fn first_line(tokens: &[Token]) -> Option<(&[Token], &Token, &[Token])>
 }
 
 /// Checks that no brace is open.
-fn check_closed(opened: &[Place]) -> Result<(), Stop>
+fn check_closed(opened: &[Place]) -> Result<(), TokenStop>
     ensures { Gives result (all_closed opened.now) }
 {
     match opened {
@@ -564,7 +564,7 @@ impl Flat {
         deep: u32,
         number: usize,
         text: &[u8],
-    ) -> Result<(), Stop>
+    ) -> Result<(), TokenStop>
         requires short { length text.now ≤ FILE_LIMIT }
         requires room { self.old.files_read < READING_LIMIT }
         ensures reached { Reaches result self.new (read_file files.now deep number text.now self.old) }
@@ -575,9 +575,9 @@ impl Flat {
         self.files_read += 1;
         let mut rest = tokens.as_slice();
         let mut opened = Items::new(alloc);
-        while let Some((line, newline, behind)) = first_line(rest) {
+        while let Some((line, newline, following)) = first_line(rest) {
             self.read_line(alloc, files, deep, line, newline, &mut opened)?;
-            rest = behind;
+            rest = following;
         }
         check_closed(opened.as_slice())
     }
@@ -593,7 +593,7 @@ impl Flat {
         line: &[Token],
         newline: &Token,
         opened: &mut Items<Place>,
-    ) -> Result<(), Stop>
+    ) -> Result<(), TokenStop>
         requires { self.old.files_read ≤ READING_LIMIT }
         ensures reached { ReachesLine result (opened.new, self.new) (read_line (including files.now deep) line.now newline.now (opened.old, self.old)) }
         ensures counted { OnOk result (self.old.files_read ≤ self.new.files_read) }
@@ -614,7 +614,7 @@ impl Flat {
         line: &[Token],
         newline: &Token,
         opened: &mut Items<Place>,
-    ) -> Result<(), Stop>
+    ) -> Result<(), TokenStop>
         requires { self.old.files_read ≤ READING_LIMIT }
         ensures reached { ReachesLine result (opened.new, self.new) (read_counted (including files.now deep) line.now newline.now (opened.old, self.old)) }
         ensures counted { OnOk result (self.old.files_read ≤ self.new.files_read) }
@@ -634,7 +634,7 @@ impl Flat {
     }
 
     /// Defines the macro of a line.
-    fn define(&mut self, alloc: Global, line: &[Token], line_end: Place) -> Result<(), Stop>
+    fn define(&mut self, alloc: Global, line: &[Token], line_end: Place) -> Result<(), TokenStop>
         requires { 2 ≤ length line.now }
         ensures reached { Reaches result self.new (defining self.old line.now line_end) }
         ensures unread { self.new.files_read ≡ self.old.files_read }
@@ -654,7 +654,13 @@ impl Flat {
     /// Reads the file that a token names.
     #[cycle(reading)]
     #[tactic(auto, using(crate::proofs::Lines::including_deeper), unfolding(crate::specs::Flat::including))]
-    fn include(&mut self, alloc: Global, files: &Files, deep: u32, name: &Token) -> Result<(), Stop>
+    fn include(
+        &mut self,
+        alloc: Global,
+        files: &Files,
+        deep: u32,
+        name: &Token,
+    ) -> Result<(), TokenStop>
         requires { self.old.files_read ≤ READING_LIMIT }
         ensures reached { Reaches result self.new (including files.now deep name.now self.old) }
         ensures counted { OnOk result (self.old.files_read < self.new.files_read) }

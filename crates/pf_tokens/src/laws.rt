@@ -4,7 +4,7 @@ ghost use Rattle.std.specs.List.{list_all};
 ghost use Rattle.pf_tokens.specs.declared.{place.Place.Place, place.Placed.Placed, token.Token.Token, lexing.Source.Source, files.File.File, flat.Flat.Flat, counting.TheConstants.TOKEN_LIMIT};
 ghost use Rattle.pf_tokens.specs.declared.lexing.Source.TheVariants as sources;
 ghost use Rattle.pf_tokens.specs.{Places.{start_of, at}, Placed.placed, Lexing.lex, Flat.{Line, begun, read_file}};
-ghost use Rattle.pf_tokens.specs.Laws.{located, end_of, uncontinued, HasInOrder, bytes_of, HasNoMacro, is_plain, tokens_of, open_behind};
+ghost use Rattle.pf_tokens.specs.Laws.{located, end_of, uncontinued, HasInOrder, bytes_of, HasNoMacro, is_plain, tokens_of, open_after};
 
 /// What is read of a text is its bytes without continued lines, each with its place in the text, and a newline at the end.
 #[tactic(auto, using(crate::proofs::Continued::placed_is))]
@@ -26,7 +26,7 @@ pub fn no_macro_is_left()
 #[tactic(auto, using(crate::proofs::Plain::read_file_plain))]
 pub fn plain_lines_are_left()
     ensures { (files : List File) (deep number : ℕ) (text : List ℕ) (ls : List Line) (s : Flat) → list_all is_plain ls ≡ true →
-        lex sources.File s.words_read 0 (placed (start_of number) text) ≡ Ok (tokens_of ls) → open_behind [] (tokens_of ls) ≡ [] →
+        lex sources.File s.words_read 0 (placed (start_of number) text) ≡ Ok (tokens_of ls) → open_after [] (tokens_of ls) ≡ [] →
         length s.tokens + length (tokens_of ls) ≤ TOKEN_LIMIT →
         read_file files deep number text s ≡ Ok (record (begun s (tokens_of ls)) { tokens = s.tokens ++ tokens_of ls }) }
 {}

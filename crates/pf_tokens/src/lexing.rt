@@ -4,7 +4,7 @@ ghost use Rattle.std.specs.Option.{option_to_list};
 ghost use Rattle.pf_tokens.specs.{Stops.{Gives, Leaves}, Places.text_of, Counting.{words_in, counted_some}, Lexing.{is_letter, is_word_byte, goes_on, run_of, is_text, is_quote, is_pair, pairs, is_symbol_byte, is_printable, quoted, word_checked, is_modifier, modifier_more, symbol_more, a_quoted, a_symbol, comment, named_macro, macro_use, word, front, lex}};
 
 use crate::counting::count;
-use crate::fault::{Mistake, Stop, refusal};
+use crate::fault::{Mistake, TokenStop, refusal};
 use crate::items::{Items, PlacedText};
 use crate::place::Placed;
 use crate::texts::{bytes_of, same_bytes};
@@ -105,7 +105,7 @@ fn is_text(byte: u8) -> bool
 
 /// How many bytes stand between a quote and the next one like it on its line.
 #[tactic(auto, using(crate::proofs::Steps::drop_item, std::proofs::lemmas::List::drop_all), unfolding(crate::specs::Lexing::quoted))]
-fn quoted(quote: Placed, bytes: &[Placed]) -> Result<usize, Stop>
+fn quoted(quote: Placed, bytes: &[Placed]) -> Result<usize, TokenStop>
     ensures count { Gives result (quoted quote bytes.now) }
     ensures bound { IfOk result (λ n. n < length bytes.now) }
 {
@@ -134,7 +134,7 @@ fn is_quote(byte: u8) -> bool
 
 /// What is wrong with a word: the first byte that can't stand within one.
 #[tactic(auto, using(crate::proofs::Steps::drop_item, std::proofs::lemmas::List::drop_all), unfolding(crate::specs::Lexing::word_checked))]
-fn check_word(word: &[Placed]) -> Result<(), Stop>
+fn check_word(word: &[Placed]) -> Result<(), TokenStop>
     ensures { Gives result (word_checked word.now) }
 {
     for placed in word {
@@ -152,7 +152,7 @@ fn check_word(word: &[Placed]) -> Result<(), Stop>
 }
 
 /// How many bytes directly behind a macro's name belong to its use: those of a modifier. No other byte of a word can stand there.
-fn modifier(alloc: Global, bytes: &[Placed]) -> Result<usize, Stop>
+fn modifier(alloc: Global, bytes: &[Placed]) -> Result<usize, TokenStop>
     ensures count { Gives result (modifier_more (run_of Run.Word bytes.now)) }
     ensures bound { IfOk result (λ n. n ≤ length bytes.now) }
 {
@@ -186,10 +186,10 @@ fn is_pair(first: u8, second: u8) -> bool
 }
 
 /// Whether this byte is one symbol with the next one.
-fn pairs(first: Placed, behind: &[Placed]) -> bool
-    ensures { result ≡ pairs first behind.now }
+fn pairs(first: Placed, following: &[Placed]) -> bool
+    ensures { result ≡ pairs first following.now }
 {
-    match behind {
+    match following {
         [second, ..] => is_pair(first.byte, second.byte),
         [] => false,
     }
@@ -211,12 +211,12 @@ fn is_printable(byte: u8) -> bool
 }
 
 /// How many bytes behind this one belong to its symbol.
-fn symbol(first: Placed, behind: &[Placed]) -> Result<usize, Stop>
-    ensures count { Gives result (symbol_more first behind.now) }
-    ensures bound { IfOk result (λ n. n ≤ length behind.now) }
+fn symbol(first: Placed, following: &[Placed]) -> Result<usize, TokenStop>
+    ensures count { Gives result (symbol_more first following.now) }
+    ensures bound { IfOk result (λ n. n ≤ length following.now) }
 {
     let (byte, place) = (first.byte, first.place);
-    if pairs(first, behind) {
+    if pairs(first, following) {
         return Ok(1);
     }
     if is_symbol_byte(byte) {
@@ -232,7 +232,12 @@ fn symbol(first: Placed, behind: &[Placed]) -> Result<usize, Stop>
 }
 
 /// A token of these bytes.
-fn token(alloc: Global, kind: Kind, first: Placed, text: &[Placed]) -> Result<Option<Token>, Stop>
+fn token(
+    alloc: Global,
+    kind: Kind,
+    first: Placed,
+    text: &[Placed],
+) -> Result<Option<Token>, TokenStop>
     ensures { Gives result (Ok (Some (record { kind = kind; place = first.place; text = text.now }))) }
 {
     let place = first.place;
@@ -241,16 +246,16 @@ fn token(alloc: Global, kind: Kind, first: Placed, text: &[Placed]) -> Result<Op
 }
 
 /// The use of a macro, or what is wrong with it, by the bytes behind its `$`.
-fn named_macro(alloc: Global, first: Placed, behind: &[Placed]) -> Result<Front, Stop>
-    ensures named { Gives result (named_macro first (run_of Run.Letters behind.now) behind.now) }
-    ensures bound { IfOk result (λ f. f.more ≤ length behind.now) }
+fn named_macro(alloc: Global, first: Placed, following: &[Placed]) -> Result<Front, TokenStop>
+    ensures named { Gives result (named_macro first (run_of Run.Letters following.now) following.now) }
+    ensures bound { IfOk result (λ f. f.more ≤ length following.now) }
 {
-    let name = name_in(behind).len();
+    let name = name_in(following).len();
     if name == 0 {
         return Err(refusal(first.place, Mistake::NoMacroName));
     }
-    let more = name + modifier(alloc, &behind[name..])?;
-    let token = token(alloc, Kind::Macro, first, &behind[..more])?;
+    let more = name + modifier(alloc, &following[name..])?;
+    let token = token(alloc, Kind::Macro, first, &following[..more])?;
     Ok(Front { token, more })
 }
 
@@ -259,36 +264,36 @@ fn front_macro(
     alloc: Global,
     source: Source,
     first: Placed,
-    behind: &[Placed],
-) -> Result<Front, Stop>
-    ensures macro_use { Gives result (macro_use source first behind.now) }
-    ensures bound { IfOk result (λ f. f.more ≤ length behind.now) }
+    following: &[Placed],
+) -> Result<Front, TokenStop>
+    ensures macro_use { Gives result (macro_use source first following.now) }
+    ensures bound { IfOk result (λ f. f.more ≤ length following.now) }
 {
     match source {
-        Source::File => named_macro(alloc, first, behind),
+        Source::File => named_macro(alloc, first, following),
         Source::Value => Err(refusal(first.place, Mistake::MacroInValue)),
     }
 }
 
 /// The text of a word, or of a symbol: this byte, and some behind it.
 #[tactic(auto, using(crate::proofs::Steps::take_item))]
-fn text_from(alloc: Global, first: Placed, behind: &[Placed]) -> Result<PlacedText, AllocError>
-    ensures { IfOk result (λ t. t ≡ first ∷ behind.now) }
+fn text_from(alloc: Global, first: Placed, following: &[Placed]) -> Result<PlacedText, AllocError>
+    ensures { IfOk result (λ t. t ≡ first ∷ following.now) }
 {
     let mut text = Items::new(alloc);
     text.push(first)?;
-    for placed in behind {
+    for placed in following {
         text.push(*placed)?;
     }
     Ok(text)
 }
 
 /// A word at the front, by its first byte and those behind it.
-fn front_word(alloc: Global, first: Placed, behind: &[Placed]) -> Result<Front, Stop>
-    ensures word { Gives result (word first behind.now) }
-    ensures bound { IfOk result (λ f. f.more ≤ length behind.now) }
+fn front_word(alloc: Global, first: Placed, following: &[Placed]) -> Result<Front, TokenStop>
+    ensures word { Gives result (word first following.now) }
+    ensures bound { IfOk result (λ f. f.more ≤ length following.now) }
 {
-    let run = run_of(Run::Word, behind);
+    let run = run_of(Run::Word, following);
     let more = run.len();
     let text = text_from(alloc, first, run)?;
     check_word(text.as_slice())?;
@@ -301,12 +306,12 @@ fn front_word(alloc: Global, first: Placed, behind: &[Placed]) -> Result<Front, 
 }
 
 /// A symbol at the front.
-fn front_symbol(alloc: Global, first: Placed, behind: &[Placed]) -> Result<Front, Stop>
-    ensures symbol { Gives result (a_symbol first behind.now) }
-    ensures bound { IfOk result (λ f. f.more ≤ length behind.now) }
+fn front_symbol(alloc: Global, first: Placed, following: &[Placed]) -> Result<Front, TokenStop>
+    ensures symbol { Gives result (a_symbol first following.now) }
+    ensures bound { IfOk result (λ f. f.more ≤ length following.now) }
 {
-    let more = symbol(first, behind)?;
-    let text = text_from(alloc, first, &behind[..more])?;
+    let more = symbol(first, following)?;
+    let text = text_from(alloc, first, &following[..more])?;
     let kind = Kind::Symbol;
     let place = first.place;
     Ok(Front {
@@ -316,25 +321,25 @@ fn front_symbol(alloc: Global, first: Placed, behind: &[Placed]) -> Result<Front
 }
 
 /// A quoted text at the front.
-fn front_quoted(alloc: Global, first: Placed, behind: &[Placed]) -> Result<Front, Stop>
-    ensures quoted { Gives result (a_quoted first behind.now) }
-    ensures bound { IfOk result (λ f. f.more ≤ length behind.now) }
+fn front_quoted(alloc: Global, first: Placed, following: &[Placed]) -> Result<Front, TokenStop>
+    ensures quoted { Gives result (a_quoted first following.now) }
+    ensures bound { IfOk result (λ f. f.more ≤ length following.now) }
 {
-    let count = quoted(first, behind)?;
-    let token = token(alloc, Kind::Quoted, first, &behind[..count])?;
+    let count = quoted(first, following)?;
+    let token = token(alloc, Kind::Quoted, first, &following[..count])?;
     let more = count + 1;
     Ok(Front { token, more })
 }
 
 /// A comment at the front.
-fn front_comment(source: Source, first: Placed, behind: &[Placed]) -> Result<Front, Stop>
-    ensures comment { Gives result (comment source first behind.now) }
-    ensures bound { IfOk result (λ f. f.more ≤ length behind.now) }
+fn front_comment(source: Source, first: Placed, following: &[Placed]) -> Result<Front, TokenStop>
+    ensures comment { Gives result (comment source first following.now) }
+    ensures bound { IfOk result (λ f. f.more ≤ length following.now) }
 {
     match source {
         Source::File => Ok(Front {
             token: None,
-            more: run_of(Run::Line, behind).len(),
+            more: run_of(Run::Line, following).len(),
         }),
         Source::Value => Err(refusal(first.place, Mistake::CommentInValue)),
     }
@@ -346,10 +351,10 @@ fn take_front(
     alloc: Global,
     source: Source,
     first: Placed,
-    behind: &[Placed],
-) -> Result<Front, Stop>
-    ensures front { Gives result (front source first behind.now) }
-    ensures bound { IfOk result (λ f. f.more ≤ length behind.now) }
+    following: &[Placed],
+) -> Result<Front, TokenStop>
+    ensures front { Gives result (front source first following.now) }
+    ensures bound { IfOk result (λ f. f.more ≤ length following.now) }
 {
     match first.byte {
         b' ' | b'\t' => Ok(Front {
@@ -360,11 +365,11 @@ fn take_front(
             let token = token(alloc, Kind::Newline, first, &[])?;
             Ok(Front { token, more: 0 })
         }
-        b'#' => front_comment(source, first, behind),
-        b'"' | b'\'' => front_quoted(alloc, first, behind),
-        b'$' => front_macro(alloc, source, first, behind),
-        byte if is_letter(byte) || byte == b':' => front_word(alloc, first, behind),
-        _ => front_symbol(alloc, first, behind),
+        b'#' => front_comment(source, first, following),
+        b'"' | b'\'' => front_quoted(alloc, first, following),
+        b'$' => front_macro(alloc, source, first, following),
+        byte if is_letter(byte) || byte == b':' => front_word(alloc, first, following),
+        _ => front_symbol(alloc, first, following),
     }
 }
 
@@ -373,7 +378,7 @@ fn put_some(
     words_read: &mut usize,
     tokens: &mut Items<Token>,
     token: Option<Token>,
-) -> Result<(), Stop>
+) -> Result<(), TokenStop>
     ensures counted { Leaves result words_read.new (counted_some words_read.old token) }
     ensures put { OnOk result (tokens.new ≡ tokens.old ++ option_to_list token) }
 {
@@ -390,7 +395,7 @@ pub fn lex(
     source: Source,
     words_read: &mut usize,
     text: &PlacedText,
-) -> Result<Items<Token>, Stop>
+) -> Result<Items<Token>, TokenStop>
     ensures tokens { Gives result (lex source words_read.old 0 text.now) }
     ensures counted { IfOk result (λ ts. words_read.new ≡ words_read.old + words_in ts) }
 {

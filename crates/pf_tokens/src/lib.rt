@@ -5,7 +5,7 @@
 //! where), `placing` (continued lines), `reserved` and `token`, `counting` (how many words are read), `lexing`, `files` (those that are
 //! given), and `flat`.
 //!
-//! The crate opens no file: a text that names a file which isn't given is answered by [`Stop::Needs`], and whoever reads files asks again.
+//! The crate opens no file: a text that names a file which isn't given is answered by [`TokenStop::Needs`], and whoever reads files asks again.
 //! It knows no rule, table or anchor; all that a word may mean is left to the crates above, but for the words that are reserved.
 //!
 //! Read `specs/Placed.antt` first, then `specs/Lexing.antt` and `specs/Flat.antt`: three total functions over plain lists. `specs/Laws.antt`
@@ -25,7 +25,7 @@ mod reserved;
 mod texts;
 mod token;
 
-pub use fault::{Fault, Mistake, Stop};
+pub use fault::{Fault, Mistake, TokenStop};
 pub use files::{Contents, FILE_LIMIT, File, Files, READING_LIMIT, text_of_file};
 pub use flat::{Flat, INCLUDE_LIMIT, Macro, Macros};
 pub use items::{Bytes, Items, PlacedText};

@@ -1,16 +1,16 @@
 //! Bytes with their places, without continued lines.
 ghost use Rattle.std.specs.Prelude.{◌≡◌, ◌+◌, ◌<◌, ◌^◌, ◌++◌, length, IfOk, OnOk};
-ghost use Rattle.pf_tokens.specs.{Places.behind, Placed.{pair_at, behind_pair, placed}};
+ghost use Rattle.pf_tokens.specs.{Places.place_after, Placed.{pair_at, place_after_pair, placed}};
 
 use crate::items::{Items, PlacedText};
 use crate::place::{Place, Placed};
 use std::alloc::{AllocError, Global};
 
 /// The place behind this byte.
-pub(crate) fn behind(byte: u8, place: Place) -> Place
+pub(crate) fn place_after(byte: u8, place: Place) -> Place
     requires line { place.line + 1 < 2 ^ 32 }
     requires column { place.column + 1 < 2 ^ 32 }
-    ensures { result ≡ behind byte place }
+    ensures { result ≡ place_after byte place }
 {
     if byte == b'\n' {
         place.next_line()
@@ -24,7 +24,7 @@ fn push_pair(out: &mut PlacedText, place: Place, next: u8) -> Result<Place, Allo
     requires line { place.line + 1 < 2 ^ 32 }
     requires column { place.column + 2 < 2 ^ 32 }
     ensures out { OnOk result (out.new ≡ out.old ++ pair_at place next) }
-    ensures place { IfOk result (λ p. p ≡ behind_pair place next) }
+    ensures place { IfOk result (λ p. p ≡ place_after_pair place next) }
 {
     if next == b'\n' {
         return Ok(place.next_line());
@@ -54,7 +54,7 @@ pub fn placed(alloc: Global, start: Place, text: &[u8]) -> Result<PlacedText, Al
             at += 2;
         } else {
             out.push(Placed { byte, place })?;
-            place = behind(byte, place);
+            place = place_after(byte, place);
             at += 1;
         }
     }

@@ -29,9 +29,9 @@ pub shared_bits : (w a b : ℕ) → a < 2 ^ w → b < 2 ^ w → (n : ℕ) → n 
 shared_bits w a b lt_a lt_b n is =
     let (m, sum, below, top) = leading_length w (bit_xor a b) (xor_lt w a b lt_a lt_b) in
     let whole : n + m ≡ w = ap (λ (i : ℕ). i + m) is ∙ sum in
-    let behind : w - n ≡ m = omega (arith, whole) in (
+    let beyond : w - n ≡ m = omega (arith, whole) in (
       omega (arith, whole),
-      same_of_xor _ _ (sym (xor_shr a b (w - n)) ∙ ap (λ (i : ℕ). bit_xor a b / 2 ^ i) behind ∙ gone (bit_xor a b) m below),
+      same_of_xor _ _ (sym (xor_shr a b (w - n)) ∙ ap (λ (i : ℕ). bit_xor a b / 2 ^ i) beyond ∙ gone (bit_xor a b) m below),
       λ i le same. no_more i le (none_above (bit_xor a b) (w - i) (xor_shr a b (w - i) ∙ xor_of_same _ _ same)) m whole top,
     )
   where

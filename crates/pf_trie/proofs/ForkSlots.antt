@@ -150,24 +150,23 @@ module _ {X : Type 0} (holds : AllSigns → ℕ → ℕ → X → Type 0)
           let first = first_in_front p.address p.free at (omega (arith, less)) in
           omega (arith, first, same, own_slot)
 
-    pub slot_put : (between new : Signs × X) → IsSlot holds (with_sign s p sign) at (p.address / 2 ^ at) new
-        → IsFork holds (with_sign s p sign) at (p.address / 2 ^ at / 16) (set (set slots place between) place new)
-    slot_put between new own = record { each = λ g slot less. by g slot less (g == place) refl } where
-      long : place < length (set slots place between)
-      long = omega (arith, place_within, count, length-set slots place between)
+    pub slot_put : (new : Signs × X) → IsSlot holds (with_sign s p sign) at (p.address / 2 ^ at) new
+        → IsFork holds (with_sign s p sign) at (p.address / 2 ^ at / 16) (set slots place new)
+    slot_put new own = record { each = λ g slot less. by g slot less (g == place) refl } where
+      long : place < length slots
+      long = omega (arith, place_within, count)
 
       by : (g : ℕ) (slot : Signs × X) → g < 16 → (t : Bool) → (g == place) ≡ t
-          → IsSlot holds (with_sign s p sign) at (p.address / 2 ^ at / 16 * 16 + g) (get_or (set (set slots place between) place new) g slot)
+          → IsSlot holds (with_sign s p sign) at (p.address / 2 ^ at / 16 * 16 + g) (get_or (set slots place new) g slot)
       by g slot less true t =
           let same : place ≡ g = let e : g ≡ place = grind (arith, nat_tests) in sym e in
-          subst (λ (j : ℕ). IsSlot holds (with_sign s p sign) at (p.address / 2 ^ at / 16 * 16 + j) (get_or (set (set slots place between) place new) j slot)) same
-          (subst (λ (n : ℕ). IsSlot holds (with_sign s p sign) at n (get_or (set (set slots place between) place new) place slot)) (sym own_slot)
-          (subst (λ (x : Signs × X). IsSlot holds (with_sign s p sign) at (p.address / 2 ^ at) x) (sym (get_or-set_same (set slots place between) place new slot long)) own))
+          subst (λ (j : ℕ). IsSlot holds (with_sign s p sign) at (p.address / 2 ^ at / 16 * 16 + j) (get_or (set slots place new) j slot)) same
+          (subst (λ (n : ℕ). IsSlot holds (with_sign s p sign) at n (get_or (set slots place new) place slot)) (sym own_slot)
+          (subst (λ (x : Signs × X). IsSlot holds (with_sign s p sign) at (p.address / 2 ^ at) x) (sym (get_or-set_same slots place new slot long)) own))
       by g slot less false t =
           let apart : g ≢ place = λ e. grind (arith, nat_tests) in
           subst (λ (x : Signs × X). IsSlot holds (with_sign s p sign) at (p.address / 2 ^ at / 16 * 16 + g) x)
-          (sym (get_or-set_other (set slots place between) place g new slot apart ∙ get_or-set_other slots place g between slot apart))
-          (other_slot g apart (get_or slots g slot) (is.each g slot less))
+          (sym (get_or-set_other slots place g new slot apart)) (other_slot g apart (get_or slots g slot) (is.each g slot less))
 
 -- ---- a sign replaced in the slots of a fork, from the first on
 
@@ -186,31 +185,30 @@ module _ {X : Type 0} (holds : AllSigns → ℕ → ℕ → X → Type 0) (p : P
     rest = λ s is g slot _ less. is.each g slot less;
   }
 
-  pub one_slot_marked : (old new : List (Signs × X)) (i : ℕ) (between x : Signs × X) → MarkedSlots holds p sign at front old new i → i < 16
+  pub one_slot_marked : (old new : List (Signs × X)) (i : ℕ) (x : Signs × X) → MarkedSlots holds p sign at front old new i → i < 16
       → ((s : AllSigns) → p.free < at + 4 → IsFork holds s at front old → IsSlot holds (with_sign s p sign) at (front * 16 + i) x)
-      → MarkedSlots holds p sign at front old (set (set new i between) i x) (i + 1)
-  one_slot_marked old new i between x is lt own = record {
-    count = length-set (set new i between) i x ∙ length-set new i between ∙ is.count;
+      → MarkedSlots holds p sign at front old (set new i x) (i + 1)
+  one_slot_marked old new i x is lt own = record {
+    count = length-set new i x ∙ is.count;
     done = λ s less f g slot near within. by s less f g slot near within (g == i) refl;
     rest = λ s f g slot past within.
         let apart : g ≢ i = omega (arith, past) in
-        subst (λ (y : Signs × X). IsSlot holds s at (front * 16 + g) y) (sym (get_or-set_other (set new i between) i g x slot apart ∙ get_or-set_other new i g between slot apart))
+        subst (λ (y : Signs × X). IsSlot holds s at (front * 16 + g) y) (sym (get_or-set_other new i g x slot apart))
         (is.rest s f g slot (omega (arith, past)) within);
   } where
-    long : i < length (set new i between)
-    long = let c = is.count in omega (arith, lt, c, length-set new i between)
+    long : i < length new
+    long = let c = is.count in omega (arith, lt, c)
 
     by : (s : AllSigns) → p.free < at + 4 → IsFork holds s at front old → (g : ℕ) (slot : Signs × X) → g < i + 1 → g < 16 → (t : Bool) → (g == i) ≡ t
-        → IsSlot holds (with_sign s p sign) at (front * 16 + g) (get_or (set (set new i between) i x) g slot)
+        → IsSlot holds (with_sign s p sign) at (front * 16 + g) (get_or (set new i x) g slot)
     by s less f g slot near within true t =
         let same : i ≡ g = let e : g ≡ i = grind (arith, nat_tests) in sym e in
-        subst (λ (j : ℕ). IsSlot holds (with_sign s p sign) at (front * 16 + j) (get_or (set (set new i between) i x) j slot)) same
-        (subst (λ (y : Signs × X). IsSlot holds (with_sign s p sign) at (front * 16 + i) y) (sym (get_or-set_same (set new i between) i x slot long)) (own s less f))
+        subst (λ (j : ℕ). IsSlot holds (with_sign s p sign) at (front * 16 + j) (get_or (set new i x) j slot)) same
+        (subst (λ (y : Signs × X). IsSlot holds (with_sign s p sign) at (front * 16 + i) y) (sym (get_or-set_same new i x slot long)) (own s less f))
     by s less f g slot near within false t =
         let apart : g ≢ i = λ e. grind (arith, nat_tests) in
         subst (λ (y : Signs × X). IsSlot holds (with_sign s p sign) at (front * 16 + g) y)
-        (sym (get_or-set_other (set new i between) i g x slot apart ∙ get_or-set_other new i g between slot apart))
-        (is.done s less f g slot (omega (arith, near, apart)) within)
+        (sym (get_or-set_other new i g x slot apart)) (is.done s less f g slot (omega (arith, near, apart)) within)
 
   pub all_slots_marked : (old new : List (Signs × X)) (i : ℕ) → MarkedSlots holds p sign at front old new i → 16 ≤ i → (s : AllSigns) → p.free < at + 4
       → IsFork holds s at front old → IsFork holds (with_sign s p sign) at front new

@@ -39,8 +39,8 @@ module _ {X : Type 0} (f : X → ℕ) (xs : List X) (i : ℕ) (y : X) (le : i �
         omega (arith, up, above k d high, above m d (omega (arith, high, less)))
 
   -- in order the new one stands behind those whose keys are lower than one that its own isn't lower than
-  pub behind_lower : (c n : ℕ) → AllPairs (λ x z. f x ≤ f z) (insert xs i y) → n ≤ length xs → AllWithin (λ x. f x < c) xs 0 n → c ≤ f y → n ≤ i
-  behind_lower c n sorted inside lower high = by (nat_lt i n) refl where
+  pub after_lower : (c n : ℕ) → AllPairs (λ x z. f x ≤ f z) (insert xs i y) → n ≤ length xs → AllWithin (λ x. f x < c) xs 0 n → c ≤ f y → n ≤ i
+  after_lower c n sorted inside lower high = by (nat_lt i n) refl where
     by : (t : Bool) → nat_lt i n ≡ t → n ≤ i
     by false far = grind (arith, nat_tests)
     by true near =
@@ -101,7 +101,7 @@ module _ (shift place digit entry : ℕ) (rows : List Row) (y : Row) (le : place
     within = let w = is.within in omega (arith, w, long);
     up_to = λ sorted.
         let old = is.up_to (sorted_without (λ r. digit_at shift r.first) rows place y le sorted) in
-        let near = behind_lower (λ r. digit_at shift r.first) rows place y le digit is.count sorted is.within old.lower low in
+        let near = after_lower (λ r. digit_at shift r.first) rows place y le digit is.count sorted is.within old.lower low in
         record {
           within = let w = is.within in omega (arith, w, long);
           lower = lower_kept (λ r. digit_at shift r.first) rows place y le digit is.count near old.lower;
@@ -127,14 +127,14 @@ module _ (shift place digit entry : ℕ) (rows : List Row) (y : Row) (le : place
   }
 
 -- one more in each entry behind a digit, as far as another
-pub record AddedBehind (before now : List ℕ) (digit next : ℕ) : Type 0 where
+pub record AddedAfter (before now : List ℕ) (digit next : ℕ) : Type 0 where
   pub count : length now ≡ length before
   pub low : (k : ℕ) → k ≤ digit → get_or now k 0 ≡ get_or before k 0
   pub done : (k : ℕ) → digit < k → k < next → k < length before → get_or now k 0 ≡ min (get_or before k 0 + 1) 255
   pub rest : (k : ℕ) → next ≤ k → get_or now k 0 ≡ get_or before k 0
 
-pub one_added : (before now : List ℕ) (digit next : ℕ) → AddedBehind before now digit next → digit < next
-    → AddedBehind before (set now next (min (get_or now next 0 + 1) 255)) digit (next + 1)
+pub one_added : (before now : List ℕ) (digit next : ℕ) → AddedAfter before now digit next → digit < next
+    → AddedAfter before (set now next (min (get_or now next 0 + 1) 255)) digit (next + 1)
 one_added before now digit next is up = record {
   count = length-set now next (min (get_or now next 0 + 1) 255) ∙ is.count;
   low = λ k le. let other : k ≢ next = omega (arith, le, up) in get_or-set_other now next k (min (get_or now next 0 + 1) 255) 0 other ∙ is.low k le;
@@ -152,7 +152,7 @@ one_added before now digit next is up = record {
       let other : k ≢ next = λ e. grind (arith, nat_tests) in
       get_or-set_other now next k (min (get_or now next 0 + 1) 255) 0 other ∙ is.done k high (omega (arith, near, other)) inside
 
-pub none_added : (before : List ℕ) (digit : ℕ) → AddedBehind before before digit (digit + 1)
+pub none_added : (before : List ℕ) (digit : ℕ) → AddedAfter before before digit (digit + 1)
 none_added before digit = record {
   count = refl;
   low = λ k le. refl;
@@ -160,7 +160,7 @@ none_added before digit = record {
   rest = λ k le. refl;
 }
 
-pub index_with_one_more : (before after : List ℕ) (digit next : ℕ) → AddedBehind before after digit next → 32 ≤ next → (shift place : ℕ) (rows : List Row) (row : Row)
+pub index_with_one_more : (before after : List ℕ) (digit next : ℕ) → AddedAfter before after digit next → 32 ≤ next → (shift place : ℕ) (rows : List Row) (row : Row)
     → place ≤ length rows → digit ≡ digit_at shift row.first → IsIndex shift before rows → IsIndex shift after (insert rows place row)
 index_with_one_more before after digit next added all shift place rows row le own index = record {
   entries = added.count ∙ index.entries;

@@ -154,13 +154,13 @@ module _ (shift a : ℕ) (rows : List Row) (order : IsInOrder rows) (begin : Beg
       omega (arith, less)
 
   -- those from a higher digit on are behind it
-  behind_digit : (n digit : ℕ) → IsUpToDigit shift digit rows n → digit_at shift a < digit → AllWithin (λ r. a < r.first) rows n (length rows)
-  behind_digit n digit up lt k d le inside =
+  after_digit : (n digit : ℕ) → IsUpToDigit shift digit rows n → digit_at shift a < digit → AllWithin (λ r. a < r.first) rows n (length rows)
+  after_digit n digit up lt k d le inside =
       let first : n < length rows = omega (arith, le, inside) in
       let more : digit_at shift a < digit_at shift (get_or rows n d).first = let next = up.next d first in omega (arith, next, lt) in
-      let behind = lower_first shift a (get_or rows n d).first (sym (begin.alike order n d first)) more in
+      let beyond = lower_first shift a (get_or rows n d).first (sym (begin.alike order n d first)) more in
       let later = no_later rows n k d order le inside in
-      omega (arith, behind, later)
+      omega (arith, beyond, later)
 
   -- fewer are up to a digit than up to a higher one
   digits_grow : (n m digit higher : ℕ) → IsUpToDigit shift digit rows n → IsUpToDigit shift higher rows m → digit < higher → n ≤ m
@@ -191,8 +191,8 @@ module _ (shift a : ℕ) (rows : List Row) (order : IsInOrder rows) (begin : Beg
         ordered = omega (arith, most, grow, exact);
         within = let w = next.within in omega (arith, w, exact);
         before = λ o. before_digit own.count low (own.up_to sorted) most;
-        behind = λ o. subst (λ (n : ℕ). AllWithin (λ r. a < r.first) rows n (length rows)) (sym exact)
-            (behind_digit next.count (digit_at shift a + 1) (next.up_to sorted) (omega arith));
+        beyond = λ o. subst (λ (n : ℕ). AllWithin (λ r. a < r.first) rows n (length rows)) (sym exact)
+            (after_digit next.count (digit_at shift a + 1) (next.up_to sorted) (omega arith));
       }
 
   pub to_end : (before : List ℕ) (low high : ℕ) → IsIndex shift before rows → digit_at shift a < 32 → low ≡ get_or before (digit_at shift a) 0
@@ -205,7 +205,7 @@ module _ (shift a : ℕ) (rows : List Row) (order : IsInOrder rows) (begin : Beg
         ordered = let w = own.within in omega (arith, w, most, whole);
         within = omega (arith, whole);
         before = λ o. before_digit own.count low (own.up_to sorted) most;
-        behind = λ o k d le lt. absurd (omega (arith, le, lt, whole));
+        beyond = λ o k d le lt. absurd (omega (arith, le, lt, whole));
       }
 
 -- an entry is no more than there are rows

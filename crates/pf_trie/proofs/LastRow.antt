@@ -12,7 +12,7 @@ all_up_to rows a n whole last = record {
       let low = no_later rows k (n - 1) d o (omega (arith, lt)) (omega (arith, lt, whole)) in
       let high = last d (omega (arith, lt)) in
       omega (arith, low, high);
-  behind = λ o k d le lt. absurd (omega (arith, le, lt, whole));
+  beyond = λ o k d le lt. absurd (omega (arith, le, lt, whole));
 }
 
 -- a prefix that begins at the last row contains no row before it

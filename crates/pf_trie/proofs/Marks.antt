@@ -30,9 +30,9 @@ one_further p sign old new from i e x is up lt at low marks = record {
 -- where all others are past the last address, all that the prefix contains are marked
 whole : (p : Prefix) (sign : Option Bool) (old new : List Row) (u from i : ℕ) → MarkedTo p sign old new from i → from ≡ u - 1 → i ≤ length old
     → AllWithin (λ r. first_of p + (2 ^ p.free - 1) < r.first) old i (length old) → IsUpTo old (first_of p) u → IsInOrder old → MarksEach p sign old new
-whole p sign old new u from i is start inside behind low order =
+whole p sign old new u from i is start inside beyond low order =
     all_marked p sign old new u from i i is.marked start (omega arith) low
-    (record { within = inside; before = λ o k d _ lt. by k d lt (nat_lt k from) refl; behind = λ o. behind }) order where
+    (record { within = inside; before = λ o k d _ lt. by k d lt (nat_lt k from) refl; beyond = λ o. beyond }) order where
       by : (k : ℕ) (d : Row) → k < i → (t : Bool) → nat_lt k from ≡ t → (get_or old k d).first ≤ first_of p + (2 ^ p.free - 1)
       by k d lt true near =
           let below : k < from = grind (arith, nat_tests) in

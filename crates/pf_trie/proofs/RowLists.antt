@@ -25,7 +25,7 @@ whole_between rows a = record {
   ordered = omega arith;
   within = omega arith;
   before = λ o k d l h. absurd (omega (arith, h));
-  behind = λ o k d l h. absurd (omega (arith, l, h));
+  beyond = λ o k d l h. absurd (omega (arith, l, h));
 }
 
 -- rows up to one in order are no later than it
@@ -46,7 +46,7 @@ after_middle rows a low high middle e is le lt small = record {
       let first : (get_or rows middle d).first ≡ (get_or rows middle e).first = ap (λ (x : Row). x.first) (get_or_default rows middle d e inside) in
       let before = no_later rows k middle d o near inside in
       omega (arith, before, first, small);
-  behind = is.behind;
+  beyond = is.beyond;
 }
 
 pub before_middle : (rows : List Row) (a low high middle : ℕ) (e : Row) → IsBetween rows a low high → low ≤ middle → middle < high
@@ -55,18 +55,18 @@ before_middle rows a low high middle e is le lt large = record {
   ordered = le;
   within = let w = is.within in omega (arith, w, lt);
   before = is.before;
-  behind = λ o k d l h.
+  beyond = λ o k d l h.
       let inside : middle < length rows = let w = is.within in omega (arith, w, lt) in
       let first : (get_or rows middle d).first ≡ (get_or rows middle e).first = ap (λ (x : Row). x.first) (get_or_default rows middle d e inside) in
-      let behind = no_later rows middle k d o l h in
-      omega (arith, behind, first, large);
+      let beyond = no_later rows middle k d o l h in
+      omega (arith, beyond, first, large);
 }
 
 pub between_ends : (rows : List Row) (a low high : ℕ) → IsBetween rows a low high → high ≤ low → IsUpTo rows a low
 between_ends rows a low high is le = record {
   within = let w = is.within in let o = is.ordered in omega (arith, w, o);
   before = is.before;
-  behind = λ o. subst (λ (n : ℕ). AllWithin (λ r. a < r.first) rows n (length rows)) same (is.behind o);
+  beyond = λ o. subst (λ (n : ℕ). AllWithin (λ r. a < r.first) rows n (length rows)) same (is.beyond o);
 } where
   same : high ≡ low
   same = let o = is.ordered in omega (arith, o, le)
@@ -94,7 +94,7 @@ none_before s top front a rows signs are in_front up none = record {
 } where
   clash : (k : ℕ) → Any (IsAt (cut_off k a)) rows → ⊥
   clash k (j, r, lt, at, here) =
-      let past : a < (get_or rows j r).first = up.behind are.order j r (omega arith) lt in
+      let past : a < (get_or rows j r).first = up.beyond are.order j r (omega arith) lt in
       let low : cut_off k a ≤ a = div-mul-le_self a (2 ^ k) in
       let first : (get_or rows j r).first ≡ cut_off k a = ap (λ (x : Row). x.first) at ∙ here in
       omega (arith, past, low, first)
@@ -120,7 +120,7 @@ module _ (s : AllSigns) (top front a : ℕ) (rows : List Row) (place d : ℕ) (r
     by : (b : Bool) → nat_lt j place ≡ b → cut_off k a ≤ r.first
     by false far =
         let le : place ≤ j = grind (arith, nat_tests) in
-        let past : a < (get_or rows j t).first = up.behind are.order j t le lt in
+        let past : a < (get_or rows j t).first = up.beyond are.order j t le lt in
         let low : cut_off k a ≤ a = div-mul-le_self a (2 ^ k) in
         absurd (omega (arith, past, low, is_first))
     by true near_ =
@@ -178,7 +178,7 @@ module _ {X : Type 0} (R : X → X → Type 0) (xs : List X) (i : ℕ) (y : X) (
       ap (λ (k : ℕ). get_or (insert xs i y) k d) back ∙ get_or-insert_above xs i y d (m - 1) (omega (arith, lt)) le
 
   pub pairs_inserted : AllPairs R xs → AllWithin (λ x. R x y) xs 0 i → AllWithin (R y) xs i (length xs) → AllPairs R (insert xs i y)
-  pairs_inserted o before behind j m d lt end = by (nat_lt m i) refl (nat_lt i m) refl where
+  pairs_inserted o before beyond j m d lt end = by (nat_lt m i) refl (nat_lt i m) refl where
     long : m < length xs + 1
     long = omega (arith, end, length-insert xs i y le)
 
@@ -189,7 +189,7 @@ module _ {X : Type 0} (R : X → X → Type 0) (xs : List X) (i : ℕ) (y : X) (
         subst (λ x. R x (get_or xs (m - 1) d)) (sym (above j d more)) (o (j - 1) (m - 1) d (omega (arith, more, lt)) (omega (arith, long, past)))
     at_last past false false near far = let same : i ≡ j = grind (arith, nat_tests) in
         subst (λ x. R x (get_or xs (m - 1) d)) (sym (get_or-insert_at xs i y d le) ∙ ap (λ (k : ℕ). get_or (insert xs i y) k d) same)
-        (behind (m - 1) d (omega (arith, past)) (omega (arith, long, past)))
+        (beyond (m - 1) d (omega (arith, past)) (omega (arith, long, past)))
 
     by : (t : Bool) → nat_lt m i ≡ t → (u : Bool) → nat_lt i m ≡ u → R (get_or (insert xs i y) j d) (get_or (insert xs i y) m d)
     by true near u _ = let less : m < i = grind (arith, nat_tests) in
@@ -224,7 +224,7 @@ module _ (s : AllSigns) (top front a place : ℕ) (rows : List Row) (signs : Sig
       → AreRowsWith s top front a (insert rows place (record { first = a; signs = signs }))
   row_added apart = record {
     are = record {
-      order = pairs_inserted (λ r t. r.first < t.first) rows place (record { first = a; signs = signs }) up.within are.order strictly (up.behind are.order);
+      order = pairs_inserted (λ r t. r.first < t.first) rows place (record { first = a; signs = signs }) up.within are.order strictly (up.beyond are.order);
       inside = all_inserted (λ r. r.first / 2 ^ top ≡ front) rows place (record { first = a; signs = signs }) up.within are.inside in_front;
       signs = all_inserted (λ r. HasSigns s 0 top r.first r.signs) rows place (record { first = a; signs = signs }) up.within are.signs has;
       starts = λ k n sign lt in_ is. any_inserted (IsAt (n * 2 ^ k)) rows place (record { first = a; signs = signs }) up.within (are.starts k n sign lt in_ is);
@@ -331,9 +331,9 @@ all_marked p sign old new u from to i is start end low high order = record {
       is.done k r le less
   by k r lt false far false past =
       let le : i ≤ k = grind (arith, nat_tests) in
-      let behind = high.behind order k r (omega (arith, le, end)) lt in
+      let beyond = high.beyond order k r (omega (arith, le, end)) lt in
       subst (λ (x : Row). Marks p sign (get_or old k r) x) (sym (is.rest k r le))
-      (unmarked p sign (get_or old k r) (past_last p (get_or old k r).first behind))
+      (unmarked p sign (get_or old k r) (past_last p (get_or old k r).first beyond))
 
 both_true : (b : Bool) → (b && true) ≡ b
 both_true true = refl

@@ -42,14 +42,14 @@ none_before_front at n from rows le low =
           omega (arith, less, reach)
 
 -- rows behind the first one that is past the front
-pub none_behind_front : (at n from place : ℕ) (rows : List Row) (r : Row) → place < length rows → from ≤ place → get_or rows place r ≡ r → r.first / 2 ^ at ≢ n
+pub none_after_front : (at n from place : ℕ) (rows : List Row) (r : Row) → place < length rows → from ≤ place → get_or rows place r ≡ r → r.first / 2 ^ at ≢ n
     → AllWithin (λ r. n * 2 ^ at ≤ r.first) rows from (length rows) → IsInOrder rows → filter (begins_so at n) (take place rows) ≡ filter (begins_so at n) rows
-none_behind_front at n from place rows r lt reach here other high order =
+none_after_front at n from place rows r lt reach here other high order =
     sym (none_more (begins_so at n) rows place (length rows - place) (omega (arith, lt)) (λ k d le less.
     other_front at n (get_or rows k d) (past k d le (omega (arith, less, lt)))))
     ∙ ap (λ (xs : List Row). filter (begins_so at n) xs) (take_all (place + (length rows - place)) rows (omega (arith, lt))) where
-      behind : n < r.first / 2 ^ at
-      behind =
+      beyond : n < r.first / 2 ^ at
+      beyond =
           let low : n * 2 ^ at ≤ r.first = subst (λ (x : Row). n * 2 ^ at ≤ x.first) here (high place r reach lt) in
           let up : n ≤ r.first / 2 ^ at = le-div n r.first (2 ^ at) (pow_pos at) low in
           omega (arith, up, other)
@@ -59,4 +59,4 @@ none_behind_front at n from place rows r lt reach here other high order =
           let later = no_later rows place k d order le less in
           let own : (get_or rows place d).first ≡ r.first = ap (λ (x : Row). x.first) (get_or_default rows place d r lt ∙ here) in
           let up : r.first / 2 ^ at ≤ (get_or rows k d).first / 2 ^ at = shr_mono at (omega (arith, later, own)) in
-          omega (arith, up, behind, same)
+          omega (arith, up, beyond, same)

@@ -41,14 +41,14 @@ pub record AreRowsWith (s : AllSigns) (top front a : ℕ) (rows : List Row) : Ty
 pub record IsUpTo (rows : List Row) (a n : ℕ) : Type 0 where
   pub within : n ≤ length rows
   pub before : IsInOrder rows → AllWithin (λ r. r.first ≤ a) rows 0 n
-  pub behind : IsInOrder rows → AllWithin (λ r. a < r.first) rows n (length rows)
+  pub beyond : IsInOrder rows → AllWithin (λ r. a < r.first) rows n (length rows)
 
 -- such rows end between these two places
 pub record IsBetween (rows : List Row) (a low high : ℕ) : Type 0 where
   pub ordered : low ≤ high
   pub within : high ≤ length rows
   pub before : IsInOrder rows → AllWithin (λ r. r.first ≤ a) rows 0 low
-  pub behind : IsInOrder rows → AllWithin (λ r. a < r.first) rows high (length rows)
+  pub beyond : IsInOrder rows → AllWithin (λ r. a < r.first) rows high (length rows)
 
 -- no prefix that has a sign begins at the row's address
 abbrev pub IsNoStart : Row → Type 0

@@ -1,7 +1,8 @@
 //! Branches: a page of rows, or a fork once they are too many for it.
-ghost use Rattle.std.specs.{Prelude.{ℕ, ◌/◌, ◌^◌, ◌≤◌, IfOk}, Arc.arc_value};
-ghost use Rattle.pf_trie.specs.{Prefixes.AllSigns, Rows.AreRows, Forks.{IsBranch, SameFork}};
+ghost use Rattle.std.specs.{Prelude.{ℕ, ◌+◌, ◌/◌, ◌^◌, ◌<◌, ◌≤◌, IfOk, OnOk}, Arc.arc_value};
+ghost use Rattle.pf_trie.specs.{Prefixes.{AllSigns, with_sign}, Rows.AreRows, Forks.{IsBranch, IsFork}};
 ghost use Rattle.pf_trie.specs.Agreeing.{branch_agrees};
+ghost use Rattle.pf_trie.specs.declared.slot.TheConstants.{SLOTS};
 
 use crate::fork::Fork;
 use crate::found::Found;
@@ -26,14 +27,25 @@ impl<T: Level> Drop for Branch<T> {
     }
 }
 
-// A fork of one owner: itself where nobody else holds it, or else a copy. `AllocError`: nothing is made.
-fn own_fork<T: Level>(alloc: Global, fork: Arc<Fork<T>>) -> Result<Fork<T>, AllocError>
-    ensures { IfOk result (λ own. SameFork T.holds (arc_value fork) own) }
+// Replaces the sign at a prefix in a fork: others that hold it keep it as it was, by a copy. `AllocError`: nothing says which signs it holds then.
+fn replace_in_fork<T: Level>(
+    alloc: Global,
+    fork: &mut Arc<Fork<T>>,
+    at: u8,
+    prefix: Prefix,
+    sign: Option<bool>,
+) -> Result<(), AllocError>
+    requires at { at ≤ 124 }
+    requires free { prefix.free < 128 }
+    ensures { OnOk result ((s : AllSigns) → prefix.free < at + SLOT_BITS → IsFork T.holds s at (prefix.address / 2 ^ at / SLOTS) (arc_value fork.old) → IsFork T.holds (with_sign s prefix sign) at (prefix.address / 2 ^ at / SLOTS) (arc_value fork.new)) }
 {
-    match Arc::try_unwrap(fork) {
-        Ok(alone) => Ok(alone),
-        Err(shared) => shared.copied(alloc),
+    if let Some(own) = Arc::get_mut(fork) {
+        return own.replace(alloc, at, prefix, sign);
     }
+    let mut copy = fork.copied(alloc)?;
+    copy.replace(alloc, at, prefix, sign)?;
+    *fork = Arc::new(alloc, copy)?;
+    Ok(())
 }
 
 impl<T: Level> Branch<T> {
@@ -101,28 +113,23 @@ impl<T: Level> Level for Branch<T> {
         }
     }
 
-    fn replaced(
-        self,
+    fn replace(
+        &mut self,
         alloc: Global,
         top: u8,
         prefix: Prefix,
         sign: Option<bool>,
-    ) -> Result<Branch<T>, AllocError> {
-        let Branch { page, fork } = self;
-        match fork {
-            Some(fork) => {
-                let own = own_fork(alloc, fork)?;
-                let fork = own.replaced(alloc, top.saturating_sub(SLOT_BITS), prefix, sign)?;
-                Ok(Branch {
-                    page: Page::none(),
-                    fork: Some(Arc::new(alloc, fork)?),
-                })
-            }
-            None => {
-                let page = page.edited(alloc, prefix, sign)?;
-                Branch::of_any_page(alloc, top, prefix.address, page)
-            }
+    ) -> Result<(), AllocError> {
+        if let Some(fork) = &mut self.fork {
+            return replace_in_fork(alloc, fork, top.saturating_sub(SLOT_BITS), prefix, sign);
         }
+        self.page.edit(alloc, prefix, sign)?;
+        if self.page.fits() {
+            return Ok(());
+        }
+        let page = std::mem::replace(&mut self.page, Page::none());
+        *self = Branch::of_any_page(alloc, top, prefix.address, page)?;
+        Ok(())
     }
 
     ghost agrees = { λ s t top front b. branch_agrees T.holds T.agrees s t top front b.page b.fork };

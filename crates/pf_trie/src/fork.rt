@@ -1,5 +1,5 @@
 //! Forks: signs that are divided by four bits of their addresses.
-ghost use Rattle.std.specs.Prelude.{◌≡◌, ℕ, ◌+◌, ◌*◌, ◌/◌, ◌%◌, ◌^◌, ◌<◌, ◌≤◌, length, All, IfOk};
+ghost use Rattle.std.specs.Prelude.{◌≡◌, ℕ, ◌+◌, ◌*◌, ◌/◌, ◌%◌, ◌^◌, ◌<◌, ◌≤◌, length, All, IfOk, OnOk};
 ghost use Rattle.pf_trie.specs.{Prefixes.{AllSigns, Finds, with_sign}, Rows.{AreOfOneSlot, AreRows}, Forks.{IsEmptySlot, IsFork, SameFork}};
 
 use crate::found::Found;
@@ -110,26 +110,37 @@ fn one_full_slot<T: Level>(
     Ok(slots)
 }
 
-// Slots with the sign at a prefix replaced, which leaves at least `at` bits free.
-fn marked_slots<T: Level>(
-    mut slots: Vec<Slot<T>>,
-    at: u8,
-    prefix: Prefix,
-    sign: Option<bool>,
-) -> Vec<Slot<T>>
+// Replaces in slots the sign at a prefix that leaves at least `at` bits free.
+fn mark_slots<T: Level>(slots: &mut Vec<Slot<T>>, at: u8, prefix: Prefix, sign: Option<bool>)
     requires at { at ≤ 124 }
-    requires count { length slots.items ≡ SLOTS }
+    requires count { length slots.old.items ≡ SLOTS }
     requires free { prefix.free < 128 }
     requires wide { at ≤ prefix.free }
-    ensures count { length result.items ≡ SLOTS }
-    ensures slots { (s : AllSigns) → prefix.free < at + SLOT_BITS → IsFork T.holds s at (prefix.address / 2 ^ at / SLOTS) slots.items → IsFork T.holds (with_sign s prefix sign) at (prefix.address / 2 ^ at / SLOTS) result.items }
+    ensures count { length slots.new.items ≡ SLOTS }
+    ensures slots { (s : AllSigns) → prefix.free < at + SLOT_BITS → IsFork T.holds s at (prefix.address / 2 ^ at / SLOTS) slots.old.items → IsFork T.holds (with_sign s prefix sign) at (prefix.address / 2 ^ at / SLOTS) slots.new.items }
 {
     let first = fronts_of(prefix.address, at);
     for place in 0..SLOTS {
-        let slot = std::mem::replace(&mut slots[place], Slot::none());
-        slots[place] = slot.marked(at, first + place as u128, prefix, sign);
+        slots[place].mark(at, first + place as u128, prefix, sign);
     }
-    slots
+}
+
+// Replaces in slots the sign at a prefix that leaves fewer than `at` bits free. `AllocError`: nothing says which signs they hold then.
+fn replace_in_slots<T: Level>(
+    alloc: Global,
+    slots: &mut Vec<Slot<T>>,
+    at: u8,
+    prefix: Prefix,
+    sign: Option<bool>,
+) -> Result<(), AllocError>
+    requires at { at < 128 }
+    requires count { length slots.old.items ≡ SLOTS }
+    requires free { prefix.free < at }
+    ensures count { length slots.new.items ≡ SLOTS }
+    ensures slots { OnOk result ((s : AllSigns) → IsFork T.holds s at (prefix.address / 2 ^ at / SLOTS) slots.old.items → IsFork T.holds (with_sign s prefix sign) at (prefix.address / 2 ^ at / SLOTS) slots.new.items) }
+{
+    let place = place_of(prefix.address, at);
+    slots[place].replace(alloc, at, prefix, sign)
 }
 
 impl<T: Level> Fork<T> {
@@ -171,43 +182,22 @@ impl<T: Level> Fork<T> {
         self.slots[place_of(address, at)].longest(at, address)
     }
 
-    // With the sign at a prefix replaced that leaves fewer than `at` bits free. `AllocError`: nothing is left of it.
-    fn deeper(
-        self,
+    /// Replaces the sign at a prefix. `AllocError`: nothing says which signs it holds then.
+    pub(crate) fn replace(
+        &mut self,
         alloc: Global,
         at: u8,
         prefix: Prefix,
         sign: Option<bool>,
-    ) -> Result<Fork<T>, AllocError>
-        requires at { at < 128 }
-        requires free { prefix.free < at }
-        ensures { IfOk result (λ f. (s : AllSigns) → IsFork T.holds s at (prefix.address / 2 ^ at / SLOTS) self → IsFork T.holds (with_sign s prefix sign) at (prefix.address / 2 ^ at / SLOTS) f) }
-    {
-        let Fork { mut slots } = self;
-        let place = place_of(prefix.address, at);
-        let slot = std::mem::replace(&mut slots[place], Slot::none());
-        slots[place] = slot.replaced(alloc, at, prefix, sign)?;
-        Ok(Fork { slots })
-    }
-
-    /// With the sign at a prefix replaced. `AllocError`: nothing is left of it.
-    pub(crate) fn replaced(
-        self,
-        alloc: Global,
-        at: u8,
-        prefix: Prefix,
-        sign: Option<bool>,
-    ) -> Result<Fork<T>, AllocError>
+    ) -> Result<(), AllocError>
         requires at { at ≤ 124 }
         requires free { prefix.free < 128 }
-        ensures { IfOk result (λ f. (s : AllSigns) → prefix.free < at + SLOT_BITS → IsFork T.holds s at (prefix.address / 2 ^ at / SLOTS) self → IsFork T.holds (with_sign s prefix sign) at (prefix.address / 2 ^ at / SLOTS) f) }
+        ensures { OnOk result ((s : AllSigns) → prefix.free < at + SLOT_BITS → IsFork T.holds s at (prefix.address / 2 ^ at / SLOTS) self.old → IsFork T.holds (with_sign s prefix sign) at (prefix.address / 2 ^ at / SLOTS) self.new) }
     {
         if prefix.free < at {
-            return self.deeper(alloc, at, prefix, sign);
+            return replace_in_slots(alloc, &mut self.slots, at, prefix, sign);
         }
-        let Fork { slots } = self;
-        Ok(Fork {
-            slots: marked_slots(slots, at, prefix, sign),
-        })
+        mark_slots(&mut self.slots, at, prefix, sign);
+        Ok(())
     }
 }

@@ -49,17 +49,14 @@ impl<T: Level> Level for FourLevels<T> {
         self.levels.longest(top, address)
     }
 
-    fn replaced(
-        self,
+    fn replace(
+        &mut self,
         alloc: Global,
         top: u8,
         prefix: Prefix,
         sign: Option<bool>,
-    ) -> Result<FourLevels<T>, AllocError> {
-        let FourLevels { levels } = self;
-        Ok(FourLevels {
-            levels: levels.replaced(alloc, top, prefix, sign)?,
-        })
+    ) -> Result<(), AllocError> {
+        self.levels.replace(alloc, top, prefix, sign)
     }
 
     ghost agrees = { λ s t top front l same is. ⟦<Branch<Branch<Branch<Branch<T>>>> as Level>⟧.agrees s t top front l.levels same is };

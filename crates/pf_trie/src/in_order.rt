@@ -79,7 +79,7 @@ pub(crate) fn lacking(rows: &RowList, place: usize, address: u128) -> Option<Row
 }
 
 // The row that rows lack at an address, whose place is behind them. `None`: they have one there, or one past it.
-fn lacking_behind(rows: &RowList, address: u128) -> Option<Row>
+fn lacking_after(rows: &RowList, address: u128) -> Option<Row>
     ensures address { IfSome result (λ row. row.first ≡ address) }
     ensures lacks { IfSome result (λ row. (s : AllSigns) (top front : ℕ) → AreRows s top front rows.now → address / 2 ^ top ≡ front → AreRowsWith s top front address (rows.now ++ row ∷ [])) }
 {
@@ -148,7 +148,7 @@ pub(crate) fn with_sign(
     requires { prefix.free < 128 }
     ensures { IfOk result (λ v. (s : AllSigns) (top front : ℕ) → AreRows s top front rows → prefix.free < top → prefix.address / 2 ^ top ≡ front → AreRows (with_sign s prefix (Some sign)) top front v) }
 {
-    match lacking_behind(&rows, prefix.first()) {
+    match lacking_after(&rows, prefix.first()) {
         Some(row) => rows.push(alloc, row.marked(prefix, Some(sign))),
         None => with_sign_among(alloc, rows, prefix, sign),
     }
@@ -207,7 +207,7 @@ pub(crate) fn one_slot_of(rows: &RowList, at: u8) -> Option<u128>
 fn before(rows: &RowList, address: u128) -> usize
     ensures within { result ≤ length rows.now }
     ensures before { IsInOrder rows.now → AllWithin (λ r. r.first < address) rows.now 0 result }
-    ensures behind { IsInOrder rows.now → AllWithin (λ r. address ≤ r.first) rows.now result (length rows.now) }
+    ensures beyond { IsInOrder rows.now → AllWithin (λ r. address ≤ r.first) rows.now result (length rows.now) }
 {
     if address == 0 {
         return 0;

@@ -1,5 +1,5 @@
 //! Rows with an index by a digit of their addresses.
-ghost use Rattle.std.specs.Prelude.{◌≡◌, ℕ, ◌/◌, ◌^◌, ◌<◌, ◌≤◌, List, true, length, Some, None, IfOk};
+ghost use Rattle.std.specs.Prelude.{◌≡◌, ℕ, ◌/◌, ◌^◌, ◌<◌, ◌≤◌, List, [], true, length, Some, None, IfOk};
 ghost use Rattle.std.specs.List.{AllWithin, insert};
 ghost use Rattle.pf_trie.specs.Prefixes.{AllSigns, first_of, with_sign};
 ghost use Rattle.pf_trie.specs.declared.rows.Row.{Row};
@@ -157,6 +157,13 @@ fn bounds(rows: &RowList, before: &[u8], shift: u8, address: u128) -> (usize, us
 }
 
 impl Indexed {
+    /// No rows. It takes no memory.
+    pub(crate) fn none(alloc: Global) -> Indexed
+        ensures { result ≡ [] }
+    {
+        Indexed::of(RowList::none(alloc))
+    }
+
     /// Rows with their index.
     pub(crate) fn of(rows: RowList) -> Indexed
         ensures { result ≡ rows }

@@ -1,5 +1,5 @@
 //! Levels of a trie.
-ghost use Rattle.std.specs.Prelude.{◌≡◌, ℕ, ◌*◌, ◌/◌, ◌^◌, ◌<◌, ◌≤◌, [], IfOk};
+ghost use Rattle.std.specs.Prelude.{◌≡◌, ℕ, ◌*◌, ◌/◌, ◌^◌, ◌<◌, ◌≤◌, [], IfOk, OnOk};
 ghost use Rattle.pf_trie.specs.{Prefixes.{AllSigns, Finds, Agree, with_sign}, Rows.AreRows};
 
 use crate::found::Found;
@@ -34,16 +34,16 @@ pub trait Level: Drop {
         requires { top ≤ 128 }
         ensures { (s : AllSigns) → holds s top (address / 2 ^ top) self.now → Finds s 0 top address result };
 
-    /// What it becomes with the sign at a prefix replaced, or taken out where there is no new one. What nobody else holds is changed in
-    /// place, all else is shared. `AllocError`: nothing is left of this owner's level.
-    fn replaced(
-        self,
+    /// Replaces the sign at a prefix, or takes it out where there is no new one. What nobody else holds is changed in place, all else is
+    /// shared. `AllocError`: nothing says which signs it holds then.
+    fn replace(
+        &mut self,
         alloc: Global,
         top: u8,
         prefix: Prefix,
         sign: Option<bool>,
-    ) -> Result<Self, AllocError>
+    ) -> Result<(), AllocError>
         requires free { prefix.free < 128 }
         requires top { top ≤ 128 }
-        ensures { IfOk result (λ l. (s : AllSigns) → prefix.free < top → holds s top (prefix.address / 2 ^ top) self → holds (with_sign s prefix sign) top (prefix.address / 2 ^ top) l) };
+        ensures { OnOk result ((s : AllSigns) → prefix.free < top → holds s top (prefix.address / 2 ^ top) self.old → holds (with_sign s prefix sign) top (prefix.address / 2 ^ top) self.new) };
 }

@@ -50,17 +50,14 @@ impl Level for LowerLevels {
         self.levels.longest(top, address)
     }
 
-    fn replaced(
-        self,
+    fn replace(
+        &mut self,
         alloc: Global,
         top: u8,
         prefix: Prefix,
         sign: Option<bool>,
-    ) -> Result<LowerLevels, AllocError> {
-        let LowerLevels { levels } = self;
-        Ok(LowerLevels {
-            levels: levels.replaced(alloc, top, prefix, sign)?,
-        })
+    ) -> Result<(), AllocError> {
+        self.levels.replace(alloc, top, prefix, sign)
     }
 
     ghost agrees = { λ s t top front l same is. ⟦<SixteenLevels<Page> as Level>⟧.agrees s t top front l.levels same is };

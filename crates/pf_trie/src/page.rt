@@ -1,5 +1,5 @@
 //! Pages of rows.
-ghost use Rattle.std.specs.Prelude.{◌≡◌, ℕ, ◌/◌, ◌^◌, ◌<◌, [], IfOk};
+ghost use Rattle.std.specs.Prelude.{◌≡◌, ℕ, ◌/◌, ◌^◌, ◌<◌, [], IfOk, OnOk};
 ghost use Rattle.pf_trie.specs.{Prefixes.{AllSigns, Finds, with_sign}, Rows.{AreRows, HasSigns}};
 ghost use Rattle.pf_trie.specs.Agreeing.{rows_agree};
 ghost use Rattle.std.specs.Arc.{arc_value};
@@ -41,21 +41,37 @@ fn own(alloc: Global, rows: Arc<Indexed>) -> Result<Indexed, AllocError>
     }
 }
 
-// Rows with the sign at a prefix replaced, or taken out: themselves where nobody else holds them, or else a copy. `AllocError`: nothing is
-// left of this owner's rows.
-fn edited(
+// Replaces the sign at a prefix in rows that nobody else holds, or takes it out. `AllocError`: they are gone.
+fn edit_own(
     alloc: Global,
-    rows: Arc<Indexed>,
+    rows: &mut Indexed,
     prefix: Prefix,
     sign: Option<bool>,
-) -> Result<Indexed, AllocError>
+) -> Result<(), AllocError>
     requires { prefix.free < 128 }
-    ensures { IfOk result (λ v. (s : AllSigns) (top front : ℕ) → AreRows s top front (arc_value rows) → prefix.free < top → prefix.address / 2 ^ top ≡ front → AreRows (with_sign s prefix sign) top front v) }
+    ensures { OnOk result ((s : AllSigns) (top front : ℕ) → AreRows s top front rows.old → prefix.free < top → prefix.address / 2 ^ top ≡ front → AreRows (with_sign s prefix sign) top front rows.new) }
 {
-    match Arc::try_unwrap(rows) {
-        Ok(alone) => alone.edited(alloc, prefix, sign),
-        Err(shared) => shared.copied_and_edited(alloc, prefix, sign),
+    let own = std::mem::replace(rows, Indexed::none(alloc));
+    *rows = own.edited(alloc, prefix, sign)?;
+    Ok(())
+}
+
+// The same of rows that others may hold: these keep them as they were, by a copy. `AllocError`: nothing says which rows they are then.
+fn edit_shared(
+    alloc: Global,
+    rows: &mut Arc<Indexed>,
+    prefix: Prefix,
+    sign: Option<bool>,
+) -> Result<(), AllocError>
+    requires { prefix.free < 128 }
+    ensures { OnOk result ((s : AllSigns) (top front : ℕ) → AreRows s top front (arc_value rows.old) → prefix.free < top → prefix.address / 2 ^ top ≡ front → AreRows (with_sign s prefix sign) top front (arc_value rows.new)) }
+{
+    if let Some(own) = Arc::get_mut(rows) {
+        return edit_own(alloc, own, prefix, sign);
     }
+    let copy = rows.copied_and_edited(alloc, prefix, sign)?;
+    *rows = Arc::new(alloc, copy)?;
+    Ok(())
 }
 
 impl Page {
@@ -105,24 +121,37 @@ impl Page {
         }
     }
 
-    /// With the sign at a prefix replaced, or taken out. Rows that nobody else holds are changed in place. `AllocError`: nothing is left of the
-    /// page.
-    pub(crate) fn edited(
-        self,
+    /// Replaces the sign at a prefix, or takes it out. Rows that nobody else holds are changed in place. `AllocError`: nothing says which rows
+    /// it has then.
+    pub(crate) fn edit(
+        &mut self,
         alloc: Global,
         prefix: Prefix,
         sign: Option<bool>,
-    ) -> Result<Page, AllocError>
+    ) -> Result<(), AllocError>
         requires { prefix.free < 128 }
-        ensures { IfOk result (λ p. (s : AllSigns) (top front : ℕ) → AreRows s top front self → prefix.free < top → prefix.address / 2 ^ top ≡ front → AreRows (with_sign s prefix sign) top front p) }
+        ensures { OnOk result ((s : AllSigns) (top front : ℕ) → AreRows s top front self.old → prefix.free < top → prefix.address / 2 ^ top ≡ front → AreRows (with_sign s prefix sign) top front self.new) }
     {
-        let Page { rows } = self;
-        match rows {
-            Some(rows) => Page::holding(alloc, edited(alloc, rows, prefix, sign)?),
-            None => {
-                let none = Indexed::of(RowList::none(alloc));
-                Page::holding(alloc, none.edited(alloc, prefix, sign)?)
-            }
+        if let Some(rows) = &mut self.rows {
+            edit_shared(alloc, rows, prefix, sign)?;
+            self.let_go();
+            return Ok(());
+        }
+        let none = Indexed::none(alloc);
+        *self = Page::holding(alloc, none.edited(alloc, prefix, sign)?)?;
+        Ok(())
+    }
+
+    // Holds no memory where there are no rows.
+    fn let_go(&mut self)
+        ensures { self.new ≡ self.old }
+    {
+        let is_empty = match &self.rows {
+            Some(rows) => rows.rows().len() == 0,
+            None => false,
+        };
+        if is_empty {
+            *self = Page::none();
         }
     }
 
@@ -175,14 +204,14 @@ impl Level for Page {
         self.found(address)
     }
 
-    fn replaced(
-        self,
+    fn replace(
+        &mut self,
         alloc: Global,
         _top: u8,
         prefix: Prefix,
         sign: Option<bool>,
-    ) -> Result<Page, AllocError> {
-        self.edited(alloc, prefix, sign)
+    ) -> Result<(), AllocError> {
+        self.edit(alloc, prefix, sign)
     }
 
     ghost agrees = { λ s t top front p. rows_agree s t top front p };

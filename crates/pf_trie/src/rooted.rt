@@ -61,13 +61,11 @@ impl<L: Level> PrefixIndex for Rooted<L> {
         prefix: Prefix,
         sign: Option<bool>,
     ) -> Result<Rooted<L>, AllocError> {
-        let Rooted { all, level } = self;
+        let Rooted { all, mut level } = self;
         if prefix.free == 128 {
             return Ok(Rooted { all: sign, level });
         }
-        Ok(Rooted {
-            all,
-            level: level.replaced(alloc, 128, prefix, sign)?,
-        })
+        level.replace(alloc, 128, prefix, sign)?;
+        Ok(Rooted { all, level })
     }
 }

@@ -62,11 +62,11 @@ fn with_one_more<T: Copy>(
     requires { place ≤ length items.now }
     ensures { IfOk result (λ v. v.items ≡ insert items.now place item) }
 {
-    let (before, behind) = items.split_at(place);
+    let (before, beyond) = items.split_at(place);
     let mut more = Vec::with_capacity(alloc, items.len().saturating_add(1 + ROOM))?;
     more.extend_from_slice(before)?;
     more.push(item)?;
-    more.extend_from_slice(behind)?;
+    more.extend_from_slice(beyond)?;
     Ok(more)
 }
 

@@ -49,17 +49,14 @@ impl<T: Level> Level for SixteenLevels<T> {
         self.levels.longest(top, address)
     }
 
-    fn replaced(
-        self,
+    fn replace(
+        &mut self,
         alloc: Global,
         top: u8,
         prefix: Prefix,
         sign: Option<bool>,
-    ) -> Result<SixteenLevels<T>, AllocError> {
-        let SixteenLevels { levels } = self;
-        Ok(SixteenLevels {
-            levels: levels.replaced(alloc, top, prefix, sign)?,
-        })
+    ) -> Result<(), AllocError> {
+        self.levels.replace(alloc, top, prefix, sign)
     }
 
     ghost agrees = { λ s t top front l same is. ⟦<FourLevels<FourLevels<FourLevels<FourLevels<T>>>> as Level>⟧.agrees s t top front l.levels same is };

@@ -1,5 +1,5 @@
 //! Slots of forks.
-ghost use Rattle.std.specs.Prelude.{◌≡◌, ℕ, ◌+◌, ◌-◌, ◌/◌, ◌^◌, ◌<◌, ◌≤◌, None, IfOk};
+ghost use Rattle.std.specs.Prelude.{◌≡◌, ℕ, ◌+◌, ◌-◌, ◌/◌, ◌^◌, ◌<◌, ◌≤◌, None, IfOk, OnOk};
 ghost use Rattle.pf_trie.specs.{Prefixes.{AllSigns, Finds, with_sign}, Signs.sign_of, Rows.AreRows, Forks.{IsSlot, IsEmptySlot, SameSlot}};
 
 use crate::found::Found;
@@ -98,39 +98,31 @@ impl<T: Level> Slot<T> {
         }
     }
 
-    /// The slot of a prefix's addresses with the sign at the prefix replaced, which leaves fewer than `at` bits free. `AllocError`: nothing is left
-    /// of it.
-    pub(crate) fn replaced(
-        self,
+    /// Replaces the sign at a prefix of the slot's addresses, which leaves fewer than `at` bits free. `AllocError`: nothing says which signs it
+    /// holds then.
+    pub(crate) fn replace(
+        &mut self,
         alloc: Global,
         at: u8,
         prefix: Prefix,
         sign: Option<bool>,
-    ) -> Result<Slot<T>, AllocError>
+    ) -> Result<(), AllocError>
         requires free { prefix.free < 128 }
         requires at { at ≤ 128 }
-        ensures { IfOk result (λ slot. (s : AllSigns) → prefix.free < at → IsSlot T.holds s at (prefix.address / 2 ^ at) self → IsSlot T.holds (with_sign s prefix sign) at (prefix.address / 2 ^ at) slot) }
+        ensures { OnOk result ((s : AllSigns) → prefix.free < at → IsSlot T.holds s at (prefix.address / 2 ^ at) self.old → IsSlot T.holds (with_sign s prefix sign) at (prefix.address / 2 ^ at) self.new) }
     {
-        let Slot { wide, below } = self;
-        Ok(Slot {
-            wide,
-            below: below.replaced(alloc, at, prefix, sign)?,
-        })
+        self.below.replace(alloc, at, prefix, sign)
     }
 
-    /// The slot of the addresses that begin with `front`, with the sign at a prefix replaced that leaves at least `at` bits free.
-    pub(crate) fn marked(self, at: u8, front: u128, prefix: Prefix, sign: Option<bool>) -> Slot<T>
+    /// Replaces, in the slot of the addresses that begin with `front`, the sign at a prefix that leaves at least `at` bits free.
+    pub(crate) fn mark(&mut self, at: u8, front: u128, prefix: Prefix, sign: Option<bool>)
         requires free { prefix.free < 128 }
         requires wide { at ≤ prefix.free }
-        ensures { (s : AllSigns) → prefix.free < at + SLOT_BITS → IsSlot T.holds s at front self → IsSlot T.holds (with_sign s prefix sign) at front result }
+        ensures { (s : AllSigns) → prefix.free < at + SLOT_BITS → IsSlot T.holds s at front self.old → IsSlot T.holds (with_sign s prefix sign) at front self.new }
     {
-        let Slot { wide, below } = self;
         if front >> (prefix.free - at) != prefix.address >> prefix.free {
-            return Slot { wide, below };
+            return;
         }
-        Slot {
-            wide: wide.with(prefix.free, sign),
-            below,
-        }
+        self.wide = self.wide.with(prefix.free, sign);
     }
 }

@@ -7,9 +7,9 @@ use Rattle.pf_values.specs.declared.{numbers.Mistake.Mistake, numbers.Mistake.Th
 use Rattle.pf_values.specs.Numbers.{Word}
 
 -- what stands behind the last such byte, or this if there is none
-abbrev pub behind_last : ℕ → Word → Word → Word
-behind_last byte otherwise [] = otherwise
-behind_last byte otherwise (b ∷ bs) = behind_last byte (if b == byte then bs else otherwise) bs
+abbrev pub rest_after_last : ℕ → Word → Word → Word
+rest_after_last byte otherwise [] = otherwise
+rest_after_last byte otherwise (b ∷ bs) = rest_after_last byte (if b == byte then bs else otherwise) bs
 
 abbrev pub has : ℕ → Word → Bool
 has byte text = list_any (λ b. b == byte) text
@@ -17,8 +17,8 @@ has byte text = list_any (λ b. b == byte) text
 -- What is written in decimal numbers: of a V6 address a V4 one at its end, and the length.
 abbrev pub decimal_part : Word → Word
 decimal_part text =
-    let last : Word = behind_last 58 text text in
-    if has 58 text && not (has 46 last) then (if has 47 last then behind_last 47 last last else []) else last
+    let last : Word = rest_after_last 58 text text in
+    if has 58 text && not (has 46 last) then (if has 47 last then rest_after_last 47 last last else []) else last
 
 abbrev pub begins_number : Word → Bool
 begins_number [] = false

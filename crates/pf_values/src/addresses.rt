@@ -1,13 +1,13 @@
 //! Addresses and networks.
 ghost use Rattle.std.specs.{Prelude.{◌≡◌, ◌==◌, ◌≤◌, true, length, drop}, List.list_any};
-ghost use Rattle.pf_values.specs.Addresses.{behind_last, decimal_part, begins_number, zeros_within, net_of};
+ghost use Rattle.pf_values.specs.Addresses.{rest_after_last, decimal_part, begins_number, zeros_within, net_of};
 
 use crate::numbers::{Mistake, is_digit};
 use pf_addr::Net;
 
 /// The bytes behind the last such byte; all of them if there is none.
-fn behind_last(byte: u8, text: &[u8]) -> &[u8]
-    ensures { result.now ≡ behind_last byte text.now text.now }
+fn rest_after_last(byte: u8, text: &[u8]) -> &[u8]
+    ensures { result.now ≡ rest_after_last byte text.now text.now }
 {
     &text[end_of_last(byte, text)..]
 }
@@ -15,7 +15,7 @@ fn behind_last(byte: u8, text: &[u8]) -> &[u8]
 /// Where the last such byte ends, or 0 if there is none.
 #[tactic(auto, using(crate::proofs::Steps::drop_item, std::proofs::lemmas::List::drop_all))]
 fn end_of_last(byte: u8, text: &[u8]) -> usize
-    ensures behind { drop result text.now ≡ behind_last byte text.now text.now }
+    ensures rest { drop result text.now ≡ rest_after_last byte text.now text.now }
     ensures bound { result ≤ length text.now }
 {
     let mut end = 0;
@@ -38,12 +38,12 @@ fn has(byte: u8, text: &[u8]) -> bool
 fn decimal_part(text: &[u8]) -> &[u8]
     ensures { result.now ≡ decimal_part text.now }
 {
-    let last = behind_last(b':', text);
+    let last = rest_after_last(b':', text);
     if has(b':', text) && !has(b'.', last) {
         if !has(b'/', last) {
             return &[];
         }
-        return behind_last(b'/', last);
+        return rest_after_last(b'/', last);
     }
     last
 }

@@ -21,7 +21,7 @@
 //! seer saw and learnt before ([`Seer::judge`], [`Seer::learn`]); [`Publisher::show`] shows exactly what was offered; and a seer judges by
 //! the copies of its shower. That judging takes no lock, no memory and no handle is to be read in its signature. Only a test of
 //! `server_tests` shows that a seer gets an answer while its shower is there: contracts allow [`Gone`] and [`ViewFault::Places`] at any
-//! time. Neither proved nor tested: that [`Shower::told_seer`] gives a seer when a place is free.
+//! time. Neither proved nor tested: that [`Shower::informed_seer`] gives a seer when a place is free.
 #![tactic(auto)]
 
 mod law;

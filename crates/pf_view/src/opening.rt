@@ -126,5 +126,5 @@ fn new_seer<J: Naming>(reader: CopyReader<J>, start: &Front<J>) -> Seer<J>
     ensures new { IsNewSeer result }
     ensures copies { JudgesBy reader.place.table_id result }
 {
-    Seer::told(reader, Token::new(start.again(), 0))
+    Seer::informed(reader, Token::new(start.again(), 0))
 }

@@ -47,7 +47,7 @@ impl<J: Naming> Model for Seer<J> {
 
 impl<J: Naming> Seer<J> {
     // A seer that was given this token: that is all that it saw, and all that it learnt.
-    pub(crate) fn told(reader: CopyReader<J>, token: Token<J>) -> Seer<J>
+    pub(crate) fn informed(reader: CopyReader<J>, token: Token<J>) -> Seer<J>
         ensures seen { result.seen ≡ token }
         ensures learnt { result.learnt ≡ token }
         ensures copies { JudgesBy reader.place.table_id result }

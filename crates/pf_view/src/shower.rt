@@ -60,13 +60,13 @@ impl<J: Naming, R: Wait + Drop> Shower<J, R> {
     /// One more seer of the copies that this shower publishes to. It begins with all the changes that are shown, and each of its verdicts
     /// is by these or more. `None`: all places are in use. There are as many places as [`views`](crate::views) made seers. A dropped seer
     /// frees its place.
-    pub fn told_seer(&self) -> Option<Seer<J>>
+    pub fn informed_seer(&self) -> Option<Seer<J>>
         ensures seen { IfSome result (λ s. s.seen ≡ self.now.shown) }
         ensures learnt { IfSome result (λ s. s.learnt ≡ self.now.shown) }
         ensures copies { IfSome result (JudgesBy self.now.copies) }
     {
         let reader = self.writer.factory().reader().ok()?;
-        Some(Seer::told(reader, self.token()))
+        Some(Seer::informed(reader, self.token()))
     }
 }
 

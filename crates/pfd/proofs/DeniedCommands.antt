@@ -197,9 +197,9 @@ anchors-said q w x path asks means allowed =
 -- words behind `show`
 showing-denied : (ws rest : List Word) (q : Request) (x : Spoken) → ws ≡ codes "show" ∷ rest → Spells grammar.showing x rest → Means (Ok (Some x)) (Ok (Some q)) → Denied q (first_of ws)
 unfolding grammar.showing
-showing-denied ws rest q x is (inl (more, (asks, none), behind)) means =
+showing-denied ws rest q x is (inl (more, (asks, none), following)) means =
     status-said q (first_of ws) x asks means (ap (λ (vs : List Word). denies (first_of vs)) is)
-showing-denied ws rest q x is (inr (inl (more, (path, spelled, asks), behind))) means =
+showing-denied ws rest q x is (inr (inl (more, (path, spelled, asks), following))) means =
     anchors-said q (first_of ws) x path asks means (ap (λ (vs : List Word). denies (first_of vs)) is)
 showing-denied ws rest q x is (inr (inr (r, spelled, says))) means =
     says-denied ws q x r says means (λ c ok. ap (λ (vs : List Word). denies (first_of vs)) is ∙ ap not (sym (shown-makes.kind r rest c spelled ok)))

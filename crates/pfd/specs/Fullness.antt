@@ -24,13 +24,13 @@ has_room_again size bytes = nat_le (4 * bytes) (3 * size)
 
 -- What is said: that a disk is nearly full, and at each further hundredth that again.
 abbrev pub news : Gauge → ℕ → Option ℕ
-news g bytes = if is_nearly_full g.size bytes && nat_lt g.told (percent g.size bytes) then Some (percent g.size bytes) else None
+news g bytes = if is_nearly_full g.size bytes && nat_lt g.reported (percent g.size bytes) then Some (percent g.size bytes) else None
 
 -- The gauge after that. What was said counts until there is room again.
 abbrev pub noted : Gauge → ℕ → Gauge
 noted g bytes =
-    if is_nearly_full g.size bytes then record g { told = max g.told (percent g.size bytes) }
-    else if has_room_again g.size bytes then record g { told = 0 }
+    if is_nearly_full g.size bytes then record g { reported = max g.reported (percent g.size bytes) }
+    else if has_room_again g.size bytes then record g { reported = 0 }
     else g
 
 -- the line that says it

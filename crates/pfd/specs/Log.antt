@@ -76,12 +76,12 @@ abbrev pub session_text : ℕ → List ℕ
 session_text session = codes "pfd: session " ++ decimal session
 
 -- what a change was, if it is known
-abbrev pub behind : Option Deed → List ℕ
-behind None = []
-behind (Some deed) = codes ": " ++ deed_text deed
+abbrev pub deed_part : Option Deed → List ℕ
+deed_part None = []
+deed_part (Some deed) = codes ": " ++ deed_text deed
 
 abbrev pub numbered_line : ℕ → List ℕ → ℕ → Option Deed → List ℕ
-numbered_line session word seq deed = session_text session ++ (word ++ (decimal seq ++ (behind deed ++ 10 ∷ [])))
+numbered_line session word seq deed = session_text session ++ (word ++ (decimal seq ++ (deed_part deed ++ 10 ∷ [])))
 
 abbrev pub acknowledges : Reply → Bool
 acknowledges (Applied seq outcome) = true

@@ -11,17 +11,17 @@ use Rattle.pf_session.specs.declared.line_engine.fault.EngineFault.{EngineFault}
 use Rattle.pf_session.specs.declared.line_engine.fault.EngineFault.TheVariants as session
 use Rattle.pf_session.specs.{LineEngine.Sessions.IsSession, Serving.Serves}
 use Rattle.pfd_files.specs.declared.fault.{Fault.Fault, Fault.TheVariants.{BadSize, Device, Input, Memory, Output, Places}}
-use Rattle.pfd_files.specs.{Faults.{told_of_opening}, Showing.{IsOfFile, ShownOfFile}}
+use Rattle.pfd_files.specs.{Faults.{fault_of_opening}, Showing.{IsOfFile, ShownOfFile}}
 
-abbrev pub told_of_session : EngineFault → Fault
-told_of_session session.Read = Input
-told_of_session session.Write = Output
-told_of_session session.Memory = Memory
+abbrev pub fault_of_session : EngineFault → Fault
+fault_of_session session.Read = Input
+fault_of_session session.Write = Output
+fault_of_session session.Memory = Memory
 
 -- what the program says of a session
 abbrev pub ended : Result (Unit {0}) EngineFault → Result (Unit {0}) Fault
 ended (Ok u) = Ok u
-ended (Err fault) = Err (told_of_session fault)
+ended (Err fault) = Err (fault_of_session fault)
 
 -- of worlds that come to this and don't have the last epoch, the Book stands for those with this opening at their end
 abbrev pub Follows : {D : Type 0} → PlainOpening D → ℕ → PlainBook D → Type 0
@@ -44,7 +44,7 @@ abbrev pub ServesFrom : {D : Type 0} → (D → ℕ) → PlainOpening D → ℕ 
     → Option (List ℕ) → Option (List ℕ) → Option (List ℕ) → Option (List ℕ) → Type 0
 ServesFrom faults opening history result unread still_unread held held' =
     ((session : Result (Unit {0}) EngineFault) × (result ≡ ended session) × Began faults opening history session unread still_unread held held')
-    ⊎ ((fault : OpenFault) × IsUnshown fault × (result ≡ Err (told_of_opening fault)) × Keeps unread still_unread × Keeps held held')
+    ⊎ ((fault : OpenFault) × IsUnshown fault × (result ≡ Err (fault_of_opening fault)) × Keeps unread still_unread × Keeps held held')
 
 -- A session was served over a disk in memory that was just formatted, by a Book with room for so many changes: it stands for the world in
 -- which the first opening begins, with the room that a disk of this size has.
@@ -87,7 +87,7 @@ abbrev pub IsDeviceRun : {D : Type 0} → (D → List ℕ) → (D → ℕ) → D
     → Option (List ℕ) → Option (List ℕ) → Option (List ℕ) → Option (List ℕ) → Type 0
 IsDeviceRun {D = D} seen faults disk history result unread still_unread held held' =
     ((opening : PlainOpening D) × Opens (seen disk) opening × ServesFrom faults opening history result unread still_unread held held')
-    ⊎ ((fault : OpenFault) × (result ≡ Err (told_of_opening fault)) × IsUnopened fault (seen disk) × Keeps unread still_unread × Keeps held held')
+    ⊎ ((fault : OpenFault) × (result ≡ Err (fault_of_opening fault)) × IsUnopened fault (seen disk) × Keeps unread still_unread × Keeps held held')
 
 -- So it was over some disk; or the file couldn't be had as one.
 abbrev pub IsFileRun : {F : Type 0} → (F → List ℕ) → (F → ℕ) → ℕ → Result (Unit {0}) Fault

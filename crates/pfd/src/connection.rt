@@ -14,6 +14,7 @@ use pf_session::{
 };
 use std::alloc::{AllocError, Global};
 use std::io::{self, ErrorKind, Read, Write};
+use std::marker::Model;
 use std::mem;
 use std::net::Shutdown;
 
@@ -38,7 +39,8 @@ pub(crate) enum Stage {
     Over,
 }
 
-/// A connection that is served, without what belongs to an opening: it goes from one opening to the next as it is.
+/// A connection that is served, without what belongs to an opening: it goes from one opening to the next as it is. Contracts see it as its
+/// number.
 #[derive(Drop)]
 pub(crate) struct Connection {
     arrival: Arrival,
@@ -46,6 +48,14 @@ pub(crate) struct Connection {
     stage: Stage,
     received: Received,
     unsent: Unsent,
+}
+
+impl Model for Connection {
+    ghost use Rattle.std.specs.Prelude.{ℕ};
+
+    ghost Value = { ℕ };
+
+    ghost view = { λ c. c.number };
 }
 
 impl Connection {
@@ -64,7 +74,9 @@ impl Connection {
     }
 
     /// The number of its session.
-    pub(crate) fn number(&self) -> u32 {
+    pub(crate) fn number(&self) -> u32
+        ensures { result ≡ self.now }
+    {
         self.number
     }
 
@@ -74,7 +86,7 @@ impl Connection {
     }
 
     /// Serves it from where it is, by what calls a Book, until a pause or its end. A connection that paused goes on in the next opening.
-    pub(crate) fn serve<C: CallBook<J> + AskBook<J>, J: Chapter, G: Gate, P: Pause>(
+    pub(crate) fn carry_on<C: CallBook<J> + AskBook<J>, J: Chapter, G: Gate, P: Pause>(
         &mut self,
         alloc: Global,
         book: &C,
@@ -201,9 +213,9 @@ impl Connection {
                 patience: self.arrival.patience,
                 pause,
             };
-            let told = turn_away(&mut writer);
+            let reported = turn_away(&mut writer);
             self.unsent = writer.into_unsent();
-            told?;
+            reported?;
         }
         match stage_of(alloc, way, self.number) {
             Ok(stage) => {
@@ -235,7 +247,7 @@ impl Connection {
             patience: self.arrival.patience,
             pause,
         };
-        let left = serve_stage(
+        let left = carry_on_stage(
             alloc,
             &mut self.stage,
             &mut reader,
@@ -328,7 +340,7 @@ fn stage_of(alloc: Global, way: Way, number: u32) -> Result<Stage, AllocError>
 }
 
 // Serves what a connection sends, from where it is until a pause or its reader's end.
-fn serve_stage<C: CallBook<J> + AskBook<J>, J: Chapter, G: Gate, P: Pause, R: Read, O: Write>(
+fn carry_on_stage<C: CallBook<J> + AskBook<J>, J: Chapter, G: Gate, P: Pause, R: Read, O: Write>(
     alloc: Global,
     stage: &mut Stage,
     reader: &mut R,

@@ -7,7 +7,7 @@ ghost use Rattle.pf_session.specs.declared.line_engine.answer_line.TheConstants.
 ghost use Rattle.pfd_words.specs.declared.words.TheConstants.{HISTORY_LIMIT, MEMORY_SIZE, MOST_HISTORY, MOST_WORKERS, WORKERS};
 
 pub use pf_session::laws::{
-    sessions_learn, takes_over, the_last_receipt_has_all, what_is_told_stays_acknowledged,
+    sessions_learn, takes_over, the_last_receipt_has_all, what_is_replied_stays_acknowledged,
 };
 
 /// Of the lines that say a command, a session that may only ask is denied just those whose command isn't a question, nor asks how many

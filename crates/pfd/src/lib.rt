@@ -52,8 +52,8 @@ pub use pf_book::{
     format,
 };
 pub use pf_session::{
-    EngineFault, Gate, OpenGate, line_engine, serve, serve_alone, serve_asking, serve_from,
-    serve_peer, serve_peer_from,
+    EngineFault, Gate, OpenGate, answer_asking, continue_peer, continue_session, line_engine,
+    serve, serve_alone, serve_peer,
 };
 pub use pfd_files::{Fault, format_on, show_on};
 pub use program::{

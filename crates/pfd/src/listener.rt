@@ -140,7 +140,7 @@ trait JudgeConnection<J: Chapter> {
 }
 
 /// What judges behind a gate, and notes faults.
-#[derive(Clone, Copy)]
+#[derive(Drop)]
 struct Judge<'a, G: Gate, L: KeepLog> {
     gate: &'a G,
     log: &'a L,
@@ -163,7 +163,7 @@ impl<J: Chapter, G: Gate, L: KeepLog> JudgeConnection<J> for Judge<'_, G, L> {
 }
 
 /// What serves connections by one Book. Workers needn't name a device, nor what waits.
-#[derive(Clone, Copy)]
+#[derive(Drop)]
 struct Server<
     'a,
     W: Wait,
@@ -199,7 +199,7 @@ impl<
     ) -> Result<LeftOff, EngineFault> {
         let caller = Caller::new(self.rt, self.shared);
         let book = Logged::new(&caller, self.log, connection.number());
-        let served = connection.serve(alloc, &book, seer, self.gate, self.pause);
+        let served = connection.carry_on(alloc, &book, seer, self.gate, self.pause);
         if let Err(fault) = &served {
             self.log.note_fault(connection.number(), *fault);
         }
@@ -208,7 +208,7 @@ impl<
 }
 
 // Serves one connection after the other, with one seer, until a pause or until there are no more. One that paused is returned.
-fn serve_each<
+fn serve_in_turn<
     W: Wait,
     A: Accept<Connection = Arrival>,
     J: Chapter,
@@ -286,7 +286,7 @@ fn work<
 ) -> Seer<J> {
     let callers = &reception.callers;
     callers.come();
-    let paused = serve_each(rt, alloc, listener, reception, server, pause, &mut seer);
+    let paused = serve_in_turn(rt, alloc, listener, reception, server, pause, &mut seer);
     callers.leave();
     if let Some(connection) = paused {
         judge_on(
@@ -302,7 +302,7 @@ fn work<
 ///
 /// Each worker has a thread, if the system gives it one; workers without one begin when others have ended. `Err(Memory)`: out of memory for
 /// the threads.
-pub(crate) fn serve_until<
+pub(crate) fn run_workers<
     M: Wait + Threads + Sync,
     A: Accept<Connection = Arrival> + Sync,
     D: Disk + Drop + Send,
@@ -479,7 +479,7 @@ pub fn serve_listener<
     let Ok(reception) = Reception::new(alloc, sessions, 0) else {
         return Err(EngineFault::Memory);
     };
-    let _ = serve_until(
+    let _ = run_workers(
         rt, alloc, listener, &reception, shared, seers, gate, &NoPause, &NoLog,
     )?;
     if reception.has_failed(rt) {

@@ -25,11 +25,11 @@ mod streams;
 use crate::client::connect;
 use crate::fullness::gauge::{Gauge, tell_fullness};
 use crate::program::conf::answer;
-use crate::program::ended::told;
+use crate::program::ended::session_end;
 use crate::program::explained::explain_served;
 use crate::program::fresh::open_memory;
 use crate::program::load::load_file;
-use crate::program::serving::serve_file;
+use crate::program::serving::run_server;
 use crate::program::streams::hold_streams;
 use clap::Error;
 use clap::error::ErrorKind;
@@ -50,7 +50,7 @@ use std::sync::Wait;
 use std::thread::Threads;
 
 // A session over what was opened, by a Book whose history may have so many changes.
-fn serve_opening<J: Chapter, D: Disk + Drop, H: Wait + Drop, R: Read, W: Write>(
+fn run_alone<J: Chapter, D: Disk + Drop, H: Wait + Drop, R: Read, W: Write>(
     waits: H,
     alloc: Global,
     opening: Opening<D>,
@@ -64,7 +64,7 @@ fn serve_opening<J: Chapter, D: Disk + Drop, H: Wait + Drop, R: Read, W: Write>(
         (W.contents writer.old) (W.contents writer.new) }
 {
     match Book::<D, J, H>::of(waits, alloc, opening, history, 1) {
-        Ok((mut book, _seers)) => told(serve_alone(alloc, reader, writer, &mut book)),
+        Ok((mut book, _seers)) => session_end(serve_alone(alloc, reader, writer, &mut book)),
         Err((fault, _disk)) => Err(Fault::from(fault)),
     }
 }
@@ -83,7 +83,7 @@ fn run<H: Wait + Drop, R: Read, W: Write>(
         (W.contents writer.old) (W.contents writer.new) }
 {
     let opening = open_memory(alloc, size)?;
-    serve_opening::<Brand, _, _, _, _>(waits, alloc, opening, history, reader, writer)
+    run_alone::<Brand, _, _, _, _>(waits, alloc, opening, history, reader, writer)
 }
 
 // A session over a disk that exists, whatever it holds. If it is nearly full, the faults are told first.
@@ -105,7 +105,7 @@ fn run_on<D: Disk + Drop, H: Wait + Drop, R: Read, W: Write, F: Write>(
     match Opening::open(alloc, disk) {
         Ok(opening) => {
             tell_fullness(&mut gauge, opening.durable(), faults);
-            serve_opening::<Brand, _, _, _, _>(waits, alloc, opening, history, reader, writer)
+            run_alone::<Brand, _, _, _, _>(waits, alloc, opening, history, reader, writer)
         }
         Err((fault, _disk)) => Err(Fault::from(fault)),
     }
@@ -143,8 +143,8 @@ fn perform<
         }
         Task::Format { path, size } => format_file(alloc, files, path, size),
         Task::Show { path } => show_file(alloc, files, path, writer),
-        Task::Serve(service) => serve_file(machine, alloc, files, &service, writer, faults),
-        Task::Connect { address } => told(connect(machine, alloc, address, reader, writer)),
+        Task::Serve(service) => run_server(machine, alloc, files, &service, writer, faults),
+        Task::Connect { address } => session_end(connect(machine, alloc, address, reader, writer)),
         Task::Conf(task) => answer(alloc, files, &task, writer, faults),
         Task::Explain(task) => explain_served(machine, alloc, &task, writer, faults),
         Task::Load(task) => load_file(machine, alloc, files, &task, writer, faults),
@@ -160,14 +160,14 @@ fn ask_status<N: Net<Listener = TcpListener, Stream = TcpStream> + Threads, W: W
     writer: &mut W,
 ) -> Result<(), Fault> {
     let mut line: &[u8] = b"show status\n";
-    told(connect(net, alloc, address, &mut line, writer))
+    session_end(connect(net, alloc, address, &mut line, writer))
 }
 
 // Says in one line what failed, unless that was told. Where it can't be written there is nowhere else to say it.
 fn fail<F: Write>(fault: Fault, faults: &mut F) -> u8
     ensures { result ≡ 1 }
 {
-    if fault != Fault::Told {
+    if fault != Fault::Reported {
         let _ = writeln!(faults, "pfd: {fault}");
     }
     let _ = faults.flush();
@@ -201,7 +201,7 @@ fn write_help<W: Write>(error: &Error, writer: &mut W) -> Result<(), Fault> {
 fn explain<W: Write, F: Write>(error: &Error, writer: &mut W, faults: &mut F) -> u8
     ensures status { result ≤ 2 }
     ensures shown { (kind_of error.now ≡ ErrorKind.DisplayHelp) ⊎ (kind_of error.now ≡ ErrorKind.DisplayVersion) → result ≤ 1 }
-    ensures told { (kind_of error.now ≢ ErrorKind.OutOfMemory) → (kind_of error.now ≢ ErrorKind.DisplayHelp)
+    ensures reported { (kind_of error.now ≢ ErrorKind.OutOfMemory) → (kind_of error.now ≢ ErrorKind.DisplayHelp)
         → (kind_of error.now ≢ ErrorKind.DisplayVersion) → result ≡ 2 }
     ensures memory { kind_of error.now ≡ ErrorKind.OutOfMemory →
         (result ≡ 1) × Keeps (W.contents writer.old) (W.contents writer.new) }

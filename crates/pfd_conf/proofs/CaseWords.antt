@@ -54,11 +54,11 @@ pub words_more : (line : List ℕ) (start at : ℕ) (before : List Word) → sta
     (before ++ if_some (slice_range line start at)) ++ words_of (drop (at + 1) line) ≡ words_of line
 words_more line start at before low high is blank cut =
     let word = slice_range line start at in
-    let behind = drop (at + 1) line in
-    let split : drop start line ≡ word ++ get_or line at 0 ∷ behind =
+    let following = drop (at + 1) line in
+    let split : drop start line ≡ word ++ get_or line at 0 ∷ following =
     drop_split line start at low ∙ ap (λ (l : List ℕ). word ++ l) (drop_more line at 0 high) in
-    append_assoc before (if_some word) (words_of behind)
-    ∙ ap (λ (ws : List Word). before ++ ws) (sym (ap words_of split ∙ past_word word (get_or line at 0) behind is blank)) ∙ cut
+    append_assoc before (if_some word) (words_of following)
+    ∙ ap (λ (ws : List Word). before ++ ws) (sym (ap words_of split ∙ past_word word (get_or line at 0) following is blank)) ∙ cut
 
 -- and so does the line's end
 pub words_all : (line : List ℕ) (start at : ℕ) (before : List Word) → start ≤ at → at ≡ length line →

@@ -28,12 +28,12 @@ all_written {X} text p q old new xs i past so_far = subst (λ (ys : List X). Con
     so_far
 
 -- a word behind a space, for each word
-abbrev pub behind_space : Bor Word → List ℕ
-behind_space w = codes " " ++ w.now
+abbrev pub after_space : Bor Word → List ℕ
+after_space w = codes " " ++ w.now
 
-pub spaced_words : (ws : List (Bor Word)) → flat_map behind_space ws ≡ spaced (texts ws)
+pub spaced_words : (ws : List (Bor Word)) → flat_map after_space ws ≡ spaced (texts ws)
 spaced_words [] = refl
-spaced_words (w ∷ ws) = ap (λ (t : List ℕ). behind_space w ++ t) (spaced_words ws)
+spaced_words (w ∷ ws) = ap (λ (t : List ℕ). after_space w ++ t) (spaced_words ws)
 
 -- ---- texts that may stop
 
@@ -114,23 +114,23 @@ all_of old new all left so_far none =
 -- ---- steps of which each may stop
 
 -- the texts of those before this one are written
-abbrev pub Told : {X : Type 0} → (X → List ℕ) → Option (List ℕ) → Option (List ℕ) → List X → ℕ → Type 0
-Told text old new xs i = Appends old new (flat_map text (take i xs))
+abbrev pub AreWrittenBefore : {X : Type 0} → (X → List ℕ) → Option (List ℕ) → Option (List ℕ) → List X → ℕ → Type 0
+AreWrittenBefore text old new xs i = Appends old new (flat_map text (take i xs))
 
-pub one_told : {X : Type 0} → (text : X → List ℕ) (old mid new : Option (List ℕ)) (xs : List X) (i : ℕ) (x : X) → i < length xs →
-    x ≡ get_or xs i x → Told text old mid xs i → Appends mid new (text x) → Told text old new xs (i + 1)
-one_told {X} text old mid new xs i x within here so_far next =
+pub one_written : {X : Type 0} → (text : X → List ℕ) (old mid new : Option (List ℕ)) (xs : List X) (i : ℕ) (x : X) → i < length xs →
+    x ≡ get_or xs i x → AreWrittenBefore text old mid xs i → Appends mid new (text x) → AreWrittenBefore text old new xs (i + 1)
+one_written {X} text old mid new xs i x within here so_far next =
     subst (Appends old new) (sym (more_text text xs i x within here))
     (Appends-then old mid new (flat_map text (take i xs)) (text x) so_far next)
 
-pub all_told : {X : Type 0} → (text : X → List ℕ) (old new : Option (List ℕ)) (xs : List X) (i : ℕ) → length xs ≤ i →
-    Told text old new xs i → Appends old new (flat_map text xs)
-all_told {X} text old new xs i past so_far = subst (λ (ys : List X). Appends old new (flat_map text ys)) (take_all i xs past) so_far
+pub all_are_written : {X : Type 0} → (text : X → List ℕ) (old new : Option (List ℕ)) (xs : List X) (i : ℕ) → length xs ≤ i →
+    AreWrittenBefore text old new xs i → Appends old new (flat_map text xs)
+all_are_written {X} text old new xs i past so_far = subst (λ (ys : List X). Appends old new (flat_map text ys)) (take_all i xs past) so_far
 
 -- where one stops, a front of all is written
-pub told_front : {X : Type 0} → (text : X → List ℕ) (old mid new : Option (List ℕ)) (xs : List X) (i : ℕ) (x : X) → i < length xs →
-    x ≡ get_or xs i x → Told text old mid xs i → WritesFront mid new (text x) → WritesFront old new (flat_map text xs)
-told_front {X} text old mid new xs i x within here so_far next =
+pub front_written : {X : Type 0} → (text : X → List ℕ) (old mid new : Option (List ℕ)) (xs : List X) (i : ℕ) (x : X) → i < length xs →
+    x ≡ get_or xs i x → AreWrittenBefore text old mid xs i → WritesFront mid new (text x) → WritesFront old new (flat_map text xs)
+front_written {X} text old mid new xs i x within here so_far next =
     let rest : List ℕ = flat_map text (drop (i + 1) xs) in
     let whole : flat_map text xs ≡ flat_map text (take i xs) ++ (text x ++ rest) =
     ap (flat_map text) (sym (take-append-drop i xs)) ∙ flat_map-append text (take i xs) (drop i xs)
@@ -140,12 +140,12 @@ told_front {X} text old mid new xs i x within here so_far next =
 
 -- ---- the same, where one of them is read by its place
 
-pub one_told_at : {X : Type 0} → (text : X → List ℕ) (old mid new : Option (List ℕ)) (xs : List X) (i : ℕ) (d : X) → i < length xs →
-    Told text old mid xs i → Appends mid new (text (get_or xs i d)) → Told text old new xs (i + 1)
-one_told_at text old mid new xs i d within so_far next =
-    one_told text old mid new xs i (get_or xs i d) within (get_or_default xs i d (get_or xs i d) within) so_far next
+pub one_written_at : {X : Type 0} → (text : X → List ℕ) (old mid new : Option (List ℕ)) (xs : List X) (i : ℕ) (d : X) → i < length xs →
+    AreWrittenBefore text old mid xs i → Appends mid new (text (get_or xs i d)) → AreWrittenBefore text old new xs (i + 1)
+one_written_at text old mid new xs i d within so_far next =
+    one_written text old mid new xs i (get_or xs i d) within (get_or_default xs i d (get_or xs i d) within) so_far next
 
-pub told_front_at : {X : Type 0} → (text : X → List ℕ) (old mid new : Option (List ℕ)) (xs : List X) (i : ℕ) (d : X) → i < length xs →
-    Told text old mid xs i → WritesFront mid new (text (get_or xs i d)) → WritesFront old new (flat_map text xs)
-told_front_at text old mid new xs i d within so_far next =
-    told_front text old mid new xs i (get_or xs i d) within (get_or_default xs i d (get_or xs i d) within) so_far next
+pub front_written_at : {X : Type 0} → (text : X → List ℕ) (old mid new : Option (List ℕ)) (xs : List X) (i : ℕ) (d : X) → i < length xs →
+    AreWrittenBefore text old mid xs i → WritesFront mid new (text (get_or xs i d)) → WritesFront old new (flat_map text xs)
+front_written_at text old mid new xs i d within so_far next =
+    front_written text old mid new xs i (get_or xs i d) within (get_or_default xs i d (get_or xs i d) within) so_far next

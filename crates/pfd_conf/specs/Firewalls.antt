@@ -75,5 +75,5 @@ abbrev pub in_parentheses : List File → Option (At PlainRule) → List ℕ
 in_parentheses files None = []
 in_parentheses files (Some r) = parenthesized files r.place
 
-abbrev pub behind_text : List File → List Ruleset → Option Decided → List ℕ
-behind_text files rs d = in_parentheses files (option_and_then (rule_at rs) d)
+abbrev pub origin_text : List File → List Ruleset → Option Decided → List ℕ
+origin_text files rs d = in_parentheses files (option_and_then (rule_at rs) d)

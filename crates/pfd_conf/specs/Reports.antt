@@ -6,7 +6,7 @@ use Rattle.pf_conf.specs.declared.found.Ruleset.{Ruleset}
 use Rattle.pf_conf.specs.Shown.{newline}
 use Rattle.pf_case.specs.Cases.{word_of, decided_text, same}
 use Rattle.pfd_conf.specs.declared.{firewall.Decided.Decided, outcomes.Outcome.Outcome, outcomes.Tried.Tried, report.Tally.Tally, report.TheConstants.PACKET_WORDS}
-use Rattle.pfd_conf.specs.{Firewalls.{Origins, behind_text}, Outcomes.line_of}
+use Rattle.pfd_conf.specs.{Firewalls.{Origins, origin_text}, Outcomes.line_of}
 
 -- ---- words
 
@@ -38,7 +38,7 @@ decider_text rs (Some d) = rule_text_of rs d
 
 -- and where the rule is written
 abbrev pub got_text : Origins → Bool → Option Decided → List ℕ
-got_text f passes d = word_of passes ++ decider_text f.rulesets d ++ behind_text f.files f.rulesets d
+got_text f passes d = word_of passes ++ decider_text f.rulesets d ++ origin_text f.files f.rulesets d
 
 -- ---- cases that don't hold
 
@@ -55,11 +55,11 @@ failure_text f file ws o =
 abbrev pub words_at : Tried → Outcome → List Word
 words_at t o = words_of (line_of (texts t.lines) o)
 
-abbrev pub told_text : Origins → Tried → Outcome → List ℕ
-told_text f t o = if o.holds then [] else failure_text f t.name.now (words_at t o) o
+abbrev pub failure_line : Origins → Tried → Outcome → List ℕ
+failure_line f t o = if o.holds then [] else failure_text f t.name.now (words_at t o) o
 
 abbrev pub failures_text : Origins → Tried → List ℕ
-failures_text f t = flat_map (told_text f t) t.outcomes
+failures_text f t = flat_map (failure_line f t) t.outcomes
 
 abbrev pub all_failures : Origins → List Tried → List ℕ
 all_failures f ts = flat_map (failures_text f) ts

@@ -4,7 +4,7 @@ ghost use Rattle.std.specs.Option.{option_map, option_and_then};
 ghost use Rattle.std.specs.List.{filter_map, slice_get};
 ghost use Rattle.pf_addr.specs.Writing.{Continues};
 ghost use Rattle.pf_conf.specs.Telling.{name_of_file};
-ghost use Rattle.pfd_conf.specs.Firewalls.{origins_of, plain_rules, placed_of, table_of, config_of, ruleset_at, decided_in, rule_at, is_in, place_text, parenthesized, behind_text};
+ghost use Rattle.pfd_conf.specs.Firewalls.{origins_of, plain_rules, placed_of, table_of, config_of, ruleset_at, decided_in, rule_at, is_in, place_text, parenthesized, origin_text};
 
 use crate::taking::Taken;
 use pf_addr::path::{Path, TableName};
@@ -180,14 +180,14 @@ impl Origins<'_> {
     }
 
     /// Writes the file and the line of the rule that decides, in parentheses behind a space; nothing if none does.
-    pub(crate) fn write_behind<W: Write>(
+    pub(crate) fn write_origin<W: Write>(
         &self,
         out: &mut W,
         so_far: io::Result<()>,
         decided: Option<Decided>,
     ) -> io::Result<()>
         ensures { Continues so_far (W.contents out.old) result (W.contents out.new)
-            (behind_text self.now.files self.now.rulesets decided) }
+            (origin_text self.now.files self.now.rulesets decided) }
     {
         match self.rule_of(decided) {
             Some(rule) => write_in_parentheses(out, so_far, self.files, rule.place),

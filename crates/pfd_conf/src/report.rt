@@ -5,7 +5,7 @@ ghost use Rattle.pf_form.specs.Form.Words.{texts};
 ghost use Rattle.pf_case.specs.Cases.{at_text};
 ghost use Rattle.pfd_conf.specs.declared.fault.Fault.TheVariants.{Output};
 ghost use Rattle.pfd_conf.specs.Firewalls.{origins_of};
-ghost use Rattle.pfd_conf.specs.Reports.{spaced, packet_of, wanted_of, path_of, rule_text_of, got_text, difference_text, failure_text, told_text, failures_text, all_failures, has, counted, tally, tally_text, report_text};
+ghost use Rattle.pfd_conf.specs.Reports.{spaced, packet_of, wanted_of, path_of, rule_text_of, got_text, difference_text, failure_text, failure_line, failures_text, all_failures, has, counted, tally, tally_text, report_text};
 
 use crate::fault::Fault;
 use crate::firewall::{Decided, Firewall, Origins};
@@ -109,7 +109,7 @@ impl Origins<'_> {
             Some(decided) => self.write_decided(out, so_far, decided),
             None => write_more(out, so_far, b" default"),
         };
-        self.write_behind(out, so_far, decided)
+        self.write_origin(out, so_far, decided)
     }
 
     /// Writes what a case with these words came to, behind its packet, and what was wanted.
@@ -151,14 +151,14 @@ impl Origins<'_> {
     }
 
     /// Writes the line for a case of a file, if it doesn't hold.
-    fn write_told<W: Write>(
+    fn write_if_failed<W: Write>(
         &self,
         alloc: Global,
         out: &mut W,
         tried: &Tried<'_>,
         outcome: &Outcome,
     ) -> Result<(), Fault>
-        ensures { Writes result (W.contents out.old) (W.contents out.new) (told_text self.now tried.now outcome.now) }
+        ensures { Writes result (W.contents out.old) (W.contents out.new) (failure_line self.now tried.now outcome.now) }
     {
         if outcome.holds {
             return Ok(());
@@ -177,7 +177,7 @@ impl Origins<'_> {
         ensures { Writes result (W.contents out.old) (W.contents out.new) (failures_text self.now tried.now) }
     {
         for outcome in tried.outcomes.as_slice() {
-            self.write_told(alloc, out, tried, outcome)?;
+            self.write_if_failed(alloc, out, tried, outcome)?;
         }
         Ok(())
     }

@@ -69,7 +69,7 @@ fn add_read<F: Fn(&[u8]) -> Result<Contents, AllocError>>(
 }
 
 /// What a file means with the files that were read, or why it isn't taken.
-fn told(files: Files, known: Result<Conf, Unread>) -> Result<Taken, Fault>
+fn taken_or_refused(files: Files, known: Result<Conf, Unread>) -> Result<Taken, Fault>
     ensures taken { IfOk result (λ t. (known ≡ Ok t.conf) × (t.files ≡ files)) }
     ensures refused { IfErr result (IsRefused known) }
 {
@@ -103,9 +103,9 @@ pub fn take<F: Fn(&[u8]) -> Result<Contents, AllocError>>(
     'readings: for _ in 0..READING_LIMIT {
         match resolve(alloc, &files, interfaces, mode, base, name) {
             Err(Unread::Needs(name)) => add_read(read, &mut files, name)?,
-            known => return told(files, known),
+            known => return taken_or_refused(files, known),
         }
     }
     let known = resolve(alloc, &files, interfaces, mode, base, name);
-    told(files, known)
+    taken_or_refused(files, known)
 }

@@ -7,7 +7,7 @@ use Rattle.pf_line.specs.Reply.Replies.{reply_text}
 use Rattle.pf_store.specs.{Openings.IsUnopened, Stores.Holds}
 use Rattle.pf_store.specs.declared.store.fault.{OpenFault.OpenFault, OpenFault.TheVariants.{EpochsExhausted, Full}}
 use Rattle.pfd_files.specs.declared.fault.{Fault.Fault, Fault.TheVariants.{BadSize, Device, Input, Memory, Output}}
-use Rattle.pfd_files.specs.Faults.{told_of_opening}
+use Rattle.pfd_files.specs.Faults.{fault_of_opening}
 
 -- a word, a number and a newline
 abbrev pub number_line : List ℕ → ℕ → List ℕ
@@ -38,7 +38,7 @@ pub record IsUnread (why : OpenFault) (seen : List ℕ) : Type 0 where
 abbrev pub IsShown : Result (Unit {0}) Fault → List ℕ → Option (List ℕ) → Option (List ℕ) → Type 0
 IsShown (Ok u) seen held held' = (d : PlainDurable) × Holds seen d × Appends held held' (shown_text d)
 IsShown (Err fault) seen held held' =
-    ((why : OpenFault) × (fault ≡ told_of_opening why) × IsUnread why seen × Keeps held held')
+    ((why : OpenFault) × (fault ≡ fault_of_opening why) × IsUnread why seen × Keeps held held')
     ⊎ ((fault ≡ Output) × ((d : PlainDurable) × Holds seen d × WritesFront held held' (shown_text d)))
 
 abbrev is_device : Fault → Bool

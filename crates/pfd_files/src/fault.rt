@@ -1,6 +1,6 @@
 //! Why the program ends with status 1.
 ghost use Rattle.std.specs.Prelude.{◌≡◌};
-ghost use Rattle.pfd_files.specs.Faults.{told_of_opening, told_of_formatting, told_of_file};
+ghost use Rattle.pfd_files.specs.Faults.{fault_of_opening, fault_of_formatting, fault_of_file};
 
 use pf_disk::FileFault;
 use pf_store::{FormatFault, OpenFault};
@@ -42,11 +42,11 @@ pub enum Fault {
     Output,
     /// What is wrong was told already, in lines of its own.
     #[error("told")]
-    Told,
+    Reported,
 }
 
 impl From<OpenFault> for Fault {
-    ghost from_gives = { λ fault told. told ≡ told_of_opening fault };
+    ghost from_gives = { λ fault reported. reported ≡ fault_of_opening fault };
 
     fn from(fault: OpenFault) -> Fault {
         match fault {
@@ -63,7 +63,7 @@ impl From<OpenFault> for Fault {
 }
 
 impl From<FormatFault> for Fault {
-    ghost from_gives = { λ fault told. told ≡ told_of_formatting fault };
+    ghost from_gives = { λ fault reported. reported ≡ fault_of_formatting fault };
 
     fn from(fault: FormatFault) -> Fault {
         match fault {
@@ -75,7 +75,7 @@ impl From<FormatFault> for Fault {
 }
 
 impl From<FileFault> for Fault {
-    ghost from_gives = { λ fault told. told ≡ told_of_file fault };
+    ghost from_gives = { λ fault reported. reported ≡ fault_of_file fault };
 
     fn from(fault: FileFault) -> Fault {
         match fault {

@@ -34,7 +34,7 @@ mod table;
 mod tally;
 
 use crate::playing::play_lines;
-use crate::serving::serve_each;
+use crate::serving::play_beside_server;
 use crate::sharing::share_each;
 use crate::starting::start_each;
 use crate::table::{Kind, Table};
@@ -76,7 +76,7 @@ fn play<N: Wait + Threads + Net<Listener = TcpListener, Stream = TcpStream> + Sy
     match table.kind {
         Kind::Lines => Ok(play_lines(machine, rt.alloc(), table)?),
         Kind::Words => start_each(machine, rt, table),
-        Kind::Clients => serve_each(machine, rt, table),
+        Kind::Clients => play_beside_server(machine, rt, table),
         Kind::Sessions | Kind::Askers | Kind::Peers => Ok(share_each(machine, rt.alloc(), table)?),
     }
 }

@@ -132,15 +132,15 @@ fn judge<J: Chapter + Send + Sync, R: Threads + Sync>(
     rt: &R,
     alloc: Global,
     commit: &Receipt<J>,
-    told: &mut Seer<J>,
-    untold: &mut Seer<J>,
+    informed: &mut Seer<J>,
+    uninformed: &mut Seer<J>,
     tally: &mut Tally,
 ) -> io::Result<()> {
     let Some(token) = commit.token() else {
         return Err(io::Error::from(ErrorKind::NotFound));
     };
-    told.learn(token);
-    let (one, other) = thread::join(rt, || judged(alloc, told), || judged(alloc, untold));
+    informed.learn(token);
+    let (one, other) = thread::join(rt, || judged(alloc, informed), || judged(alloc, uninformed));
     let (one, other) = (is_blocked(one)?, is_blocked(other)?);
     tally.hold("a seer that is told judges by the commit", one)?;
     tally.hold("a seer that isn't told judges by it too", other)?;
@@ -211,15 +211,15 @@ fn call<J: Chapter + Numbering + Send + Sync, R: Wait + Threads + Sync>(
     rt: &R,
     alloc: Global,
     shared: &Shared<MemDisk, J, &R>,
-    told: &mut Seer<J>,
-    untold: &mut Seer<J>,
+    informed: &mut Seer<J>,
+    uninformed: &mut Seer<J>,
     tally: &mut Tally,
 ) -> io::Result<Receipt<J>> {
-    let before = judged(alloc, untold)?;
+    let before = judged(alloc, uninformed)?;
     let passes = before.as_slice() == b"pass default\n".as_slice();
     tally.hold("before the commit all passes", passes)?;
     let commit = change(rt, alloc, shared, tally)?;
-    judge(rt, alloc, &commit, told, untold, tally)?;
+    judge(rt, alloc, &commit, informed, uninformed, tally)?;
     ask(rt, alloc, shared, &commit, tally)?;
     Ok(commit)
 }
@@ -255,12 +255,12 @@ fn share<J: Chapter + Numbering + Send + Sync, R: Wait + Threads + Sync>(
     rt: &R,
     alloc: Global,
     shared: Shared<MemDisk, J, &R>,
-    told: &mut Seer<J>,
-    untold: &mut Seer<J>,
+    informed: &mut Seer<J>,
+    uninformed: &mut Seer<J>,
     seers: Vec<Seer<J>>,
     tally: &mut Tally,
 ) -> io::Result<()> {
-    let commit = call(rt, alloc, &shared, told, untold, tally)?;
+    let commit = call(rt, alloc, &shared, informed, uninformed, tally)?;
     fail_to_listen(rt, alloc, &shared, seers, tally)?;
     let mut book = shared.close();
     confirm(&mut book, &commit, tally)
@@ -282,11 +282,19 @@ fn play<J: Chapter + Numbering + Send + Sync, R: Wait + Threads + Sync>(
         return Err(io::Error::from(ErrorKind::Other));
     };
     let shared = Shared::new(book, calls);
-    let (Some(mut told), Some(mut untold)) = (seers.pop(), seers.pop()) else {
+    let (Some(mut informed), Some(mut uninformed)) = (seers.pop(), seers.pop()) else {
         return Err(io::Error::from(ErrorKind::NotFound));
     };
-    share(rt, alloc, shared, &mut told, &mut untold, seers, tally)?;
-    judge_no_more(alloc, &mut untold, tally)
+    share(
+        rt,
+        alloc,
+        shared,
+        &mut informed,
+        &mut uninformed,
+        seers,
+        tally,
+    )?;
+    judge_no_more(alloc, &mut uninformed, tally)
 }
 
 /// The same over a new disk in memory.

@@ -35,29 +35,29 @@ fn connected<N: Net<Listener = TcpListener, Stream = TcpStream>>(
 }
 
 // Sends bytes, and reads as many as are wanted.
-fn told_next(
+fn next_reply(
     alloc: Global,
     stream: &mut TcpStream,
     bytes: &[u8],
     wanted: usize,
 ) -> io::Result<Vec<u8>> {
     stream.write_all(bytes)?;
-    let mut told = vec![in alloc; 0u8; wanted]?;
-    stream.read_exact(told.as_mut_slice())?;
-    Ok(told)
+    let mut reported = vec![in alloc; 0u8; wanted]?;
+    stream.read_exact(reported.as_mut_slice())?;
+    Ok(reported)
 }
 
 // Sends bytes and then no more, and reads all until the end.
-fn told_last(alloc: Global, stream: &mut TcpStream, bytes: &[u8]) -> io::Result<Vec<u8>> {
+fn last_reply(alloc: Global, stream: &mut TcpStream, bytes: &[u8]) -> io::Result<Vec<u8>> {
     stream.write_all(bytes)?;
     stream.shutdown(Shutdown::Write)?;
-    let mut told = Vec::new(alloc);
-    stream.read_to_end(&mut told)?;
-    Ok(told)
+    let mut reported = Vec::new(alloc);
+    stream.read_to_end(&mut reported)?;
+    Ok(reported)
 }
 
 // What a client is told: one of a number goes on behind its last row, `-` sends no more, and `!` closes.
-fn told_to<N: Net<Listener = TcpListener, Stream = TcpStream>>(
+fn client_reply<N: Net<Listener = TcpListener, Stream = TcpStream>>(
     net: &N,
     alloc: Global,
     server: &Watch,
@@ -77,15 +77,15 @@ fn told_to<N: Net<Listener = TcpListener, Stream = TcpStream>>(
     let place = number
         .checked_sub(1)
         .unwrap_or(clients.len().saturating_sub(1));
-    let told = match clients.get_mut(place) {
-        Some(stream) if client == "-" => told_last(alloc, stream, &sent)?,
-        Some(stream) => told_next(alloc, stream, &sent, wanted)?,
+    let reported = match clients.get_mut(place) {
+        Some(stream) if client == "-" => last_reply(alloc, stream, &sent)?,
+        Some(stream) => next_reply(alloc, stream, &sent, wanted)?,
         None => return Err(io::Error::from(ErrorKind::NotFound)),
     };
     if number == 0 {
         clients.pop();
     }
-    Ok(told)
+    Ok(reported)
 }
 
 // What comes of a row: a start of a client, or what a client of this program's own sends.
@@ -102,8 +102,8 @@ fn asked<N: Wait + Threads + Net<Listener = TcpListener, Stream = TcpStream> + S
         let line = case.line.replace(alloc, "@", address.as_str())?;
         return Ok(started(machine, rt, line.as_str(), &Watch::new(false))?);
     }
-    let told = told_to(machine, alloc, server, clients, case)?;
-    match String::from_utf8(told) {
+    let reported = client_reply(machine, alloc, server, clients, case)?;
+    match String::from_utf8(reported) {
         Ok(end) => Ok(Outcome {
             end,
             written: Vec::new(alloc),
@@ -130,7 +130,7 @@ fn ask_all<N: Wait + Threads + Net<Listener = TcpListener, Stream = TcpStream> +
 }
 
 /// Starts the server of a table, and plays all rows beside it. The last thing that is noted is how the server ended, which isn't a row.
-pub(crate) fn serve_each<
+pub(crate) fn play_beside_server<
     N: Wait + Threads + Net<Listener = TcpListener, Stream = TcpStream> + Sync,
 >(machine: &N, rt: &HostRuntime, table: &Table) -> io::Result<Tally> {
     let alloc = rt.alloc();

@@ -12,7 +12,8 @@ use pf_book::book::Book;
 use pf_book::shared::Shared;
 use pf_view::views;
 use pfd::{
-    Chapter, EngineFault, Gate, NewCalls, Numbering, Opening, Seer, serve, serve_asking, serve_peer,
+    Chapter, EngineFault, Gate, NewCalls, Numbering, Opening, Seer, answer_asking, serve,
+    serve_peer,
 };
 use std::alloc::{AllocError, Global};
 use std::marker::Brand;
@@ -96,7 +97,7 @@ impl<'a> Given<'a> {
 }
 
 // Serves a session, and appends what it is told.
-fn serve_given<J: Chapter + Numbering, R: Wait>(
+fn run_given<J: Chapter + Numbering, R: Wait>(
     rt: &R,
     alloc: Global,
     kind: Kind,
@@ -110,7 +111,7 @@ fn serve_given<J: Chapter + Numbering, R: Wait>(
     let reader = &mut Script::new(given.input.as_slice(), watch);
     let writer = &mut Tight::new(written, given.limits, watch);
     match kind {
-        Kind::Askers => serve_asking(rt, alloc, reader, writer, shared, seer, gate, SESSION),
+        Kind::Askers => answer_asking(rt, alloc, reader, writer, shared, seer, gate, SESSION),
         _ => serve(rt, alloc, reader, writer, shared, seer, gate, SESSION),
     }
 }
@@ -127,8 +128,17 @@ fn begin_with<J: Chapter + Numbering, R: Wait>(
         let input = line_bytes(alloc, text)?;
         let given = &Given { input, limits: "" };
         let gate = &Counting::new();
-        let told = &mut Vec::new(alloc);
-        let _ = serve_given(rt, alloc, Kind::Sessions, shared, seer, gate, given, told);
+        let reported = &mut Vec::new(alloc);
+        let _ = run_given(
+            rt,
+            alloc,
+            Kind::Sessions,
+            shared,
+            seer,
+            gate,
+            given,
+            reported,
+        );
     }
     Ok(())
 }
@@ -144,7 +154,7 @@ fn run_session<J: Chapter + Numbering, R: Wait>(
 ) -> Result<Outcome, AllocError> {
     let gate = Counting::new();
     let mut written = Vec::new(alloc);
-    let ended = serve_given(rt, alloc, kind, shared, seer, &gate, given, &mut written);
+    let ended = run_given(rt, alloc, kind, shared, seer, &gate, given, &mut written);
     let end = gate.end_of(alloc, ended)?;
     Ok(Outcome { end, written })
 }

@@ -40,12 +40,12 @@ fn words_of(alloc: Global, line: &str) -> Result<Vec<String>, AllocError> {
 }
 
 // The status, followed by what was written of faults.
-pub(crate) fn end_of(alloc: Global, status: u8, told: &[u8]) -> Result<String, AllocError> {
-    let told = std::str::from_utf8(told).unwrap_or("no text");
-    if told.is_empty() {
+pub(crate) fn end_of(alloc: Global, status: u8, reported: &[u8]) -> Result<String, AllocError> {
+    let reported = std::str::from_utf8(reported).unwrap_or("no text");
+    if reported.is_empty() {
         format!(in alloc; "{status}\n")
     } else {
-        format!(in alloc; "{status} {told}")
+        format!(in alloc; "{status} {reported}")
     }
 }
 
@@ -62,7 +62,7 @@ pub(crate) fn started<N: Wait + Threads + Net<Listener = TcpListener, Stream = T
     let words = words_of(alloc, words)?;
     let input = line_bytes(alloc, input)?;
     let mut written = Vec::new(alloc);
-    let mut told = Vec::new(alloc);
+    let mut reported = Vec::new(alloc);
     let mut reader = Script::new(input.as_slice(), watch);
     let mut writer = Tight::new(&mut written, limits, watch);
     let words = words.as_slice();
@@ -73,12 +73,12 @@ pub(crate) fn started<N: Wait + Threads + Net<Listener = TcpListener, Stream = T
         words,
         &mut reader,
         &mut writer,
-        &mut told,
+        &mut reported,
     );
     if status == 0 && watch.is_waiting() {
-        told.extend_from_slice(b"what was written waits to be flushed\n")?;
+        reported.extend_from_slice(b"what was written waits to be flushed\n")?;
     }
-    let end = end_of(alloc, status, told.as_slice())?;
+    let end = end_of(alloc, status, reported.as_slice())?;
     Ok(Outcome { end, written })
 }
 

@@ -15,7 +15,7 @@ use denote.Struct.Struct.{within}
 use denote.Struct.Owning.{shape}
 use Rattle.std.specs.Box.Ownership.{box_owns}
 use Rattle.std.specs.contracts.impls.GlobalAllocator.TheImpl.{ghosts}
-use Rattle.wirdalf_c.specs.Held.{heap, holds}
+use Rattle.wirdalf_c.specs.Owned.{heap, holds}
 use Rattle.pf_core.specs.Durable.Changes.{PlainDurable}
 use Rattle.wirdalf_c.specs.contracts.holding.Holding as holding
 use Rattle.wirdalf_c.specs.declared.configuration.Configuration.{Configuration}

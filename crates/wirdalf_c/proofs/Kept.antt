@@ -16,15 +16,15 @@ read_answered made bytes old new code place holds within unread (inr kept) = inr
 pub copied_answered : (made : Result PlainDurable ReadFault) (d : PlainDurable) (old new : Configuration) (code place : ℕ)
     → IfOk made (λ x. x ≡ d) → IfErr made (λ e. e ≡ Memory) → IsKept made old new code place ⊎ IsKept (Err Memory) old new code place → IsCopied d old new code
 copied_answered (Ok x) d old new code place is out (inl kept) = inl (rw (← is) kept)
-copied_answered (Err e) d old new code place is out (inl kept) = let told : IsKept (Err Memory) old new code place = rw out at kept in inr (told.0, told.1)
+copied_answered (Err e) d old new code place is out (inl kept) = let reported : IsKept (Err Memory) old new code place = rw out at kept in inr (reported.0, reported.1)
 copied_answered made d old new code place is out (inr kept) = inr (kept.0, kept.1)
 
-pub unread_told : (e : OpenFault) (bytes : List ℕ) → IsUnopened e bytes → IsUnread (unread e) bytes
-unread_told opening.BadSize bytes is = is
-unread_told opening.NoBank bytes is = is
-unread_told (opening.Corrupt at) bytes is = is
-unread_told opening.Memory bytes is = tt
-unread_told opening.Fault bytes is = tt
-unread_told opening.EpochsExhausted bytes is = tt
-unread_told opening.Full bytes is = tt
-unread_told opening.Places bytes is = tt
+pub unread_reported : (e : OpenFault) (bytes : List ℕ) → IsUnopened e bytes → IsUnread (unread e) bytes
+unread_reported opening.BadSize bytes is = is
+unread_reported opening.NoBank bytes is = is
+unread_reported (opening.Corrupt at) bytes is = is
+unread_reported opening.Memory bytes is = tt
+unread_reported opening.Fault bytes is = tt
+unread_reported opening.EpochsExhausted bytes is = tt
+unread_reported opening.Full bytes is = tt
+unread_reported opening.Places bytes is = tt

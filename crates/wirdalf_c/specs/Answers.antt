@@ -5,12 +5,12 @@ use Rattle.pf_addr.specs.{declared.addr.Addr.Addr, Path.{Names.table_name_of, Pa
 use Rattle.pf_table.specs.{Entries.PlainEntry, Tables.deciding}
 use Rattle.pf_core.specs.{Durable.Changes.{PlainDurable, entries_at, verdict}, Laws.Durable.IsWithin}
 use Rattle.pf_store.specs.Stores.{Holds}
-use Rattle.wirdalf_c.specs.{Codes.{code_of, line_code, place_of}, Images.IsUnread, Lines.{AreMade, reply_of}, Packets.{address_in, is_family, packet_in}, Verdicts.IsTold}
+use Rattle.wirdalf_c.specs.{Codes.{code_of, line_code, place_of}, Images.IsUnread, Lines.{AreMade, reply_of}, Packets.{address_in, is_family, packet_in}, Verdicts.SaysVerdict}
 use Rattle.wirdalf_c.specs.declared.{configuration.Configuration.Configuration, fault.ReadFault.ReadFault, fault.TheConstants.{OK, MEMORY}, judging.TheConstants.{NO_ENTRY, IN_TABLE, NEGATED, BAD_NAME}, lines.LineFault.LineFault, record.CountsRecord.CountsRecord, record.FaultRecord.FaultRecord, record.PacketRecord.PacketRecord, record.TheConstants.REPLY_LIMIT, record.VerdictRecord.VerdictRecord}
 
 -- The record of a verdict is that on the packet of another record; there is none if that says no packet.
 unfoldable pub IsJudged : PlainDurable → PacketRecord → VerdictRecord → Type 0
-IsJudged d packet v = IsTold v (option_map (verdict d) (packet_in packet))
+IsJudged d packet v = SaysVerdict v (option_map (verdict d) (packet_in packet))
 
 -- The counts are these.
 pub record AreCounts (d : PlainDurable) (c : CountsRecord) : Type 0 where
@@ -63,7 +63,7 @@ IsCopied d old new code = ((new.held ≡ Some d) × (code ≡ OK)) ⊎ ((new ≡
 -- ---- lines
 
 -- C's record tells the fault: the number of the line, and what pfd replies to it, as far as there is room, with a zero behind it.
-pub record IsFaultTold (fault : LineFault) (returned : ℕ) (r : FaultRecord) : Type 0 where
+pub record SaysFault (fault : LineFault) (returned : ℕ) (r : FaultRecord) : Type 0 where
   pub code : returned ≡ line_code fault.why
   pub line : r.line ≡ fault.line
   pub reply_length : r.reply_length ≡ min REPLY_LIMIT (length (reply_of fault.why))
@@ -74,4 +74,4 @@ pub record IsFaultTold (fault : LineFault) (returned : ℕ) (r : FaultRecord) : 
 abbrev pub IsLined : List ℕ → (old new : Configuration) → (code : ℕ) → FaultRecord → Type 0
 IsLined text old new code r =
     ((d : PlainDurable) × AreMade text (Ok d) × (new.held ≡ Some d) × (code ≡ OK))
-    ⊎ ((fault : LineFault) × AreMade text (Err fault) × (new ≡ old) × IsFaultTold fault code r)
+    ⊎ ((fault : LineFault) × AreMade text (Err fault) × (new ≡ old) × SaysFault fault code r)

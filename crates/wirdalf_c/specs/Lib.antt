@@ -1,6 +1,6 @@
 pub mod Answers
 pub mod Codes
-pub mod Held
+pub mod Owned
 pub mod Images
 pub mod Lending
 pub mod Lines

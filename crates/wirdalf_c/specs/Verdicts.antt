@@ -48,5 +48,5 @@ pub record HasFields (v : VerdictRecord) (fields : Fields) : Type 0 where
   pub zero : slice_get v.path v.path_length ≡ Some 0
 
 -- The record says this verdict, or that there is none.
-unfoldable pub IsTold : VerdictRecord → Option Verdict → Type 0
-IsTold v verdict = HasFields v (fields_of verdict)
+unfoldable pub SaysVerdict : VerdictRecord → Option Verdict → Type 0
+SaysVerdict v verdict = HasFields v (fields_of verdict)

@@ -1,7 +1,7 @@
 //! What C has of a configuration: a pointer to what is kept, in a box of its own.
 ghost use Rattle.std.specs.{Prelude.{◌≡◌, Option, Some, IsSome}, Coded.coded_option};
 ghost use Rattle.pf_core.specs.Durable.Changes.{PlainDurable};
-ghost use Rattle.wirdalf_c.specs.{Held.{holds}, contracts.holding.Holding.the_row};
+ghost use Rattle.wirdalf_c.specs.{Owned.{holds}, contracts.holding.Holding.the_row};
 
 use crate::holding::Holding;
 use crate::loose::Loose;

@@ -21,7 +21,7 @@ pub fn read_image(alloc: Global, bytes: &[u8]) -> Result<Durable, ReadFault>
     };
     match Store::peek(alloc, &mut disk) {
         Ok(durable) => Ok(durable),
-        Err(fault) => Err(told(fault)),
+        Err(fault) => Err(as_read_fault(fault)),
     }
 }
 
@@ -34,7 +34,7 @@ fn disk_of(alloc: Global, bytes: &[u8]) -> Result<MemDisk, AllocError>
 }
 
 // A call of a disk in memory fails only if there is no memory to note it. An opening's own faults don't come here.
-fn told(fault: OpenFault) -> ReadFault
+fn as_read_fault(fault: OpenFault) -> ReadFault
     ensures { result ≡ unread fault }
 {
     match fault {

@@ -2,7 +2,7 @@
 ghost use Rattle.std.specs.Prelude.{◌≡◌, ◌⊎◌, take, length, min, slice_get, Some, IfOk};
 ghost use Rattle.wirdalf_c.specs.declared.lines.LineRefusal.TheVariants.{Memory};
 ghost use Rattle.wirdalf_c.specs.declared.lines.LineFault.{LineFault};
-ghost use Rattle.wirdalf_c.specs.{Answers.IsFaultTold, Codes.line_code, Lines.reply_of};
+ghost use Rattle.wirdalf_c.specs.{Answers.SaysFault, Codes.line_code, Lines.reply_of};
 ghost use Rattle.pf_line.specs.Reply.Replies.{refusal_text};
 
 use crate::fault::{MEMORY, REFUSED, UNFIT};
@@ -27,7 +27,7 @@ impl LineRefusal {
 
 /// Tells of a line that isn't done, or, out of memory for what `pfd` replies to it, that memory ran out. Returns what C gets.
 pub fn tell_fault(alloc: Global, fault: LineFault, to: &mut FaultRecord) -> u32
-    ensures { (told : LineFault) × ((told ≡ fault) ⊎ (told.why ≡ Memory)) × IsFaultTold told result to.new }
+    ensures { (reported : LineFault) × ((reported ≡ fault) ⊎ (reported.why ≡ Memory)) × SaysFault reported result to.new }
 {
     match reply_of(alloc, fault.why) {
         Ok(text) => tell(fault, &text, to),
@@ -44,7 +44,7 @@ pub fn tell_fault(alloc: Global, fault: LineFault, to: &mut FaultRecord) -> u32
 // Tells of a line to which `pfd` replies this.
 fn tell(fault: LineFault, text: &[u8], to: &mut FaultRecord) -> u32
     requires { text.now ≡ reply_of fault.why }
-    ensures { IsFaultTold fault result to.new }
+    ensures { SaysFault fault result to.new }
 {
     to.line = fault.line;
     to.reply_length = tell_text(text, &mut to.reply);

@@ -102,7 +102,7 @@ fn do_line(alloc: Global, core: &mut Core, line: &[u8]) -> Result<(), LineRefusa
     match parse_line(alloc, line) {
         Ok(None) => Ok(()),
         Ok(Some(request)) => do_request(core, &request),
-        Err(refusal) => Err(told(refusal)),
+        Err(refusal) => Err(line_refusal(refusal)),
     }
 }
 
@@ -143,12 +143,12 @@ fn do_command(core: &mut Core, command: &Command) -> Result<(), LineRefusal>
             core.accept(next);
             Ok(())
         }
-        Err(refusal) => Err(told(refusal)),
+        Err(refusal) => Err(line_refusal(refusal)),
     }
 }
 
 // That `pfd` refuses a line like this.
-fn told(refusal: Refusal) -> LineRefusal
+fn line_refusal(refusal: Refusal) -> LineRefusal
     ensures memory { refusal ≡ refusals.Memory → result ≡ Memory }
     ensures refused { result ≢ Memory → result ≡ Refused refusal }
 {

@@ -2,7 +2,7 @@
 ghost use Rattle.std.specs.Prelude.{◌≡◌, take, slice_get, None, Some, length};
 ghost use Rattle.pf_core.specs.declared.durable.verdict.Verdict.TheVariants.{State as Stateful, Rules};
 ghost use Rattle.pf_anchor.specs.declared.verdict.RuleVerdict.TheVariants as ruled;
-ghost use Rattle.wirdalf_c.specs.Verdicts.{HasFields, IsTold, action_code, keeps_code, only};
+ghost use Rattle.wirdalf_c.specs.Verdicts.{HasFields, SaysVerdict, action_code, keeps_code, only};
 
 use crate::record::{BLOCK, BY_DEFAULT, BY_NOTHING, BY_RULE, BY_STATE, PASS, VerdictRecord};
 use pf_addr::path::Path;
@@ -11,17 +11,17 @@ use pf_rule::Action;
 use pf_state::StateName;
 
 /// Writes that there is no verdict, since no packet was said.
-#[tactic(auto, unfolding(crate::specs::Verdicts::IsTold))]
+#[tactic(auto, unfolding(crate::specs::Verdicts::SaysVerdict))]
 pub fn tell_nothing(to: &mut VerdictRecord)
-    ensures { IsTold to.new None }
+    ensures { SaysVerdict to.new None }
 {
     tell_short(BY_NOTHING, BLOCK, to);
 }
 
 /// Writes what the rules say.
-#[tactic(auto, unfolding(crate::specs::Verdicts::IsTold))]
+#[tactic(auto, unfolding(crate::specs::Verdicts::SaysVerdict))]
 pub fn tell_rules(verdict: RuleVerdict, to: &mut VerdictRecord)
-    ensures { IsTold to.new (Some (Rules verdict)) }
+    ensures { SaysVerdict to.new (Some (Rules verdict)) }
 {
     // (by reference, so that the path isn't copied)
     match &verdict {
@@ -50,18 +50,18 @@ fn tell_short(by: u8, action: u8, to: &mut VerdictRecord)
 }
 
 /// Writes that a state passes the packet.
-#[tactic(auto, unfolding(crate::specs::Verdicts::IsTold))]
+#[tactic(auto, unfolding(crate::specs::Verdicts::SaysVerdict))]
 pub fn tell_state(name: StateName, to: &mut VerdictRecord)
-    ensures { IsTold to.new (Some (Stateful name)) }
+    ensures { SaysVerdict to.new (Some (Stateful name)) }
 {
     tell_short(BY_STATE, PASS, to);
     to.state_id = name.id;
     to.state_creator = name.creator;
 }
 
-#[tactic(auto, unfolding(crate::specs::Verdicts::IsTold))]
+#[tactic(auto, unfolding(crate::specs::Verdicts::SaysVerdict))]
 fn tell_rule(path: &Path, number: u32, action: Action, to: &mut VerdictRecord)
-    ensures { IsTold to.new (Some (Rules (ruled.Rule path.now number action))) }
+    ensures { SaysVerdict to.new (Some (Rules (ruled.Rule path.now number action))) }
 {
     let (does, keeps_state) = codes_of(action);
     tell_short(BY_RULE, does, to);

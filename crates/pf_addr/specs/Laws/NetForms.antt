@@ -10,8 +10,8 @@ network f len front = record { family = f; len = len; front = front }
 below : (size len front : ℕ) → len ≤ size → front < 2 ^ len → front * 2 ^ (size - len) < 2 ^ size
 below size len front le lt = let sum : len + (size - len) ≡ size = omega arith in rw sum at (shl_below front len (size - len) lt)
 
-zeros_behind : (front host : ℕ) → ends_in_zeros host (front * 2 ^ host) ≡ true
-zeros_behind front host = eq-eqb (front * 2 ^ host / 2 ^ host * 2 ^ host) (front * 2 ^ host) (ap (λ (m : ℕ). m * 2 ^ host) (shl-shr front host))
+zeros_after : (front host : ℕ) → ends_in_zeros host (front * 2 ^ host) ≡ true
+zeros_after front host = eq-eqb (front * 2 ^ host / 2 ^ host * 2 ^ host) (front * 2 ^ host) (ap (λ (m : ℕ). m * 2 ^ host) (shl-shr front host))
 
 pub family_fits : (f : Family) → Fits family (family_byte f)
 unfolding family
@@ -33,8 +33,8 @@ address_fits n is = by n.family is.len where
 pub network_is : (n : PlainNet) → IsNetwork n → is_network (family_byte n.family) n.len (first_number n) ≡ true
 network_is n is = by n.family is.len where
   by : (f : Family) → n.len ≤ width f → is_network (family_byte f) n.len (first_number (network f n.len n.front)) ≡ true
-  by V4 le = rw (le-leb n.len 32 le) (zeros_behind n.front (32 - n.len))
-  by V6 le = rw (le-leb n.len 128 le) (zeros_behind n.front (128 - n.len))
+  by V4 le = rw (le-leb n.len 32 le) (zeros_after n.front (32 - n.len))
+  by V6 le = rw (le-leb n.len 128 le) (zeros_after n.front (128 - n.len))
 
 pub network_again : (n : PlainNet) → network_at (family_byte n.family) n.len (first_number n) ≡ n
 network_again n = by n.family n.len n.front where

@@ -33,9 +33,9 @@ pub net_same : IsAntisymmetric net_order
 unfolding net_order
 net_same x y e =
     let family = one_rank x.family y.family (nat_cmp-IsAntisymmetric (rank x.family) (rank y.family) (first_tied _ _ e)) in
-    let behind = then_tied _ _ e in
-    let first = nat_cmp-IsAntisymmetric (first_number x) (first_number y) (first_tied _ _ behind) in
-    let len = nat_cmp-IsAntisymmetric x.len y.len (then_tied _ _ behind) in
+    let following = then_tied _ _ e in
+    let first = nat_cmp-IsAntisymmetric (first_number x) (first_number y) (first_tied _ _ following) in
+    let len = nat_cmp-IsAntisymmetric x.len y.len (then_tied _ _ following) in
     let front = one_front x.front y.front (width y.family - y.len) (ap (λ (k : ℕ). x.front * 2 ^ k) (λ i. width (sym family i) - sym len i)
     ∙ first) in
     λ i. record { family = family i; len = len i; front = front i }

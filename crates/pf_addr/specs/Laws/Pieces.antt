@@ -118,11 +118,11 @@ has_between c (b ∷ bs) lt = by (position (λ x. x == c) (b ∷ bs)) refl where
   by (Some i) e = rw e refl
   by None e = absurd (omega (arith, lt, ap length (split_none (λ x. x == c) (b ∷ bs) e)))
 
-pub has_there : (c : ℕ) (front behind : List ℕ) → has c (front ++ c ∷ behind) ≡ true
-has_there c front behind = by (position (λ x. x == c) (front ++ c ∷ behind)) refl where
-  by : (o : Option ℕ) → position (λ x. x == c) (front ++ c ∷ behind) ≡ o → has c (front ++ c ∷ behind) ≡ true
+pub has_there : (c : ℕ) (front following : List ℕ) → has c (front ++ c ∷ following) ≡ true
+has_there c front following = by (position (λ x. x == c) (front ++ c ∷ following)) refl where
+  by : (o : Option ℕ) → position (λ x. x == c) (front ++ c ∷ following) ≡ o → has c (front ++ c ∷ following) ≡ true
   by (Some i) e = rw e refl
   by None e =
-      let none = first_none (λ x. x == c) (front ++ c ∷ behind) e (length front) 0 (omega (arith, length-append front (c ∷ behind))) in
-      let here = rw (get_or_at front c behind 0 (length front) refl) at none in
+      let none = first_none (λ x. x == c) (front ++ c ∷ following) e (length front) 0 (omega (arith, length-append front (c ∷ following))) in
+      let here = rw (get_or_at front c following 0 (length front) refl) at none in
       absurd (let same : (c == c) ≡ true = grind (arith, nat_tests) in cc)

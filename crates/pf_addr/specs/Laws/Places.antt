@@ -43,9 +43,9 @@ none_first p text none =
 pub no_place : (c : ℕ) (text : List ℕ) → without c text → position (λ b. b == c) text ≡ None
 no_place c text none = none_first (λ b. b == c) text none
 
-pub place_after : (c : ℕ) (front behind : List ℕ) → without c front → position (λ b. b == c) (front ++ c ∷ behind) ≡ Some (length front)
-place_after c front behind none =
-    let size : length front < length (front ++ c ∷ behind) = omega (arith, length-append front (c ∷ behind)) in
+pub place_after : (c : ℕ) (front following : List ℕ) → without c front → position (λ b. b == c) (front ++ c ∷ following) ≡ Some (length front)
+place_after c front following none =
+    let size : length front < length (front ++ c ∷ following) = omega (arith, length-append front (c ∷ following)) in
     let same : (c == c) ≡ true = grind (arith, nat_tests) in
-    let at : position_or_len (λ b. b == c) (front ++ c ∷ behind) ≡ length front = position_or_len_is (λ b. b == c) (front ++ c ∷ behind) (length front) 0 (omega arith) (λ k lt. rw (get_or_append_left front (c ∷ behind) 0 k lt) (none k 0 lt)) (λ lt. rw (get_or_at front c behind 0 (length front) refl) same) in
+    let at : position_or_len (λ b. b == c) (front ++ c ∷ following) ≡ length front = position_or_len_is (λ b. b == c) (front ++ c ∷ following) (length front) 0 (omega arith) (λ k lt. rw (get_or_append_left front (c ∷ following) 0 k lt) (none k 0 lt)) (λ lt. rw (get_or_at front c following 0 (length front) refl) same) in
     grind (arith, nat_tests)

@@ -170,8 +170,8 @@ ended_without c text groups out is = pieces_bytes (λ b. (b == c) ≡ false) 58 
 abbrev at_gap : List ℕ → List ℕ → List ℕ
 at_gap front back = front ++ 58 ∷ 58 ∷ back
 
-pub behind_gap : (front back : List ℕ) → drop (length front + 2) (at_gap front back) ≡ back
-behind_gap front back = ap (drop (length front + 2)) (sym (append_assoc front (58 ∷ 58 ∷ []) back)) ∙ drop_at (front ++ 58 ∷ 58 ∷ []) back (length front + 2) (length-append front (58 ∷ 58 ∷ []))
+pub after_gap : (front back : List ℕ) → drop (length front + 2) (at_gap front back) ≡ back
+after_gap front back = ap (drop (length front + 2)) (sym (append_assoc front (58 ∷ 58 ∷ []) back)) ∙ drop_at (front ++ 58 ∷ 58 ∷ []) back (length front + 2) (length-append front (58 ∷ 58 ∷ []))
 
 v6_read : (text : List ℕ) (n : ℕ) → SpellsV6 text n → v6_at text ≡ Ok n
 unfolding v6_at
@@ -179,11 +179,11 @@ v6_read text n is = by is.spelled where
   by : EndGrouped is.groups text ⊎ Shortened is.groups text → v6_at text ≡ Ok n
   by (inl whole) = rw (no_gap text (ended_clean text is.groups whole), ended_read 0 text is.groups whole, eq-eqb (length is.groups) 8 is.eight) (ap (λ (k : ℕ). Ok k) (sym is.value))
   by (inr short) =
-      let size : length is.groups ≡ length short.before + short.zeros + length short.behind = ap length short.value ∙ simp (length-append, length-replicate) in
-      let few : length short.before + length short.behind ≤ 7 = omega (arith, size, is.eight, short.some) in
-      let zeros : short.zeros ≡ 8 - (length short.before + length short.behind) = omega (arith, size, is.eight) in
-      let number : n ≡ v6_number (short.before ++ replicate (8 - (length short.before + length short.behind)) 0 ++ short.behind) = is.value ∙ ap v6_number short.value ∙ ap (λ (k : ℕ). v6_number (short.before ++ replicate k 0 ++ short.behind)) zeros in
-      rw (short.cut, gap_after short.front short.back (ended_clean short.front short.before (inl short.grouped)), take_at short.front (58 ∷ 58 ∷ short.back) (length short.front) refl, behind_gap short.front short.back, grouped_read false 0 short.front short.before short.grouped, ended_read (length short.front + 2) short.back short.behind short.ended, le-leb (length short.before + length short.behind) 7 few) (ap (λ (k : ℕ). Ok k) (sym number))
+      let size : length is.groups ≡ length short.before + short.zeros + length short.following = ap length short.value ∙ simp (length-append, length-replicate) in
+      let few : length short.before + length short.following ≤ 7 = omega (arith, size, is.eight, short.some) in
+      let zeros : short.zeros ≡ 8 - (length short.before + length short.following) = omega (arith, size, is.eight) in
+      let number : n ≡ v6_number (short.before ++ replicate (8 - (length short.before + length short.following)) 0 ++ short.following) = is.value ∙ ap v6_number short.value ∙ ap (λ (k : ℕ). v6_number (short.before ++ replicate k 0 ++ short.following)) zeros in
+      rw (short.cut, gap_after short.front short.back (ended_clean short.front short.before (inl short.grouped)), take_at short.front (58 ∷ 58 ∷ short.back) (length short.front) refl, after_gap short.front short.back, grouped_read false 0 short.front short.before short.grouped, ended_read (length short.front + 2) short.back short.following short.ended, le-leb (length short.before + length short.following) 7 few) (ap (λ (k : ℕ). Ok k) (sym number))
 
 v6_found : (text : List ℕ) (n : ℕ) → v6_at text ≡ Ok n → SpellsV6 text n
 unfolding v6_at
@@ -209,7 +209,7 @@ v6_found text n e = by (gap text) refl e where
                 front = take i text;
                 back = drop (i + 2) text;
                 before = fs;
-                behind = bs;
+                following = bs;
                 zeros = 8 - (length fs + length bs);
                 cut = gap_cut text i h;
                 grouped = grouped_found 0 (take i text) fs read;
@@ -281,7 +281,7 @@ addr_without c fewest text (addr.V6 n) out is = by is.spelled where
   by : EndGrouped is.groups text ⊎ Shortened is.groups text → without c text
   by (inl whole) = ended_without c text is.groups out whole
   by (inr short) =
-      let others = All-cons (λ b. (b == c) ≡ false) 58 (58 ∷ short.back) out.colon (All-cons (λ b. (b == c) ≡ false) 58 short.back out.colon (ended_without c short.back short.behind out short.ended)) in
+      let others = All-cons (λ b. (b == c) ≡ false) 58 (58 ∷ short.back) out.colon (All-cons (λ b. (b == c) ≡ false) 58 short.back out.colon (ended_without c short.back short.following out short.ended)) in
       rw short.cut (All-append (λ b. (b == c) ≡ false) short.front (58 ∷ 58 ∷ short.back) (ended_without c short.front short.before out (inl short.grouped)) others)
 
 pub no_slash : (fewest : ℕ) (text : List ℕ) (a : Addr) → Spells fewest text a → without 47 text
@@ -327,11 +327,11 @@ net_if_ok text (Ok n) e = net_found text n (sym e)
 net_if_ok text (Err f) e = tt
 
 -- what comes after a text and one byte more
-pub behind : (front digits : List ℕ) → drop (length front + 1) (front ++ 47 ∷ digits) ≡ digits
-behind front digits = ap (drop (length front + 1)) (sym (append_assoc front (47 ∷ []) digits)) ∙ drop_at (front ++ 47 ∷ []) digits (length front + 1) (length-append front (47 ∷ []))
+pub after_slash : (front digits : List ℕ) → drop (length front + 1) (front ++ 47 ∷ digits) ≡ digits
+after_slash front digits = ap (drop (length front + 1)) (sym (append_assoc front (47 ∷ []) digits)) ∙ drop_at (front ++ 47 ∷ []) digits (length front + 1) (length-append front (47 ∷ []))
 
 pub net_only : (text : List ℕ) (net : PlainNet) → SpellsNet text net → net_at text ≡ Ok net
 unfolding SpellsNet SpellsAddr
 net_only text net (inl (a, spelled, is)) = rw (no_place 47 text (no_slash 4 text a spelled), addr_only text a spelled, is) refl
 net_only text net (inr is) =
-    rw (is.cut, place_after 47 is.front is.digits (no_slash 1 is.front is.first is.address), take_at is.front (47 ∷ is.digits) (length is.front) refl, behind is.front is.digits, address_read 1 is.front is.first (omega arith) is.address, small_read (width (family_of is.first)) is.digits is.len is.number, is.value) refl
+    rw (is.cut, place_after 47 is.front is.digits (no_slash 1 is.front is.first is.address), take_at is.front (47 ∷ is.digits) (length is.front) refl, after_slash is.front is.digits, address_read 1 is.front is.first (omega arith) is.address, small_read (width (family_of is.first)) is.digits is.len is.number, is.value) refl

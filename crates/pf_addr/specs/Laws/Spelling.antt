@@ -143,7 +143,7 @@ v6_below text n is =
       by (inr short) =
           let zeros = All-replicate (λ g. g < 65536) short.zeros 0 (omega arith) in
           let front = All-append (λ g. g < 65536) short.before (replicate short.zeros 0) (grouped_low short.front short.before short.grouped) zeros in
-          rw short.value (All-append (λ g. g < 65536) (short.before ++ replicate short.zeros 0) short.behind front (ended_low short.back short.behind short.ended))
+          rw short.value (All-append (λ g. g < 65536) (short.before ++ replicate short.zeros 0) short.following front (ended_low short.back short.following short.ended))
 
 -- ---- an address
 
@@ -289,5 +289,5 @@ net_text_is_word net is =
     let a : Addr = first_addr net in
     let size = length-append (addr_text a) (length_text net) in
     let address = addr_length a in
-    let behind = length_bytes net is in
-    record { some = omega (arith, size, address.0); few = omega (arith, size, address.1, behind.1); bytes = All-append IsNetByte (addr_text a) (length_text net) (addr_bytes a) behind.0 }
+    let following = length_bytes net is in
+    record { some = omega (arith, size, address.0); few = omega (arith, size, address.1, following.1); bytes = All-append IsNetByte (addr_text a) (length_text net) (addr_bytes a) following.0 }

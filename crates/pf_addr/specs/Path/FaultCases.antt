@@ -21,7 +21,7 @@ IsComponentFault c BadProto = ⊥
 -- good, and there are too many.
 pub data IsFaultWithin (limit : ℕ) (text names : Word) (kind : Kind) : Type 0 where
   too_long : limit < length text → kind ≡ NameTooLong → IsFaultWithin limit text names kind
-  bad_component : length text ≤ limit → (front behind : List (List ℕ)) → (c : List ℕ) → components names ≡ front ++ c ∷ behind
+  bad_component : length text ≤ limit → (front following : List (List ℕ)) → (c : List ℕ) → components names ≡ front ++ c ∷ following
       → AllByRecursion IsComponent front → IsComponentFault c kind → IsFaultWithin limit text names kind
   too_deep : length text ≤ limit → AllByRecursion IsComponent (components names) → DEPTH_LIMIT < length (components names)
       → kind ≡ NameTooLong → IsFaultWithin limit text names kind

@@ -21,8 +21,8 @@ abbrev pub ending : Word
 ending = codes "/*"
 
 -- what comes after this front of a text
-abbrev pub behind : Word → Word → Option Word
-behind front text = if bytes_eq (take (length front) text) front then Some (drop (length front) text) else None
+abbrev pub rest_after : Word → Word → Option Word
+rest_after front text = if bytes_eq (take (length front) text) front then Some (drop (length front) text) else None
 
 -- what comes before this end of a text
 abbrev pub before : Word → Word → Option Word
@@ -30,7 +30,7 @@ before end text = if bytes_eq (drop (length text - length end) text) end then So
 
 -- what is between two quotes, or else the word
 abbrev pub unquoted : Word → Word
-unquoted w = option_map_or (λ text. text) (option_and_then (before quote) (behind quote w)) w
+unquoted w = option_map_or (λ text. text) (option_and_then (before quote) (rest_after quote w)) w
 
 -- the names before "/*", or else the whole text
 abbrev pub split_wildcard : Word → PlainReference

@@ -55,8 +55,8 @@ pub fn paths_stand_within_one_another()
 {}
 
 /// A word that isn't a name, a path or a reference is refused for the one fault that it has, by cases on the word.
-#[tactic(auto, using(crate::proofs::NameFaultsTold::all_told))]
-pub fn faults_of_names_are_told()
+#[tactic(auto, using(crate::proofs::NameFaultsReported::all_reported))]
+pub fn faults_of_names_are_reported()
     ensures names { (limit : ℕ) → TellsFaults (name_of limit) (IsNameFault limit) }
     ensures paths { TellsFaults path_of IsPathFault }
     ensures references { TellsFaults reference_of IsReferenceFault }

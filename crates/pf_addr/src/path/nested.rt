@@ -31,7 +31,7 @@ fn is_single(text: &[u8]) -> bool
 }
 
 // What comes after the front of a text.
-fn behind<'a>(text: &'a [u8], front: &[u8]) -> Option<&'a [u8]>
+fn rest_after<'a>(text: &'a [u8], front: &[u8]) -> Option<&'a [u8]>
     ensures { MatchOption result ((rest : List ℕ) → text.now ≢ front.now ++ rest) (λ rest. text.now ≡ front.now ++ rest.now) }
 {
     text.strip_prefix(front)
@@ -79,10 +79,10 @@ impl Path {
         if outer.is_empty() {
             return is_single(bytes);
         }
-        let Some(rest) = behind(bytes, outer) else {
+        let Some(rest) = rest_after(bytes, outer) else {
             return false;
         };
-        let Some(name) = behind(rest, b"/") else {
+        let Some(name) = rest_after(rest, b"/") else {
             return false;
         };
         is_single(name)

@@ -96,8 +96,8 @@ impl Reference {
 pub fn unquoted(word: &[u8]) -> &[u8]
     ensures { result.now ≡ unquoted word.now }
 {
-    let behind = word.strip_prefix(b"\"".as_slice());
-    behind
+    let following = word.strip_prefix(b"\"".as_slice());
+    following
         .and_then(|rest| rest.strip_suffix(b"\"".as_slice()))
         .unwrap_or(word)
 }

@@ -31,23 +31,23 @@ decides r = elim r.effect [ Decide _ ↦ true | Evaluate _ ↦ false ]
 -- the rule with this number matches, no quick rule before it does, and it is quick or no later rule matches
 pub record IsDeciding (test : PlainRule → Bool) (rules : List PlainRule) (number : ℕ) (rule : PlainRule) : Type 0 where
   pub before : List PlainRule
-  pub behind : List PlainRule
-  pub all : rules ≡ before ++ rule ∷ behind
+  pub following : List PlainRule
+  pub all : rules ≡ before ++ rule ∷ following
   pub numbered : number ≡ length before
   pub matches : test rule ≡ true
   pub not_ended : list_all (λ r. not (test r && r.quick)) before ≡ true
-  pub stands : (rule.quick ≡ true) ⊎ (list_any test behind ≡ false)
+  pub stands : (rule.quick ≡ true) ⊎ (list_any test following ≡ false)
 
 -- none of the main ruleset's rules matches, and the verdict is the default; or one decides, and the verdict has its number and what it does
-abbrev pub IsToldOfMain : PlainConfig → PlainPacket → Type 0
-IsToldOfMain c packet =
+abbrev pub IsVerdictOfMain : PlainConfig → PlainPacket → Type 0
+IsVerdictOfMain c packet =
     ((list_any (matching c.tables packet main) (rules_at main c.rulesets) ≡ false) × (judged c packet ≡ by.Default))
     ⊎ ((n : ℕ) × ((r : PlainRule) × ((a : Action) × (IsDeciding (matching c.tables packet main) (rules_at main c.rulesets) n r
     × (r.effect ≡ Decide a) × (judged c packet ≡ by.Rule main n a)))))
 
 -- so it is if the main ruleset has no anchor rule
 abbrev pub TellsWhatDecides : Type 0
-TellsWhatDecides = (c : PlainConfig) (packet : PlainPacket) → list_all decides (rules_at main c.rulesets) ≡ true → IsToldOfMain c packet
+TellsWhatDecides = (c : PlainConfig) (packet : PlainPacket) → list_all decides (rules_at main c.rulesets) ≡ true → IsVerdictOfMain c packet
 
 -- ---- a rule that matches, before other rules; f is what each ruleset gives
 
@@ -153,8 +153,8 @@ AnchorsNeverDecide = (c : List PlainPlaced) (tests : Tests) (e : PlainPlaced) �
     Holds (λ m. (t : PlainPlaced) × (IsIn t c × IsDecidedBy tests m t)) (evaluation c tests e)
 
 -- the rule of a verdict is at its path and number, matches the packet, and does what the verdict says
-abbrev pub ToldRuleDecides : Type 0
-ToldRuleDecides = (c : PlainConfig) (packet : PlainPacket) (p : List ℕ) (n : ℕ) (a : Action) →
+abbrev pub VerdictRuleDecides : Type 0
+VerdictRuleDecides = (c : PlainConfig) (packet : PlainPacket) (p : List ℕ) (n : ℕ) (a : Action) →
     IsMap c.rulesets → judged c packet ≡ by.Rule p n a →
     (r : PlainRule) × ((rule_numbered (rules_at p c.rulesets) n ≡ Some r) × (matching c.tables packet p r ≡ true)
     × (r.effect ≡ Decide a))

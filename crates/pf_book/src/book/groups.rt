@@ -1,18 +1,16 @@
 //! Groups of commands, whose changes are kept together.
-ghost use Rattle.std.specs.{Arc.arc_value, List.list_all, Prelude.{◌≡◌, ◌+◌, ◌≤◌, ◌↔◌, ◌++◌, ◌∷◌, [], ℕ, List, Ok, Err, true, false, IfOk, IfErr, IsTrue, OnOk, length, map, take, nat_lt, fold}};
+ghost use Rattle.std.specs.{Arc.arc_value, Prelude.{◌≡◌, ◌↔◌, ◌++◌, ◌∷◌, [], ℕ, List, Err, IfOk, IfErr, IsTrue, length, map, take, nat_lt, fold}};
 ghost use Rattle.pf_disk.specs.Disk.{IsImage};
 ghost use Rattle.pf_core.specs.Refusing.{and_then, unless};
-ghost use Rattle.pf_core.specs.declared.reply.Refusal.TheVariants as told;
-ghost use Rattle.pf_core.specs.{Calls.replies_in, Commands.group_words, Durable.Changes.{PlainDurable, after}, WorldBooks.{IsAt, IsFolded, StandsFor, LeadsGroup}, Worlds.{CurrentOpening, idle, grouping, upshot, Event, called_group, changes_due, is_fault, is_halted, flat, LegalReplies, shown_by}};
-ghost use Rattle.pf_store.specs.{Groups.{can_be_wanted, is_group, made_all}, Stores.{FollowInTurn, HoldsEither}};
-ghost use Rattle.pf_book.specs.Courses.{FindRoomEach, IsPlanned};
-ghost use Rattle.pf_book.specs.Books.{world_book, HoldsLeft, left_together, listed, replied, IsMore, IsUnkept, AreMade, AreNumbered, IsLeft, KeepsOpening, StaysUnlessAnyKept, UsesDevice, is_fault_result};
+ghost use Rattle.pf_core.specs.declared.reply.Refusal.TheVariants as refusals;
+ghost use Rattle.pf_core.specs.{Calls.replies_in, Commands.group_words, Durable.Changes.{PlainDurable, after}, WorldBooks.{IsAt, StandsFor}, Worlds.{CurrentOpening, idle, grouping, upshot, Event, called_group, changes_due, is_halted, flat, LegalReplies, shown_by}};
+ghost use Rattle.pf_book.specs.{Courses.{FindRoomEach, IsPlanned}, Groups.IsGroupCall};
+ghost use Rattle.pf_book.specs.Books.{world_book, HoldsLeft, listed, replied, AreNumbered, IsLeft, KeepsOpening, StaysUnlessAnyKept, UsesDevice, is_fault_result};
 
 use crate::book::Book;
 use crate::chapter::Chapter;
 use crate::course::{Course, all_stored, course_of};
-use crate::saving::share_all;
-use pf_core::{Change, Command, Next, Refusal, Reply, check_group};
+use pf_core::{Change, Command, Refusal, Reply, check_group};
 use pf_disk::Disk;
 use pf_view::Publisher;
 use std::sync::Arc;
@@ -28,60 +26,9 @@ fn alone(answer: Result<(Vec<Reply>, Vec<Arc<Change>>), Refusal>) -> Result<Vec<
 }
 
 impl<D: Disk + Drop, J: Chapter, S: Publisher<J> + Drop> Book<D, J, S> {
-    // Keeps changes that the core wants as one group, which leaves `next`, and returns them for receipts. They aren't shown yet.
-    fn keep_all(&mut self, changes: Vec<Change>, next: Next) -> Result<Vec<Arc<Change>>, Refusal>
-        requires made { next ≡ left_together self.old.whole.durable changes.items }
-        requires fit { FollowInTurn self.old.whole.durable (made_all changes.items) }
-        requires wanted { list_all can_be_wanted changes.items ≡ true }
-        requires group { is_group changes.items ≡ true }
-        requires free { self.old.pending ≡ [] }
-        ensures ok { OnOk result (IsMore (world_book self.old) (world_book self.new) changes.items) }
-        ensures given { IfOk result (λ given. map arc_value given.items ≡ changes.items) }
-        ensures err { IfErr result (λ e. IsUnkept e (world_book self.old) (world_book self.new) changes.items) }
-        ensures device { UsesDevice D.Disk (is_fault_result result) self.old self.new
-            (HoldsEither self.old.whole.durable (after self.old.whole.durable changes.items)) }
-        ensures still { IfErr result (λ e. is_fault e ≡ false → self.new.disk ≡ self.old.disk) }
-    {
-        self.find_room(changes.as_slice(), &next)?;
-        let changes = share_all(self.alloc, changes)?;
-        self.save(changes.as_slice(), next)?;
-        Ok(changes)
-    }
-
-    // Keeps the changes of a group, to which these replies are due, and shows them. If they were kept, they are returned for receipts.
-    fn make_all(
-        &mut self,
-        mut replies: Vec<Reply>,
-        changes: Vec<Change>,
-        next: Next,
-    ) -> Result<(Vec<Reply>, Vec<Arc<Change>>), Refusal>
-        requires made { next ≡ left_together self.old.whole.durable changes.items }
-        requires fit { FollowInTurn self.old.whole.durable (made_all changes.items) }
-        requires wanted { list_all can_be_wanted changes.items ≡ true }
-        requires group { is_group changes.items ≡ true }
-        requires free { self.old.pending ≡ [] }
-        ensures made { AreMade (replied result) replies.items changes.items (world_book self.old) (world_book self.new) }
-        ensures given { IfOk result (λ r. map arc_value r.1.items ≡ changes.items) }
-        ensures device { UsesDevice D.Disk (is_fault_result result) self.old self.new
-            (HoldsEither self.old.whole.durable (after self.old.whole.durable changes.items)) }
-        ensures still { IfErr result (λ e. is_fault e ≡ false → self.new.disk ≡ self.old.disk) }
-    {
-        match self.keep_all(changes, next) {
-            Ok(given) => {
-                if self.show_all() {
-                    Ok((replies, given))
-                } else {
-                    all_stored(&mut replies);
-                    Ok((replies, given))
-                }
-            }
-            Err(refusal) => Err(refusal),
-        }
-    }
-
     // Whether a group may begin: none is pending, and the number and the kinds of its commands are allowed.
     fn check_all(&self, commands: &[Command]) -> Result<(), Refusal>
-        ensures { result ≡ and_then (unless (is_halted self.now.pending) told.Halted) (group_words commands.now) }
+        ensures { result ≡ and_then (unless (is_halted self.now.pending) refusals.Halted) (group_words commands.now) }
     {
         if self.acked < self.log.len() {
             return Err(Refusal::Halted);
@@ -93,11 +40,7 @@ impl<D: Disk + Drop, J: Chapter, S: Publisher<J> + Drop> Book<D, J, S> {
     pub(super) fn plan(&mut self, commands: &[Command]) -> Result<Course, Refusal>
         ensures planned { IfOk result (λ c. IsPlanned (world_book self.old) commands.now c.replies.items c.changes.items c.next) }
         ensures each { IfOk result (λ c. IsTrue c.each_has_room ↔ FindRoomEach self.old.size self.old.whole.durable c.changes.items) }
-        ensures refused { IfErr result (λ e. (h : CurrentOpening) → IsAt h (world_book self.old)
-            → LeadsGroup h (world_book self.old) commands.now (Err e) (upshot self.old.shown false)) }
-        ensures calm { IfErr result (λ e. is_fault e ≡ false) }
-        ensures device { UsesDevice D.Disk false self.old self.old (IsLeft (world_book self.old) (grouping commands.now)) }
-        ensures folded { IsFolded (world_book self.old) }
+        ensures refused { IfErr result (λ e. IsGroupCall D.Disk self.old self.new commands.now (Err e)) }
         ensures same { self.new ≡ self.old }
     {
         self.check_all(commands)?;
@@ -119,33 +62,35 @@ impl<D: Disk + Drop, J: Chapter, S: Publisher<J> + Drop> Book<D, J, S> {
         course: Course,
     ) -> Result<(Vec<Reply>, Vec<Arc<Change>>), Refusal>
         requires { IsPlanned (world_book self.old) commands.now course.replies.items course.changes.items course.next }
-        ensures leads { (h : CurrentOpening) → IsAt h (world_book self.old) → LeadsGroup h (world_book self.new) commands.now (replied result)
-            (upshot self.new.shown (nat_lt (D.fault_count self.old.disk) (D.fault_count self.new.disk))) }
+        ensures call { IsGroupCall D.Disk self.old self.new commands.now (replied result) }
         ensures given { IfOk result (λ r. (h : CurrentOpening) → IsAt h (world_book self.old) → map arc_value r.1.items ≡ changes_due h [] commands.now) }
-        ensures device { UsesDevice D.Disk (is_fault_result result) self.old self.new (IsLeft (world_book self.old) (grouping commands.now)) }
-        ensures opening { KeepsOpening self.old self.new }
-        ensures stays { StaysUnlessAnyKept (replied result) self.old self.new }
     {
         let alloc = self.alloc;
         let Course {
-            replies,
+            mut replies,
             changes,
             next,
             each_has_room: _,
         } = course;
-        match next {
-            Some(next) => self.make_all(replies, changes, next),
-            None => Ok((replies, Vec::new(alloc))),
+        let Some(next) = next else {
+            return Ok((replies, Vec::new(alloc)));
+        };
+        match self.make(changes, next) {
+            Ok((given, shown)) => {
+                if shown {
+                    Ok((replies, given))
+                } else {
+                    all_stored(&mut replies);
+                    Ok((replies, given))
+                }
+            }
+            Err(refusal) => Err(refusal),
         }
     }
 
     // A group of commands, whatever came before it in the opening. Returns its changes too, if they were kept.
     fn call_all(&mut self, commands: &[Command]) -> Result<(Vec<Reply>, Vec<Arc<Change>>), Refusal>
-        ensures leads { (h : CurrentOpening) → IsAt h (world_book self.old) → LeadsGroup h (world_book self.new) commands.now (replied result)
-            (upshot self.new.shown (nat_lt (D.fault_count self.old.disk) (D.fault_count self.new.disk))) }
-        ensures device { UsesDevice D.Disk (is_fault_result result) self.old self.new (IsLeft (world_book self.old) (grouping commands.now)) }
-        ensures opening { KeepsOpening self.old self.new }
-        ensures stays { StaysUnlessAnyKept (replied result) self.old self.new }
+        ensures { IsGroupCall D.Disk self.old self.new commands.now (replied result) }
     {
         match self.plan(commands) {
             Ok(course) => self.finish(commands, course),

@@ -1,9 +1,9 @@
 //! Replies with their receipts, and what a Book says of receipts.
-ghost use Rattle.std.specs.Prelude.{All, ◌≡◌, ◌<◌, ◌≤◌, ◌↔◌, ◌^◌, [], length, map, take, drop, vec_capacity, IfSome, IsTrue, None, nat_lt};
+ghost use Rattle.std.specs.Prelude.{All, ◌≡◌, ◌<◌, ◌≤◌, ◌↔◌, ◌^◌, [], length, map, take, drop, vec_capacity, IfSome, IsTrue, None};
 ghost use Rattle.std.specs.{Arc.arc_value, List.AllByRecursion, Option.{ForSome, option_copied, option_map}, Vec.Iter.into_iter_items};
 ghost use mathlib.Core.List.{IsPrefix};
-ghost use Rattle.pf_core.specs.{Calls.call, WorldBooks.{IsAt, Leads}, Worlds.{CurrentOpening, calling, flat, upshot}};
-ghost use Rattle.pf_book.specs.{Courses.IsPlanned, Groups.{told, IsGroupAsAlone, IsGroupOf}, Pairs.{behind, is_kept, given_to, kept_count, left_behind, paired, slip_at}, Books.{IsLeft, KeepsOpening, StaysUnlessKept, UsesDevice, is_fault_reply, world_book, log_in}, Receipts.{token_of, Confirms, EndsIn, TakesUp, IsReceiptOf, ShownFits}};
+ghost use Rattle.pf_core.specs.Worlds.{flat};
+ghost use Rattle.pf_book.specs.{Courses.IsPlanned, Groups.{result_list, IsGroupAsAlone, IsGroupOf}, Pairs.{count_after, is_kept, given_to, kept_count, given_after, paired}, Books.{world_book, log_in}, Receipts.{token_of, receipt_of, Confirms, EndsIn, IsCall, TakesUp, ShownFits}};
 
 use crate::book::Book;
 use crate::chapter::Chapter;
@@ -37,9 +37,9 @@ fn is_kept(reply: &Reply) -> bool
 }
 
 // How many changes the history has after a reply, if it had `before` of them before it.
-fn behind(reply: &Reply, before: usize) -> usize
+fn count_after(reply: &Reply, before: usize) -> usize
     requires { before < 2 ^ 63 }
-    ensures { result ≡ behind reply.now before }
+    ensures { result ≡ count_after reply.now before }
 {
     if is_kept(reply) { before + 1 } else { before }
 }
@@ -47,7 +47,7 @@ fn behind(reply: &Reply, before: usize) -> usize
 // The next of the changes that are given to replies in turn, if this reply kept one.
 fn give(reply: &Reply, given: &mut IntoIter<Arc<Change>>) -> Option<Arc<Change>>
     ensures given { option_map arc_value result ≡ given_to reply.now (map arc_value (into_iter_items given.old)) }
-    ensures left { map arc_value (into_iter_items given.new) ≡ left_behind reply.now (map arc_value (into_iter_items given.old)) }
+    ensures left { map arc_value (into_iter_items given.new) ≡ given_after reply.now (map arc_value (into_iter_items given.old)) }
 {
     if is_kept(reply) { given.next() } else { None }
 }
@@ -59,17 +59,13 @@ impl<D: Disk + Drop, J: Chapter, S: Publisher<J> + Drop> Book<D, J, S> {
         command: &Command,
         last: Option<&Receipt<J>>,
     ) -> (Reply, Receipt<J>)
-        ensures leads { (h : CurrentOpening) → IsAt h (world_book self.old) → Leads h (world_book self.new) (call command.now result.0)
-            (upshot self.new.shown (nat_lt (D.fault_count self.old.disk) (D.fault_count self.new.disk))) }
-        ensures device { UsesDevice D.Disk (is_fault_reply result.0) self.old self.new (IsLeft (world_book self.old) (calling command.now)) }
-        ensures receipt { IsReceiptOf result.0 result.1 (world_book self.old) (world_book self.new) }
-        ensures stays { StaysUnlessKept result.0 self.old self.new }
+        ensures call { IsCall D.Disk self.old self.new command.now result.0 result.1.change }
+        ensures receipt { result.1 ≡ receipt_of (world_book self.new) (length (log_in (world_book self.new))) result.1.change result.0 }
         ensures last { TakesUp (option_copied last.entry) (world_book self.old) }
-        ensures opening { KeepsOpening self.old self.new }
     {
         self.look_at(last);
         let (reply, change) = self.call(command);
-        let receipt = self.receipt(&reply, change);
+        let receipt = self.receipt(self.log_len(), &reply, change);
         (reply, receipt)
     }
 
@@ -79,7 +75,7 @@ impl<D: Disk + Drop, J: Chapter, S: Publisher<J> + Drop> Book<D, J, S> {
         commands: &[Command],
         last: Option<&Receipt<J>>,
     ) -> Result<Vec<(Reply, Receipt<J>)>, Refusal>
-        ensures group { IsGroupOf D.Disk self.old self.new commands.now (told result) }
+        ensures group { IsGroupOf D.Disk self.old self.new commands.now (result_list result) }
         ensures last { TakesUp (option_copied last.entry) (world_book self.old) }
     {
         self.look_at(last);
@@ -95,7 +91,7 @@ impl<D: Disk + Drop, J: Chapter, S: Publisher<J> + Drop> Book<D, J, S> {
         &mut self,
         commands: &[Command],
     ) -> Option<Result<Vec<(Reply, Receipt<J>)>, Refusal>>
-        ensures group { IfSome result (λ r. IsGroupAsAlone D.Disk self.old self.new commands.now (told r)) }
+        ensures group { IfSome result (λ r. IsGroupAsAlone D.Disk self.old self.new commands.now (result_list r)) }
         ensures none { (result ≡ None) → self.new ≡ self.old }
     {
         match self.plan(commands) {
@@ -117,7 +113,7 @@ impl<D: Disk + Drop, J: Chapter, S: Publisher<J> + Drop> Book<D, J, S> {
         course: Course,
     ) -> Result<Vec<(Reply, Receipt<J>)>, Refusal>
         requires { IsPlanned (world_book self.old) commands.now course.replies.items course.changes.items course.next }
-        ensures { IsGroupOf D.Disk self.old self.new commands.now (told result) }
+        ensures { IsGroupOf D.Disk self.old self.new commands.now (result_list result) }
     {
         let answers = Vec::with_capacity(self.alloc, commands.len())?;
         let before = self.log.len();
@@ -162,35 +158,13 @@ impl<D: Disk + Drop, J: Chapter, S: Publisher<J> + Drop> Book<D, J, S> {
         let _ = receipt.seq;
     }
 
-    // The receipt of a reply that was just given, with the change that was made with it.
-    fn receipt(&self, reply: &Reply, change: Option<Arc<Change>>) -> Receipt<J>
-        requires last { ForSome (option_map arc_value change) (λ e. EndsIn (log_in (world_book self.now)) e
-            × (length (log_in (world_book self.now)) ≤ length (flat self.now.acked))) }
-        requires shown { ShownFits reply.now self.now.shown (length (log_in (world_book self.now))) }
-        ensures front { result.front ≡ log_in (world_book self.now) }
-        ensures acked { result.acked ≡ length (flat self.now.acked) }
-        ensures shown { result.shown ≡ self.now.shown }
-        ensures change { result.change ≡ option_map arc_value change }
-        ensures token { result.token ≡ token_of reply.now (log_in (world_book self.now)) }
-    {
-        Receipt {
-            front: self.tip.front(),
-            seq: self.log.len(),
-            change,
-            token: token_after(reply, &self.shower),
-            showing: self.tip.showing(),
-            shown: self.shower.len(),
-        }
-    }
-
-    // The receipt of a reply in a group that was just answered, with the change that was kept with it. After this reply the history has
-    // `seq` changes.
-    fn receipt_at(&self, seq: usize, reply: &Reply, change: Option<Arc<Change>>) -> Receipt<J>
-        requires calm { self.now.pending ≡ [] }
+    // The receipt of a reply that was just given, after which the history has `seq` changes, with the change that was kept with it.
+    fn receipt(&self, seq: usize, reply: &Reply, change: Option<Arc<Change>>) -> Receipt<J>
         requires within { seq ≤ length (log_in (world_book self.now)) }
-        requires last { ForSome (option_map arc_value change) (λ e. EndsIn (take seq (log_in (world_book self.now))) e) }
+        requires last { ForSome (option_map arc_value change) (λ e. EndsIn (take seq (log_in (world_book self.now))) e
+            × (seq ≤ length (flat self.now.acked))) }
         requires shown { ShownFits reply.now self.now.shown (length (log_in (world_book self.now))) }
-        ensures { result ≡ slip_at self.now.shown (log_in (world_book self.now)) seq (option_map arc_value change) reply.now }
+        ensures { result ≡ receipt_of (world_book self.now) seq (option_map arc_value change) reply.now }
     {
         Receipt {
             front: self.tip.front(),
@@ -225,8 +199,8 @@ impl<D: Disk + Drop, J: Chapter, S: Publisher<J> + Drop> Book<D, J, S> {
         let mut seq = before;
         for reply in replies {
             let change = give(&reply, &mut given);
-            seq = behind(&reply, seq);
-            let receipt = self.receipt_at(seq, &reply, change);
+            seq = count_after(&reply, seq);
+            let receipt = self.receipt(seq, &reply, change);
             answers.push_reserved((reply, receipt));
         }
         answers

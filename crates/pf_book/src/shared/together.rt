@@ -1,6 +1,6 @@
 //! Commands of several callers, run in one group.
 ghost use Rattle.std.specs.Prelude.{◌≡◌, ◌≤◌, ℕ, [], All, Ok, Err, Option, Some, None, IfOk, IfErr, length, map, slice_get, vec_len, vec_capacity};
-ghost use Rattle.pf_book.specs.{Books.world_book, Receipts.TakesUp, Together.{IsAnsweredTogether, PlainAsked, Told}};
+ghost use Rattle.pf_book.specs.{Books.world_book, Receipts.TakesUp, Together.{IsAnsweredTogether, PlainAsked, PlainGiven}};
 
 use crate::chapter::Chapter;
 use crate::receipt::Receipt;
@@ -51,7 +51,7 @@ type Given<J> = Result<(Reply, Receipt<J>), Option<Receipt<J>>>;
 struct Room<J: Chapter> {
     commands: Vec<Command>,
     lasts: Vec<Option<Receipt<J>>>,
-    told: Vec<Given<J>>,
+    reported: Vec<Given<J>>,
     back: Vec<Asked<J>>,
 }
 
@@ -59,17 +59,17 @@ impl<J: Chapter> Room<J> {
     fn of(alloc: Global, count: usize) -> Result<Room<J>, AllocError>
         ensures commands { IfOk result (λ r. (r.commands.items ≡ []) × (count ≤ vec_capacity r.commands)) }
         ensures lasts { IfOk result (λ r. (r.lasts.items ≡ []) × (count ≤ vec_capacity r.lasts)) }
-        ensures told { IfOk result (λ r. (r.told.items ≡ []) × (count ≤ vec_capacity r.told)) }
+        ensures reported { IfOk result (λ r. (r.reported.items ≡ []) × (count ≤ vec_capacity r.reported)) }
         ensures back { IfOk result (λ r. (r.back.items ≡ []) × (count ≤ vec_capacity r.back)) }
     {
         let commands = Vec::with_capacity(alloc, count)?;
         let lasts = Vec::with_capacity(alloc, count)?;
-        let told = Vec::with_capacity(alloc, count)?;
+        let reported = Vec::with_capacity(alloc, count)?;
         let back = Vec::with_capacity(alloc, count)?;
         Ok(Room {
             commands,
             lasts,
-            told,
+            reported,
             back,
         })
     }
@@ -115,24 +115,24 @@ fn rejoin<J: Chapter>(
 }
 
 // Each is told its answer.
-fn tell_answers<J: Chapter>(answers: Vec<(Reply, Receipt<J>)>, told: &mut Vec<Given<J>>)
-    requires empty { told.old.items ≡ [] }
-    requires room { vec_len answers ≤ vec_capacity told.old }
-    ensures { told.new.items ≡ map Ok answers.items }
+fn tell_answers<J: Chapter>(answers: Vec<(Reply, Receipt<J>)>, reported: &mut Vec<Given<J>>)
+    requires empty { reported.old.items ≡ [] }
+    requires room { vec_len answers ≤ vec_capacity reported.old }
+    ensures { reported.new.items ≡ map Ok answers.items }
 {
     for answer in answers {
-        told.push_reserved(Ok(answer));
+        reported.push_reserved(Ok(answer));
     }
 }
 
 // Each has its receipt back.
-fn give_back<J: Chapter>(lasts: Vec<Option<Receipt<J>>>, told: &mut Vec<Given<J>>)
-    requires empty { told.old.items ≡ [] }
-    requires room { vec_len lasts ≤ vec_capacity told.old }
-    ensures { told.new.items ≡ map Err lasts.items }
+fn give_back<J: Chapter>(lasts: Vec<Option<Receipt<J>>>, reported: &mut Vec<Given<J>>)
+    requires empty { reported.old.items ≡ [] }
+    requires room { vec_len lasts ≤ vec_capacity reported.old }
+    ensures { reported.new.items ≡ map Err lasts.items }
 {
     for last in lasts {
-        told.push_reserved(Err(last));
+        reported.push_reserved(Err(last));
     }
 }
 
@@ -157,7 +157,7 @@ impl<D: Disk + Drop, J: Chapter, S: Publisher<J> + Drop> RunsTogether for Locked
 
     ghost entry = { λ asked. asked };
 
-    ghost Answers = { λ asked told. IsAnsweredTogether J.base J.setting asked told };
+    ghost Answers = { λ asked reported. IsAnsweredTogether J.base J.setting asked reported };
 
     fn run_one(&mut self, asked: Asked<J>) -> Given<J> {
         let Asked { command, last } = asked;
@@ -170,7 +170,7 @@ impl<D: Disk + Drop, J: Chapter, S: Publisher<J> + Drop> RunsTogether for Locked
         requires some { 2 ≤ vec_len asked }
         requires few { vec_len asked ≤ 64 }
         ensures each { IfOk result (λ answers. length answers.items ≡ length asked.items) }
-        ensures answered { IfOk result (λ answers. (i : ℕ) (j : PlainAsked) (a : Told) → slice_get asked.items i ≡ Some j → slice_get answers.items i ≡ Some a → IsAnsweredTogether J.base J.setting j a) }
+        ensures answered { IfOk result (λ answers. (i : ℕ) (j : PlainAsked) (a : PlainGiven) → slice_get asked.items i ≡ Some j → slice_get answers.items i ≡ Some a → IsAnsweredTogether J.base J.setting j a) }
         ensures back { IfErr result (λ left. left.items ≡ asked.items) }
     {
         let Ok(room) = Room::of(self.book.alloc(), asked.len()) else {
@@ -179,19 +179,19 @@ impl<D: Disk + Drop, J: Chapter, S: Publisher<J> + Drop> RunsTogether for Locked
         let Room {
             mut commands,
             mut lasts,
-            mut told,
+            mut reported,
             mut back,
         } = room;
         part(asked, &mut commands, &mut lasts);
         self.look_at_each(&lasts);
         match self.group_as_alone(&commands) {
             Some(Ok(answers)) => {
-                tell_answers(answers, &mut told);
-                Ok(told)
+                tell_answers(answers, &mut reported);
+                Ok(reported)
             }
             Some(Err(Refusal::Fault)) => {
-                give_back(lasts, &mut told);
-                Ok(told)
+                give_back(lasts, &mut reported);
+                Ok(reported)
             }
             Some(Err(_)) | None => {
                 rejoin(commands, lasts, &mut back);

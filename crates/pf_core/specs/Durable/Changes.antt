@@ -9,7 +9,7 @@ use Rattle.pf_anchor.specs.declared.limits.TheConstants.{RULESET_LIMIT, TABLE_CO
 use Rattle.pf_anchor.specs.{Configurations.{PlainConfig, nothing, with_rulesets, with_tables}, Evaluation.judged, Rulesets.{PlainPlaced, rules_at}, Tables.{PlainPlacedTable, placed_table, table_at}}
 use Rattle.pf_state.specs.{declared.{state.StateName.StateName, step.StateStep.StateStep}, Flows.flow_of, States.{PlainState, state_of, stands}, Steps.{after as stepped_on, passes_limit, without_state, without_due, any_inserts_due}}
 use Rattle.pf_ticket.specs.declared.name.RulesetName.{RulesetName}
-use Rattle.pf_ticket.specs.{Names.{filter_at, table_ruleset_at}, NamedTables.PlainDefinedTable, Replies.twice_behind}
+use Rattle.pf_ticket.specs.{Names.{filter_at, table_ruleset_at}, NamedTables.PlainDefinedTable, Replies.twice_after}
 use Rattle.pf_core.specs.declared.{durable.change.Item.Item, durable.refusal.ChangeRefusal.ChangeRefusal, durable.refusal.ChangeRefusal.TheVariants.Twice, durable.refusal.ChangeRefusal.TheVariants.Conflict, durable.refusal.ChangeRefusal.TheVariants.TableFull, durable.refusal.ChangeRefusal.TheVariants.TooManyRulesets, durable.refusal.ChangeRefusal.TheVariants.TooManyTables, durable.refusal.ChangeRefusal.TheVariants.StatesFull, durable.refusal.ChangeRefusal.TheVariants.BadTick, durable.verdict.Verdict.Verdict, durable.verdict.Verdict.TheVariants.State as Stateful, durable.verdict.Verdict.TheVariants.Rules}
 use Rattle.pf_core.specs.declared.durable.change.Item.TheVariants as item
 
@@ -127,7 +127,7 @@ is_in_order (item.Tables p named) = is_sorted name_order named
 
 -- the first item that names a ruleset named before it, else the first that names a table twice
 abbrev pub named_again : List Item → Option ℕ
-named_again items = option_or (twice_behind [] (map name_of items)) (position (λ i. not (is_in_order i)) items)
+named_again items = option_or (twice_after [] (map name_of items)) (position (λ i. not (is_in_order i)) items)
 
 -- entries that a table can hold
 abbrev pub holdable : List PlainEntry → Result (Unit {0}) ChangeRefusal

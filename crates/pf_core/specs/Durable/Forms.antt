@@ -7,7 +7,7 @@
 --   the states: their number in four bytes, and each state, in the order of their names; no two have the same flow, and none is due at the
 --   tick
 use Rattle.std.specs.{Prelude.{ℕ, ◌==◌, ◌&&◌, ◌||◌, Bool, map, if◌then◌else◌}, List.list_all}
-use Rattle.pf_form.specs.Bytes.Forms.{Shape, nat, both, list, Value, Form, nothing, number, pair, that, length_of}
+use Rattle.pf_form.specs.Bytes.Forms.{Shape, nat, both, list, Value, ByteForm, nothing, number, pair, that, length_of}
 use Rattle.pf_anchor.specs.Forms.{RulesShape, rulesets_form, plain_ruled, ruled_in, PlacedShape, kept_tables_form, plain_tabled, tabled_in, configured, allows_config}
 use Rattle.pf_state.specs.{Layouts.States.{StateShape, has_expiry, states_form, plain_states, state_in, all_allowed}, States.stands}
 use Rattle.pf_core.specs.Durable.Changes.{PlainDurable}
@@ -16,14 +16,14 @@ abbrev pub DurableShape : Shape
 DurableShape = both nat (both nat (both (list RulesShape) (both (list PlacedShape) (list StateShape))))
 
 -- in a version without expiries the tick is 0, in no byte
-unfoldable pub tick_form : Bool → Form nat
+unfoldable pub tick_form : Bool → ByteForm nat
 tick_form has = if has then number 8 else nothing 0
 
 -- no state is due at the tick
 abbrev pub none_is_due : Value DurableShape → Bool
 none_is_due v = list_all (λ s. stands v.1.0 (state_in s).1) v.1.1.1.1
 
-unfoldable pub durable_form : ℕ → Form DurableShape
+unfoldable pub durable_form : ℕ → ByteForm DurableShape
 durable_form version = that none_is_due
     (pair (number 4) (pair (tick_form (has_expiry version)) (pair (rulesets_form version) (pair kept_tables_form (states_form version)))))
 

@@ -20,11 +20,11 @@ is_want_of_room HistoryFull = true
 is_want_of_room Full = true
 is_want_of_room e = false
 
-abbrev pub has_room : Reply → Bool
-has_room (Answer a) = true
-has_room (Applied n o) = true
-has_room (Stored n o) = true
-has_room (Refused e) = not (is_want_of_room e)
+abbrev pub found_room : Reply → Bool
+found_room (Answer a) = true
+found_room (Applied n o) = true
+found_room (Stored n o) = true
+found_room (Refused e) = not (is_want_of_room e)
 
 -- A group's commands are due the replies that they would be due one by one, and its changes, and the tickets that these void, are those of
 -- these calls.
@@ -35,7 +35,7 @@ pub record AreInTurn (h : CurrentOpening) (commands : List Command) : Type 0 whe
 
 abbrev pub GroupsAreInTurn : Type 0
 GroupsAreInTurn = (h : CurrentOpening) (commands : List Command) → h.pending ≡ [] → AllByRecursion (λ c. may_be_grouped c ≡ true) commands →
-    AllByRecursion (λ r. has_room r ≡ true) (dues_one_by_one h commands) → AreInTurn h commands
+    AllByRecursion (λ r. found_room r ≡ true) (dues_one_by_one h commands) → AreInTurn h commands
 
 -- Each of these changes finds room in a group of its own, after those before it.
 abbrev pub HaveRoomEach : CurrentOpening → List PlainChange → Type 0

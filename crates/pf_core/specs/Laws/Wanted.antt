@@ -2,7 +2,7 @@
 use Rattle.std.specs.Prelude.{◌≡◌, ℕ, ◌==◌, ◌&&◌, ◌||◌, Bool, true, false, if◌then◌else◌, not, is_some, List, [], ◌∷◌, length, map, nat_lt, Option, Some, None, Result, Ok, Err}
 use Rattle.std.proofs.Common.{refl, sym, ap, subst, ◌∙◌}
 use Rattle.pf_addr.specs.Refusing.{unless}
-use Rattle.pf_table.specs.Edits.{added, additions, deletions, conflict_behind}
+use Rattle.pf_table.specs.Edits.{added, additions, deletions, conflict_after}
 use Rattle.pf_anchor.specs.declared.{limits.TheConstants.TABLE_COUNT_LIMIT, verdict.RuleVerdict.RuleVerdict}
 use Rattle.pf_ticket.specs.{declared.{entry.RulesetTicket.RulesetTicket, name.RulesetKind.RulesetKind, name.RulesetKind.TheVariants.Filter, name.RulesetKind.TheVariants.Table, name.RulesetName.RulesetName, refusal.TicketRefusal.TicketRefusal}, Names.{filter_at, table_ruleset_at, names_of}, Laws.Names.{filter_is, table_is}, Mentions.switches, Replies.{begin_reply, add_reply, define_reply, extend_reply, list_check, commit_check}, Tickets.{PlainTickets, Loaded, offered_as, loaded, content}}
 use Rattle.pf_core.specs.{declared.{command.Command.Command, command.Command.TheVariants.Transact, command.Command.TheVariants.Edit, command.Command.TheVariants.States as OfStates, command.Command.TheVariants.Ask, command.Command.TheVariants.History, command.HistoryCommand.HistoryCommand, durable.refusal.ChangeRefusal.ChangeRefusal, durable.verdict.Verdict.Verdict, durable.verdict.Verdict.TheVariants.State as Stateful, durable.verdict.Verdict.TheVariants.Rules as ByRules, command.StateCommand.StateCommand, command.StateCommand.TheVariants.Track, command.StateCommand.TheVariants.Peer, command.StateCommand.TheVariants.Kill as KillState, command.StateCommand.TheVariants.Expire as ExpireStates, command.TableEdit.TableEdit, command.TableEdit.TheVariants.Add as AddTo, command.TableEdit.TheVariants.Delete, command.TableEdit.TheVariants.Set, command.TableEdit.TheVariants.Kill, command.Transaction.TheVariants.Begin, command.Transaction.TheVariants.Add, command.Transaction.TheVariants.Define, command.Transaction.TheVariants.Extend, command.Transaction.TheVariants.Commit, command.Transaction.TheVariants.Rollback, reply.Answer.Answer, reply.Outcome.Outcome, reply.Outcome.TheVariants.Committed, reply.Refusal.Refusal, durable.refusal.ChangeRefusal.TheVariants.TooManyTables, durable.refusal.ChangeRefusal.TheVariants.BadTick, reply.Refusal.TheVariants.BadTick as NoTick, step.Step.Step, step.Step.TheVariants.Done, step.Step.TheVariants.Wants, step.Step.TheVariants.OfHistory}, Commands.{unless_refused, unless_unfit, if_there, is_table, item_of, items, wanting, commit_step, added_of, deleted_of, edit_step, makes_state, tracked, judge_step, is_past, expiry_of, track_step, steps_here, states_step, step_by, mentioned, edits_in_memory, is_done, changes_states_in_memory, takes_memory}, Durable.Changes.{PlainDurable, PlainChange, commits, adds, deletes, sets, acts, removes, expires, entries_at, with_entries, name_of, voided_by, no_conflict, fits, verdict}}
@@ -23,9 +23,9 @@ passed (Ok a) f x h = record { value = a; passed = refl; step = h }
 passed (Err e) f x h = absurd (cc (h))
 
 -- what is only answered wants no change
-pub none-wanted : {A : Type 0} (r : Result A TicketRefusal) (told : A → Answer) (e : PlainChange) (o : Outcome) → unless_refused r (λ x. Ok (Done (told x))) ≡ Ok (Wants e o) → ⊥
-none-wanted (Ok x) told e o h = cc (h)
-none-wanted (Err x) told e o h = cc (h)
+pub none-wanted : {A : Type 0} (r : Result A TicketRefusal) (reported : A → Answer) (e : PlainChange) (o : Outcome) → unless_refused r (λ x. Ok (Done (reported x))) ≡ Ok (Wants e o) → ⊥
+none-wanted (Ok x) reported e o h = cc (h)
+none-wanted (Err x) reported e o h = cc (h)
 
 -- what fits
 pub record IsFit {A : Type 0} (r : Result (Unit {0}) ChangeRefusal) (next : Result A Refusal) (x : A) : Type 0 where
@@ -96,20 +96,20 @@ false-then false c = refl
 
 -- killing a table fits
 kill-fits : (d : PlainDurable) (p name : List ℕ) → fits d (sets p name []) ≡ Ok tt
-unfolding conflict_behind added
+unfolding conflict_after added
 kill-fits d p name = ap (λ (b : Bool). unless b TooManyTables) (false-then (length (entries_at d p name) == 0) (nat_lt TABLE_COUNT_LIMIT (length (with_entries d p name []).config.tables)))
 
 pub wants_edit : (d : PlainDurable) (edit : TableEdit) (e : PlainChange) (o : Outcome) → edit_step d edit ≡ Ok (Wants e o) → IsThis d (change_by edit) e
 wants_edit d (AddTo p name xs) e o h = wanted d (adds p name xs) e (added_of (additions (entries_at d p name) xs)) o h
 wants_edit d (Delete p name xs) e o h =
-    let told : Result Step Refusal = Ok (Wants (deletes p name xs) (deleted_of (deletions (entries_at d p name) xs))) in
-    let both : IsFit (no_conflict xs) (if_there (is_table (entries_at d p name)) told) (Wants e o) = fit (no_conflict xs) (if_there (is_table (entries_at d p name)) told) (Wants e o) h in
-    let same : told ≡ Ok (Wants e o) = found (is_table (entries_at d p name)) told (Wants e o) both.second in
+    let reported : Result Step Refusal = Ok (Wants (deletes p name xs) (deleted_of (deletions (entries_at d p name) xs))) in
+    let both : IsFit (no_conflict xs) (if_there (is_table (entries_at d p name)) reported) (Wants e o) = fit (no_conflict xs) (if_there (is_table (entries_at d p name)) reported) (Wants e o) h in
+    let same : reported ≡ Ok (Wants e o) = found (is_table (entries_at d p name)) reported (Wants e o) both.second in
     record { fits = both.first; is = cc (same) }
 wants_edit d (Set p name xs) e o h = wanted d (sets p name xs) e outcome.Set o h
 wants_edit d (Kill p name) e o h =
-    let told : Result Step Refusal = Ok (Wants (sets p name []) outcome.Killed) in
-    let same : told ≡ Ok (Wants e o) = found (is_table (entries_at d p name)) told (Wants e o) h in
+    let reported : Result Step Refusal = Ok (Wants (sets p name []) outcome.Killed) in
+    let same : reported ≡ Ok (Wants e o) = found (is_table (entries_at d p name)) reported (Wants e o) h in
     record { fits = kill-fits d p name; is = cc (same) }
 
 -- ---- changes of states
@@ -166,8 +166,8 @@ pub wants_states : (d : PlainDurable) (c : StateCommand) (e : PlainChange) (o : 
 wants_states d (Track name packet until) e o h = verdict-wanted d name packet (expiry_of until) (verdict d packet) e o (tracks d name packet until h).step
 wants_states d (Peer m) e o h = steps-wanted d (steps_here d m) e (outcome.Peered (counts d.states (steps_here d m))) o h
 wants_states d (KillState name) e o h =
-    let told : Result Step Refusal = Ok (Wants (removes name) outcome.Killed) in
-    let same : told ≡ Ok (Wants e o) = found (is_some (held_at name d.states)) told (Wants e o) h in
+    let reported : Result Step Refusal = Ok (Wants (removes name) outcome.Killed) in
+    let same : reported ≡ Ok (Wants e o) = found (is_some (held_at name d.states)) reported (Wants e o) h in
     let is : removes name ≡ e = cc (same) in
     subst (λ (y : PlainChange). IsStateChange d y) is (record { fits = refl; is = of_removal name })
 wants_states d (ExpireStates tick) e o h =
@@ -257,9 +257,9 @@ never-edited d (Kill p name) s none h = never-there (is_table (entries_at d p na
 history-is-none : (x : HistoryCommand) → IsNoChange (OfHistory x)
 history-is-none x e o is = cc (is)
 
-never-left : {A : Type 0} (r : Result A TicketRefusal) (told : A → Answer) (x : HistoryCommand) → unless_refused r (λ v. Ok (Done (told v))) ≡ Ok (OfHistory x) → ⊥
-never-left (Ok v) told x h = cc (h)
-never-left (Err e) told x h = cc (h)
+never-left : {A : Type 0} (r : Result A TicketRefusal) (reported : A → Answer) (x : HistoryCommand) → unless_refused r (λ v. Ok (Done (reported v))) ≡ Ok (OfHistory x) → ⊥
+never-left (Ok v) reported x h = cc (h)
+never-left (Err e) reported x h = cc (h)
 
 never-made : (d : PlainDurable) (v : RuleVerdict) (s : PlainState) (stale : Bool) (x : HistoryCommand) → (if stale then Ok (Done (answer.Stale v)) else wanting d (acts (step.Insert s ∷ [])) (outcome.Tracked v)) ≡ Ok (OfHistory x) → ⊥
 never-made d v s true x h = cc (h)

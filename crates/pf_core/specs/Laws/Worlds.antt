@@ -4,7 +4,7 @@ use Rattle.pf_addr.specs.declared.addr.Addr.{Addr}
 use Rattle.pf_addr.specs.{Path.Paths.main, Path.References.PlainReference}
 use Rattle.pf_rule.specs.Packets.{PlainPacket}
 use Rattle.pf_table.specs.{Laws.Tables.DecidesAbout, Tables.deciding}
-use Rattle.pf_anchor.specs.{Evaluation.judged, Laws.Evaluation.{decides, IsToldOfMain, LeadsThere}, Rulesets.rules_at}
+use Rattle.pf_anchor.specs.{Evaluation.judged, Laws.Evaluation.{decides, IsVerdictOfMain, LeadsThere}, Rulesets.rules_at}
 use Rattle.pf_state.specs.{Flows.flow_of, Laws.States.IsStateOf, States.{PlainState, stands}}
 use Rattle.pf_ticket.specs.{declared.{entry.RulesetTicket.RulesetTicket, ticket.Ticket.Ticket}, Replies.commit_check, Tickets.content, Laws.Tickets.{AreOnce, IsWithin as AreTicketsWithin}, Mentions.{Mention, opened as left_by}, Names.tickets_from}
 use Rattle.pf_core.specs.{declared.{command.Command.TheVariants.Ask, command.Question.TheVariants.Judge, command.Question.TheVariants.Test, durable.verdict.Verdict.TheVariants.State as Stateful, durable.verdict.Verdict.TheVariants.Rules as ByRules, reply.Reply.Reply, reply.Reply.TheVariants.Answer as Answered, reply.Reply.TheVariants.Applied, reply.Reply.TheVariants.Stored}, Calls.{mentions_of, replies_in, mentions_of_group}, Commands.items, Durable.Changes.{PlainDurable, named_again, entries_at, verdict}, History.tickets_in, Laws.Durable.IsWithin, Worlds.{CurrentOpening, State, up, down, Event, called, called_group, opened, flat, log_of, durable_of, LegalReply, state_after, IsWorld}}
@@ -118,7 +118,7 @@ ShowsAll = (first : PlainDurable) (world : List Event) (h : CurrentOpening) → 
 -- The answer to a test is the entry that decides in the table at that path and name: the one that contains the address and whose network is
 -- the most specific of those that do; none if none contains it.
 pub record TellsTheEntry (h : CurrentOpening) (p name : List ℕ) (a : Addr) : Type 0 where
-  pub told : (r : Reply) (failed : Bool) → LegalReply h (Ask (Test p name a)) r failed →
+  pub reported : (r : Reply) (failed : Bool) → LegalReply h (Ask (Test p name a)) r failed →
       r ≡ Answered (answer.Tested (deciding (entries_at (durable_of h) p name) a))
   pub decides : DecidesAbout (entries_at (durable_of h) p name) a
 
@@ -134,12 +134,12 @@ pub record IsDecided (d : PlainDurable) (packet : PlainPacket) : Type 0 where
   pub one : (s t : PlainState) → IsStateOf d.states (flow_of packet) s → IsStateOf d.states (flow_of packet) t → s ≡ t
   pub by_rules : ((s : PlainState) → IsStateOf d.states (flow_of packet) s → ⊥) → verdict d packet ≡ ByRules (judged d.config packet)
   -- of rules that all decide the last one that matches, or the first quick one
-  pub last : list_all decides (rules_at main d.config.rulesets) ≡ true → IsToldOfMain d.config packet
+  pub last : list_all decides (rules_at main d.config.rulesets) ≡ true → IsVerdictOfMain d.config packet
   -- an anchor rule leads to the rulesets that are there, in order
   pub leads : (p : List ℕ) (s : PlainReference) → LeadsThere d.config.rulesets p s
 
 pub record TellsTheVerdict (h : CurrentOpening) (packet : PlainPacket) : Type 0 where
-  pub told : (r : Reply) (failed : Bool) → LegalReply h (Ask (Judge packet)) r failed →
+  pub reported : (r : Reply) (failed : Bool) → LegalReply h (Ask (Judge packet)) r failed →
       r ≡ Answered (answer.Judged (verdict (durable_of h) packet))
   pub decided : IsDecided (durable_of h) packet
 

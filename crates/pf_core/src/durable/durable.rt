@@ -5,7 +5,7 @@ ghost use Rattle.pf_addr.specs.{Refusing.{refused_at, OrMemory, Meets}, Path.Nam
 ghost use Rattle.pf_anchor.specs.Configurations.{with_rulesets};
 ghost use Rattle.pf_table.specs.{Edits.{added, additions, deleted, deletions, replaced}, Tables.deciding};
 ghost use Rattle.pf_state.specs.{Layouts.States.has_expiry, States.all_stand, Steps.{after, counts, without_state, without_due, due_count}};
-ghost use Rattle.pf_ticket.specs.Replies.{twice_behind};
+ghost use Rattle.pf_ticket.specs.Replies.{twice_after};
 ghost use Rattle.pf_core.specs.declared.durable.refusal.ChangeRefusal.TheVariants.{Twice, BadTick, Memory};
 ghost use Rattle.pf_core.specs.Durable.Forms.{allows, durable_length};
 ghost use Rattle.pf_core.specs.Durable.Changes.{is_in_order, name_of, kept_nothing, commits, adds, deletes, sets, acts, expires};
@@ -84,7 +84,7 @@ fn rulesets_in(alloc: Global, items: &[Item]) -> Result<Vec<Placed>, AllocError>
 
 // Refuses a commit that names a ruleset twice.
 fn check_names(alloc: Global, items: &[Item]) -> Result<(), ChangeRefusal>
-    ensures { OrMemory Memory result (refused_at (λ i. Twice i) (twice_behind [] (map name_of items.now))) }
+    ensures { OrMemory Memory result (refused_at (λ i. Twice i) (twice_after [] (map name_of items.now))) }
 {
     match named_twice(names_of(alloc, items)?.as_slice()) {
         Some(at) => Err(ChangeRefusal::Twice { at }),
@@ -354,7 +354,7 @@ impl Durable {
 
     // The same of items that name no ruleset twice.
     pub(crate) fn check_limits(&self, alloc: Global, items: &[Item]) -> Result<(), ChangeRefusal>
-        requires { twice_behind [] (map name_of items.now) ≡ None }
+        requires { twice_after [] (map name_of items.now) ≡ None }
         ensures { OrMemory Memory result (fits self.now (commits items.now)) }
     {
         let tables = tables_in(alloc, items)?;

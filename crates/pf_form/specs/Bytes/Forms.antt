@@ -20,34 +20,34 @@ Value (either a b) = Value a ⊎ Value b
 Value (list a) = List (Value a)
 
 -- A layout of the bytes of values of a shape. A version is an argument of the function that gives the form.
-pub data Form : Shape → Type 0 where
+pub data ByteForm : Shape → Type 0 where
   -- this value, in no byte
-  nothing : {a : Shape} → Value a → Form a
+  nothing : {a : Shape} → Value a → ByteForm a
   -- a number in so many bytes, the highest first
-  number : ℕ → Form nat
+  number : ℕ → ByteForm nat
   -- a part with a reader and a writer of its own
-  part : {a : Shape} → Part (Value a) → Form a
+  part : {a : Shape} → Part (Value a) → ByteForm a
   -- these bytes, and one
-  front : {a : Shape} → List ℕ → Form a → Form a
+  front : {a : Shape} → List ℕ → ByteForm a → ByteForm a
   -- one, and these bytes
-  back : {a : Shape} → Form a → List ℕ → Form a
+  back : {a : Shape} → ByteForm a → List ℕ → ByteForm a
   -- if this byte comes first: it, and one; else the other
-  or : {a b : Shape} → ℕ → Form a → Form b → Form (either a b)
+  or : {a b : Shape} → ℕ → ByteForm a → ByteForm b → ByteForm (either a b)
   -- one, and the next, which may depend on the first one's value
-  pair_by : {a b : Shape} → Form a → (Value a → Form b) → Form (both a b)
+  pair_by : {a b : Shape} → ByteForm a → (Value a → ByteForm b) → ByteForm (both a b)
   -- so many
-  times : {a : Shape} → ℕ → Form a → Form (list a)
+  times : {a : Shape} → ℕ → ByteForm a → ByteForm (list a)
   -- their number in so many bytes, and that many
-  counted : {a : Shape} → ℕ → Form a → Form (list a)
+  counted : {a : Shape} → ℕ → ByteForm a → ByteForm (list a)
   -- one whose value has this property
-  that : {a : Shape} → (Value a → Bool) → Form a → Form a
+  that : {a : Shape} → (Value a → Bool) → ByteForm a → ByteForm a
 
-abbrev pub pair : {a b : Shape} → Form a → Form b → Form (both a b)
+abbrev pub pair : {a b : Shape} → ByteForm a → ByteForm b → ByteForm (both a b)
 pair f g = pair_by f (λ x. g)
 
 -- ---- writing
 
-abbrev pub writes : {a : Shape} → Form a → Value a → List ℕ
+abbrev pub writes : {a : Shape} → ByteForm a → Value a → List ℕ
 writes (nothing only) x = []
 writes (number w) n = number_bytes w n
 writes (part p) x = p.write x
@@ -62,7 +62,7 @@ writes (that test f) x = writes f x
 
 -- These bytes, with the value's appended part by part. A law says that it is `out ++ writes f x`: pushes in a row
 -- nest as this computes.
-abbrev pub onto : {a : Shape} → Form a → Value a → List ℕ → List ℕ
+abbrev pub onto : {a : Shape} → ByteForm a → Value a → List ℕ → List ℕ
 onto (nothing only) x out = out
 onto (number w) n out = out ++ number_bytes w n
 onto (part p) x out = out ++ p.write x
@@ -76,7 +76,7 @@ onto (counted w f) xs out = onto_each (onto f) xs (out ++ number_bytes w (length
 onto (that test f) x out = onto f x out
 
 -- How many bytes a value is written in. A law says that `writes` gives so many.
-abbrev pub length_of : {a : Shape} → Form a → Value a → ℕ
+abbrev pub length_of : {a : Shape} → ByteForm a → Value a → ℕ
 length_of (nothing only) x = 0
 length_of (number w) n = w
 length_of (part p) x = length (p.write x)
@@ -92,7 +92,7 @@ length_of (that test f) x = length_of f x
 -- ---- which values can be written
 
 -- In a choice the other may not begin as the first does: so two equal tags leave values that can't be written, and no law fails.
-abbrev pub Fits : {a : Shape} → Form a → Value a → Type 0
+abbrev pub Fits : {a : Shape} → ByteForm a → Value a → Type 0
 Fits (nothing only) x = x ≡ only
 Fits (number w) n = n < 256 ^ w
 Fits (part p) x = p.fits x ≡ true
@@ -106,13 +106,13 @@ Fits (counted w f) xs = (length xs < 256 ^ w) × AllByRecursion (Fits f) xs
 Fits (that test f) x = Fits f x × (test x ≡ true)
 
 -- The value can be written, and these are its bytes.
-pub record Spells {a : Shape} (f : Form a) (x : Value a) (bytes : List ℕ) : Type 0 where
+pub record Spells {a : Shape} (f : ByteForm a) (x : Value a) (bytes : List ℕ) : Type 0 where
   pub fits : Fits f x
   pub written : bytes ≡ writes f x
 
 -- ---- reading
 
-abbrev pub reads : {a : Shape} → Form a → Reader (Value a)
+abbrev pub reads : {a : Shape} → ByteForm a → Reader (Value a)
 reads (nothing only) bytes = Ok (only, bytes)
 reads (number w) bytes = number_at w bytes
 reads (part p) bytes = p.read bytes
@@ -126,7 +126,7 @@ reads (that test f) bytes = only_if test (reads f) bytes
 
 -- ---- where bytes go wrong, by what is written and not by reading
 
-abbrev pub Faults : {a : Shape} → Form a → Faulting
+abbrev pub Faults : {a : Shape} → ByteForm a → Faulting
 Faults (nothing only) before rest = ⊥
 Faults (number w) before rest = ⊥
 Faults (part p) before rest = p.faults before rest ≡ true

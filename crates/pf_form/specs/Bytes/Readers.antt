@@ -1,7 +1,7 @@
 -- What the functions that read bytes return, and why bytes are no value's.
 use Rattle.std.specs.Prelude.{◌≡◌, ◌<◌, ℕ, List, [], ◌∷◌, ◌++◌, length, Result, Ok, Err, ◌⊎◌}
 use Rattle.pf_form.specs.declared.bytes.fault.{Fault.Fault, Undecoded.Undecoded}
-use Rattle.pf_form.specs.{Bytes.BasicForms.{Read, ◌>>=◌}, Bytes.Forms.{Shape, Value, Form, reads, writes, Fits, Faults}}
+use Rattle.pf_form.specs.{Bytes.BasicForms.{Read, ◌>>=◌}, Bytes.Forms.{Shape, Value, ByteForm, reads, writes, Fits, Faults}}
 use Rattle.pf_form.specs.declared.bytes.fault.Fault.TheVariants as fault
 use Rattle.pf_form.specs.declared.bytes.fault.Undecoded.TheVariants as undecoded
 
@@ -16,7 +16,7 @@ Gives view (Ok x) after read = read ≡ Ok (view x, after)
 Gives view (Err s) after read = Fails s read
 
 -- The bytes move on as the form's reading does.
-abbrev pub Reads : {X : Type 0} {a : Shape} → (X → Value a) → Form a → Result X Undecoded → List ℕ → List ℕ → Type 0
+abbrev pub Reads : {X : Type 0} {a : Shape} → (X → Value a) → ByteForm a → Result X Undecoded → List ℕ → List ℕ → Type 0
 Reads view f result before after = Gives view result after (reads f before)
 
 -- ---- whole texts
@@ -29,7 +29,7 @@ abbrev pub ended : {A : Type 0} → A × List ℕ → Result A Fault
 ended x = end_at x.1 >>= λ u. Ok x.0
 
 -- one value, and no byte after it
-abbrev pub read_all : {a : Shape} → Form a → List ℕ → Result (Value a) Fault
+abbrev pub read_all : {a : Shape} → ByteForm a → List ℕ → Result (Value a) Fault
 read_all f bytes = reads f bytes >>= ended
 
 abbrev pub GivesAll : {X A : Type 0} → (X → A) → Result X Undecoded → Result A Fault → Type 0
@@ -44,14 +44,14 @@ IfFault (undecoded.Fault f) P = P f
 -- ---- why bytes are no value's, by what is written and not by reading
 
 -- something isn't allowed where so many bytes are left
-abbrev pub GoesWrong : {a : Shape} → Form a → List ℕ → ℕ → Type 0
+abbrev pub GoesWrong : {a : Shape} → ByteForm a → List ℕ → ℕ → Type 0
 GoesWrong f bytes left = (before rest : List ℕ) × (bytes ≡ before ++ rest) × (length rest ≡ left) × Faults f before rest
 
 -- a value's bytes come first, and then so many more
-abbrev pub GoesOn : {a : Shape} → Form a → List ℕ → ℕ → Type 0
+abbrev pub GoesOn : {a : Shape} → ByteForm a → List ℕ → ℕ → Type 0
 GoesOn {a = a} f bytes left = (x : Value a) × (rest : List ℕ) × Fits f x × (bytes ≡ writes f x ++ rest) × (length rest ≡ left)
 
 -- Too few bytes: they don't begin with a value's, and nothing in them is wrong. Bad ones: something is, or there are more than a value's.
-abbrev pub Refused : {a : Shape} → Form a → List ℕ → Fault → Type 0
+abbrev pub Refused : {a : Shape} → ByteForm a → List ℕ → Fault → Type 0
 Refused f bytes fault.Short = ((left : ℕ) → GoesOn f bytes left → ⊥) × ((left : ℕ) → GoesWrong f bytes left → ⊥)
 Refused f bytes (fault.Bad left) = GoesWrong f bytes left ⊎ ((0 < left) × GoesOn f bytes left)

@@ -15,14 +15,14 @@ EndsWord [] = Unit {0}
 EndsWord (b ∷ bs) = is_blank b ≡ true
 
 -- a line is blanks, a word, and what comes after it, which is nothing or begins with a blank
-pub record IsFirstWord (line : List ℕ) (w : Word) (behind : List ℕ) : Type 0 where
+pub record IsFirstWord (line : List ℕ) (w : Word) (following : List ℕ) : Type 0 where
   pub blanks : List ℕ
-  pub all : line ≡ blanks ++ w ++ behind
+  pub all : line ≡ blanks ++ w ++ following
   pub blank : AreBlanks blanks
   pub word : IsWord w
-  pub ends : EndsWord behind
+  pub ends : EndsWord following
 
 -- a line is words between blanks: blanks alone, or a first word and the others after it
 abbrev pub IsCut : List ℕ → List Word → Type 0
 IsCut line [] = AreBlanks line
-IsCut line (w ∷ ws) = (behind : List ℕ) × IsFirstWord line w behind × IsCut behind ws
+IsCut line (w ∷ ws) = (following : List ℕ) × IsFirstWord line w following × IsCut following ws

@@ -1,7 +1,7 @@
 -- Lists that are read part by part, up to the last word of a text.
 use Rattle.std.proofs.Common.{◌≡◌, true, false, List, [], ◌∷◌, Result, Ok, Err, ap, sym, subst}
 use Rattle.std.specs.Prelude.{IsErrAnd}
-use Rattle.pf_form.specs.declared.{form.fault.Kind.Kind, form.fault.Stop.Stop, form.fault.Unread.Unread}
+use Rattle.pf_form.specs.declared.{form.fault.Kind.Kind, form.fault.WordFault.WordFault, form.fault.Unread.Unread}
 use Rattle.pf_form.specs.declared.form.fault.Unread.TheVariants as unread
 use Rattle.pf_form.specs.{Form.Words.Word, Form.Forms.{Form, making, Read, reads, ended, ◌>>=◌, read_all, is_decided, empties, one_or_more}, Form.Readers.{Fails, GivesAll, Shrinks, each_by}, Laws.Form.Decided.takes_some, Laws.Form.Forms.lawful}
 
@@ -13,7 +13,7 @@ made_ok make f ws x e = by (reads f ws) e where
   by (Ok (y, w ∷ ws)) e = absurd cc
   by (Err d) e = absurd cc
 
-made_err : {A B : Type 0} (make : A → B) (f : Form A) (ws : List Word) (s : Stop) → Fails s (read_all f ws) →
+made_err : {A B : Type 0} (make : A → B) (f : Form A) (ws : List Word) (s : WordFault) → Fails s (read_all f ws) →
     Fails s (read_all (making make f) ws)
 made_err make f ws s h = by (reads f ws) h where
   by : (r : Read _) → Fails s (r >>= ended) → Fails s (r >>= (λ y. Ok (make y.0, y.1)) >>= ended)

@@ -1,6 +1,6 @@
 //! Types that have a form.
 ghost use Rattle.std.specs.Prelude.{◌≡◌, ℕ, Bool, OnOk};
-ghost use Rattle.pf_form.specs.{Bytes.Forms.{Shape, Value, Form, onto, Fits}, Bytes.Readers.Reads};
+ghost use Rattle.pf_form.specs.{Bytes.Forms.{Shape, Value, ByteForm, onto, Fits}, Bytes.Readers.Reads};
 
 use crate::bytes::fault::Undecoded;
 use crate::bytes::reading::Rest;
@@ -15,7 +15,7 @@ pub trait Layout: Drop + Sized {
     ghost shape: { Shape };
 
     /// The form that it has in a version.
-    ghost form: { ℕ → Form shape };
+    ghost form: { ℕ → ByteForm shape };
 
     /// A value's plain data: contracts see nothing else of it.
     ghost plain: { Self → Value shape };

@@ -1,6 +1,6 @@
 //! Lists of values of a type that has a form. They fail as the type's reader or writer does.
 ghost use Rattle.std.specs.{Prelude.{◌≡◌, true, IfOk, OnOk, map, length}, List.AllByRecursion};
-ghost use Rattle.pf_form.specs.{Bytes.BasicForms.onto_each, Bytes.Forms.{Form, times, counted, onto, Fits}};
+ghost use Rattle.pf_form.specs.{Bytes.BasicForms.onto_each, Bytes.Forms.{ByteForm, times, counted, onto, Fits}};
 ghost use Rattle.pf_form.specs.{Bytes.Lists.{ordered, in_order}, Bytes.Readers.Reads};
 
 use crate::bytes::fault::{Fault, Undecoded};

@@ -1,6 +1,6 @@
 //! Names in fields of one width, filled with zeros.
 ghost use Rattle.std.specs.{Prelude.{◌≡◌, ◌≤◌, ◌++◌, length, replicate, nat_lt, IfOk, OnOk}, List.prefix_len};
-ghost use Rattle.pf_form.specs.{Bytes.Forms.{Form, onto}, Bytes.Names.{filled, are_zeros, padded, before_zero}, Bytes.Readers.Reads};
+ghost use Rattle.pf_form.specs.{Bytes.Forms.{ByteForm, onto}, Bytes.Names.{filled, are_zeros, padded, before_zero}, Bytes.Readers.Reads};
 
 use crate::bytes::fault::{Fault, Undecoded};
 use crate::bytes::reading::Rest;

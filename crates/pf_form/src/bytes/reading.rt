@@ -1,6 +1,6 @@
 //! Parts at the front of bytes. A reader moves the bytes on past its part; after an error nothing is said of where they are.
 ghost use Rattle.std.specs.Prelude.{◌≡◌, ◌≤◌, length, Ok, IfOk};
-ghost use Rattle.pf_form.specs.{Bytes.BasicForms.{constant_at, is_next, number_at}, Bytes.Forms.{Form, number, times, counted}};
+ghost use Rattle.pf_form.specs.{Bytes.BasicForms.{constant_at, is_next, number_at}, Bytes.Forms.{ByteForm, number, times, counted}};
 ghost use Rattle.pf_form.specs.Bytes.Readers.{Gives, Reads};
 
 use crate::bytes::fault::{Fault, Undecoded};

@@ -17,7 +17,7 @@ pub enum Kind {
 
 /// The first word that isn't allowed at its place.
 #[derive(Clone, Copy, Debug, PartialEq, Eq)]
-pub struct Stop {
+pub struct WordFault {
     /// What is wrong with the word.
     pub kind: Kind,
     /// How many words were left, with the one at fault; 0 if a word is missing.
@@ -28,15 +28,15 @@ pub struct Stop {
 #[derive(Clone, Copy, Debug, PartialEq, Eq)]
 pub enum Unread {
     /// A word isn't allowed at its place, or is missing.
-    Stopped(Stop),
+    Stopped(WordFault),
     /// Out of memory.
     Memory,
 }
 
-impl From<Stop> for Unread {
+impl From<WordFault> for Unread {
     ghost from_gives = { λ s e. e ≡ Stopped s };
 
-    fn from(stop: Stop) -> Unread {
+    fn from(stop: WordFault) -> Unread {
         Unread::Stopped(stop)
     }
 }

@@ -4,24 +4,24 @@ ghost use Rattle.pf_form.specs.declared.form.fault.Kind.TheVariants.{BadWord};
 ghost use Rattle.pf_form.specs.{Form.Words.texts, Form.Forms.{Reader, reads, end_at}};
 ghost use Rattle.pf_form.specs.Form.Readers.{Moves, if_there, there, GivesWhole, GivesAll, Shrinks, TakesSome, IsReadBy, each_by};
 
-use crate::form::fault::{Kind, Stop, Unread};
+use crate::form::fault::{Kind, Unread, WordFault};
 use std::alloc::Global;
 
 /// Words that are left to read.
 pub type Words<'a> = &'a [&'a [u8]];
 
 /// A fault at the first of these words.
-pub fn stop(kind: Kind, words: &[&[u8]]) -> Stop
+pub fn stop(kind: Kind, words: &[&[u8]]) -> WordFault
     ensures { result ≡ record { kind = kind; left = length words.now } }
 {
-    Stop {
+    WordFault {
         kind,
         left: words.len(),
     }
 }
 
 /// The fault of a first word that is wrong or missing.
-pub fn bad_word(words: &[&[u8]]) -> Stop
+pub fn bad_word(words: &[&[u8]]) -> WordFault
     ensures { result ≡ record { kind = BadWord; left = length words.now } }
 {
     stop(Kind::BadWord, words)
@@ -41,7 +41,7 @@ pub fn takes<'a>(words: &mut Words<'a>, key: &[u8]) -> bool
 }
 
 /// Takes this word, which has to come next. Fails with [`Kind::BadWord`] at the first word if it is another one, or if none is left.
-pub fn expect<'a>(words: &mut Words<'a>, key: &[u8]) -> Result<(), Stop>
+pub fn expect<'a>(words: &mut Words<'a>, key: &[u8]) -> Result<(), WordFault>
     ensures { Moves (there key.now) result words.old.now words.new.now }
 {
     match *words {
@@ -54,7 +54,7 @@ pub fn expect<'a>(words: &mut Words<'a>, key: &[u8]) -> Result<(), Stop>
 }
 
 /// Fails with [`Kind::BadWord`] at the first word that is left, if any.
-pub fn end(words: &[&[u8]]) -> Result<(), Stop>
+pub fn end(words: &[&[u8]]) -> Result<(), WordFault>
     ensures { GivesWhole (λ x. tt) result (end_at (texts words.now)) }
 {
     match words {
@@ -64,7 +64,7 @@ pub fn end(words: &[&[u8]]) -> Result<(), Stop>
 }
 
 /// Reads one or more of a part, up to the last word. Fails at the first fault, or out of memory.
-pub fn each<'a, T: Drop, R: Fn(&mut Words<'a>) -> Result<T, Stop>>(
+pub fn each<'a, T: Drop, R: Fn(&mut Words<'a>) -> Result<T, WordFault>>(
     alloc: Global,
     words: Words<'a>,
     read: R,

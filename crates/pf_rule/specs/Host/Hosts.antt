@@ -4,7 +4,7 @@ use Rattle.std.specs.{Prelude.{ℕ, ◌++◌, not, Bool, true, false, List, [], 
 use Rattle.std.proofs.Common.{◌≡◌, refl}
 use Rattle.pf_addr.specs.declared.addr.{Addr.Addr, Family.Family}
 use Rattle.pf_form.specs.declared.form.fault.Kind.{Kind}
-use Rattle.pf_addr.specs.{Address.{PlainNet, IsNetwork, network_of, contains}, Spelling.net_text, Grammar.SpellsNet, Reading.{part_at, pieces_at, v4_at, address_at, net_at}, Path.{Names.{IsTableName, table_name_of}, References.{behind, before}}}
+use Rattle.pf_addr.specs.{Address.{PlainNet, IsNetwork, network_of, contains}, Spelling.net_text, Grammar.SpellsNet, Reading.{part_at, pieces_at, v4_at, address_at, net_at}, Path.{Names.{IsTableName, table_name_of}, References.{rest_after, before}}}
 use Rattle.pf_form.specs.Form.{Words.Word, Forms.{Form, nothing, word, or, ◌>>=◌}}
 use Rattle.pf_addr.specs.declared.addr.Addr.TheVariants as addr
 use Rattle.pf_rule.specs.Value.Values.{begins_with, as_word}
@@ -77,7 +77,7 @@ SpellsHost w h = SpellsMarked (is_negated h) w h
 
 -- what is between "<" and ">"
 abbrev pub bracketed : Word → Option Word
-bracketed w = option_and_then (before (codes ">")) (behind (codes "<") w)
+bracketed w = option_and_then (before (codes ">")) (rest_after (codes "<") w)
 
 abbrev pub net_of : Word → Result PlainNet Kind
 net_of w = as_word (net_at w)

@@ -7,14 +7,14 @@ use crate::host::host::Host;
 use crate::take_word;
 use pf_addr::Net;
 use pf_addr::path::TableName;
-use pf_form::form::{Kind, Stop, Words, takes};
+use pf_form::form::{Kind, WordFault, Words, takes};
 
 /// What is between `<` and `>`.
 fn bracketed(word: &[u8]) -> Option<&[u8]>
     ensures { option_map (λ name. name.now) result ≡ bracketed word.now }
 {
-    let behind = word.strip_prefix(b"<".as_slice());
-    behind.and_then(|rest| rest.strip_suffix(b">".as_slice()))
+    let following = word.strip_prefix(b"<".as_slice());
+    following.and_then(|rest| rest.strip_suffix(b">".as_slice()))
 }
 
 /// A table's name between `<` and `>`, or else a network, as a host; negated or not.
@@ -43,21 +43,21 @@ fn host_of(word: &[u8]) -> Result<Host, Kind>
 
 /// The table or the network after a `!` that is a word of its own.
 #[tactic(auto, unfolding(crate::specs::Host::Hosts::a_negated_host))]
-fn negated_word<'a>(words: &mut Words<'a>) -> Result<Host, Stop>
+fn negated_word<'a>(words: &mut Words<'a>) -> Result<Host, WordFault>
     ensures { Moves a_negated_host result words.old.now words.new.now }
 {
     take_word!(words, word => marked(true, word))
 }
 
 #[tactic(auto, unfolding(crate::specs::Host::Hosts::a_host))]
-fn host_word<'a>(words: &mut Words<'a>) -> Result<Host, Stop>
+fn host_word<'a>(words: &mut Words<'a>) -> Result<Host, WordFault>
     ensures { Moves a_host result words.old.now words.new.now }
 {
     take_word!(words, word => host_of(word))
 }
 
 #[tactic(auto, unfolding(crate::specs::Host::Hosts::host))]
-pub(crate) fn read_host<'a>(words: &mut Words<'a>) -> Result<Host, Stop>
+pub(crate) fn read_host<'a>(words: &mut Words<'a>) -> Result<Host, WordFault>
     ensures { Moves host result words.old.now words.new.now }
 {
     if takes(words, b"any") {

@@ -1,7 +1,7 @@
 //! Rules in bytes, and read from them.
 ghost use Rattle.std.specs.Prelude.{◌≡◌, ◌<◌, ◌==◌, false, true, IfOk, IfSome, length, map, unwrap_or};
 ghost use Rattle.std.specs.List.{AllByRecursion, list_all};
-ghost use Rattle.pf_form.specs.{Bytes.Forms.{Form, Fits, times}, Bytes.Codes.below, Bytes.Readers.Reads};
+ghost use Rattle.pf_form.specs.{Bytes.Forms.{ByteForm, Fits, times}, Bytes.Codes.below, Bytes.Readers.Reads};
 ghost use Rattle.pf_rule.specs.{Value.Values.{IsInterfaceName, IsLabel, IsProtocol, has_ports}, Value.Ports.has_ports_of};
 ghost use Rattle.pf_rule.specs.{Rules.{IsEffect, IsRule, LabelFits}, Sum.Forms.{direction_byte, effect_byte, keeps_state}};
 ghost use Rattle.pf_rule.specs.Sum.Layouts.{some_family, plain_family, interface, plain_interface, has_labels, label_form, plain_label};
@@ -126,7 +126,7 @@ fn read_some_family<'a>(from: &mut Rest<'a>) -> Result<Option<Family>, Undecoded
 
 /// A protocol's number, or 0 for none.
 fn read_protocol<'a>(from: &mut Rest<'a>) -> Result<Option<Protocol>, Undecoded>
-    ensures read { Reads (λ p. unwrap_or p 0) (Form.number 1) result from.old.now from.new.now }
+    ensures read { Reads (λ p. unwrap_or p 0) (ByteForm.number 1) result from.old.now from.new.now }
     ensures kept { IfOk result (λ p. IfSome p IsProtocol) }
 {
     let number = read_u8(from)?;
@@ -218,7 +218,7 @@ fn read_label<'a>(version: u8, from: &mut Rest<'a>) -> Result<Option<Label>, Und
 
 /// The next `count` bytes. Fails if fewer are left.
 fn read_front<'a>(count: usize, from: &mut Rest<'a>) -> Result<&'a [u8], Undecoded>
-    ensures read { Reads (λ b. b.now) (times count (Form.number 1)) result from.old.now from.new.now }
+    ensures read { Reads (λ b. b.now) (times count (ByteForm.number 1)) result from.old.now from.new.now }
     ensures length { IfOk result (λ b. length b.now ≡ count) }
 {
     if from.len() < count {

@@ -8,7 +8,7 @@ use crate::take_word;
 use crate::value::ports::{Comparison, PortRange, PortTest};
 use crate::value::value_words::port_word;
 use crate::value::values::port_of;
-use pf_form::form::{Kind, Stop, Words, takes};
+use pf_form::form::{Kind, WordFault, Words, takes};
 
 /// What the first word of a test gives: the whole test, or its first number.
 #[derive(Clone, Copy)]
@@ -67,7 +67,7 @@ fn start_of(word: &[u8]) -> Result<PortStart, Kind>
     Ok(PortStart::Test(PortTest::Compared { operator, port }))
 }
 
-fn start_word<'a>(words: &mut Words<'a>) -> Result<PortStart, Stop>
+fn start_word<'a>(words: &mut Words<'a>) -> Result<PortStart, WordFault>
     ensures { Moves a_start result words.old.now words.new.now }
 {
     take_word!(words, word => start_of(word))
@@ -76,12 +76,12 @@ fn start_word<'a>(words: &mut Words<'a>) -> Result<PortStart, Stop>
 /// What may come after a number that is a word of its own: a binary operator and the second number.
 #[tactic(auto, unfolding(crate::specs::Value::Ports::range_end))]
 fn read_range_end<'a>(
-    behind_number: bool,
+    after_number: bool,
     words: &mut Words<'a>,
-) -> Result<Option<(PortRange, u16)>, Stop>
-    ensures { Moves (range_end behind_number) result words.old.now words.new.now }
+) -> Result<Option<(PortRange, u16)>, WordFault>
+    ensures { Moves (range_end after_number) result words.old.now words.new.now }
 {
-    if !behind_number {
+    if !after_number {
         return Ok(None);
     }
     if takes(words, b"><") {
@@ -95,7 +95,7 @@ fn read_range_end<'a>(
 
 /// A test that doesn't begin with an operator as a word of its own.
 #[tactic(auto, unfolding(crate::specs::Value::Ports::ranged))]
-fn read_ranged<'a>(words: &mut Words<'a>) -> Result<PortTest, Stop>
+fn read_ranged<'a>(words: &mut Words<'a>) -> Result<PortTest, WordFault>
     ensures { Moves ranged result words.old.now words.new.now }
 {
     let start = start_word(words)?;
@@ -111,7 +111,7 @@ fn read_ranged<'a>(words: &mut Words<'a>) -> Result<PortTest, Stop>
 }
 
 #[tactic(auto, unfolding(crate::specs::Value::Ports::compared))]
-fn read_compared<'a>(operator: Comparison, words: &mut Words<'a>) -> Result<PortTest, Stop>
+fn read_compared<'a>(operator: Comparison, words: &mut Words<'a>) -> Result<PortTest, WordFault>
     ensures { Moves (compared operator) result words.old.now words.new.now }
 {
     let port = port_word(true, words)?;
@@ -119,7 +119,7 @@ fn read_compared<'a>(operator: Comparison, words: &mut Words<'a>) -> Result<Port
 }
 
 #[tactic(auto, unfolding(crate::specs::Value::Ports::port_test))]
-fn read_test<'a>(words: &mut Words<'a>) -> Result<PortTest, Stop>
+fn read_test<'a>(words: &mut Words<'a>) -> Result<PortTest, WordFault>
     ensures { Moves port_test result words.old.now words.new.now }
 {
     if takes(words, b"=") {
@@ -132,7 +132,7 @@ fn read_test<'a>(words: &mut Words<'a>) -> Result<PortTest, Stop>
 }
 
 #[tactic(auto, unfolding(crate::specs::Value::Ports::order_or_range))]
-fn read_order_or_range<'a>(words: &mut Words<'a>) -> Result<PortTest, Stop>
+fn read_order_or_range<'a>(words: &mut Words<'a>) -> Result<PortTest, WordFault>
     ensures { Moves order_or_range result words.old.now words.new.now }
 {
     if takes(words, b"<") {
@@ -152,7 +152,7 @@ fn read_order_or_range<'a>(words: &mut Words<'a>) -> Result<PortTest, Stop>
 
 /// The test of one end's port, if there is one.
 #[tactic(auto, unfolding(crate::specs::Value::Ports::port))]
-pub fn read_port<'a>(words: &mut Words<'a>) -> Result<Option<PortTest>, Stop>
+pub fn read_port<'a>(words: &mut Words<'a>) -> Result<Option<PortTest>, WordFault>
     ensures { Moves port result words.old.now words.new.now }
 {
     if !takes(words, b"port") {

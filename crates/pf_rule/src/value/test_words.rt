@@ -8,7 +8,7 @@ use crate::value::interface::Interface;
 use crate::value::protocol::Protocol;
 use crate::value::value_words::{interface_word, protocol_word};
 use pf_addr::Family;
-use pf_form::form::{Stop, Words, takes};
+use pf_form::form::{WordFault, Words, takes};
 
 /// The test of the direction, if there is one.
 #[tactic(auto, unfolding(crate::specs::Value::Tests::direction))]
@@ -26,7 +26,7 @@ pub fn read_direction<'a>(words: &mut Words<'a>) -> Option<Direction>
 
 /// The test of the interface, if there is one.
 #[tactic(auto, unfolding(crate::specs::Value::Tests::interface))]
-pub fn read_interface<'a>(words: &mut Words<'a>) -> Result<Option<Interface>, Stop>
+pub fn read_interface<'a>(words: &mut Words<'a>) -> Result<Option<Interface>, WordFault>
     ensures { Moves interface result words.old.now words.new.now }
 {
     if !takes(words, b"on") {
@@ -51,7 +51,7 @@ pub fn read_family<'a>(words: &mut Words<'a>) -> Option<Family>
 
 /// The test of the protocol, if there is one.
 #[tactic(auto, unfolding(crate::specs::Value::Tests::protocol))]
-pub fn read_protocol<'a>(words: &mut Words<'a>) -> Result<Option<Protocol>, Stop>
+pub fn read_protocol<'a>(words: &mut Words<'a>) -> Result<Option<Protocol>, WordFault>
     ensures { Moves protocol result words.old.now words.new.now }
 {
     if !takes(words, b"proto") {

@@ -7,7 +7,7 @@ use crate::value::label::Label;
 use crate::value::protocol::Protocol;
 use crate::value::values::{address_of, label_of, port_of, protocol_of};
 use pf_addr::Addr;
-use pf_form::form::{Stop, Words};
+use pf_form::form::{WordFault, Words};
 
 /// Takes the first word if it reads as a value.
 #[macro_export]
@@ -27,35 +27,35 @@ macro_rules! take_word {
 }
 
 /// An interface's name.
-pub fn interface_word<'a>(words: &mut Words<'a>) -> Result<Interface, Stop>
+pub fn interface_word<'a>(words: &mut Words<'a>) -> Result<Interface, WordFault>
     ensures { Moves an_interface result words.old.now words.new.now }
 {
     take_word!(words, word => Interface::from_ascii(word))
 }
 
 /// A protocol, by its name or its number.
-pub fn protocol_word<'a>(words: &mut Words<'a>) -> Result<Protocol, Stop>
+pub fn protocol_word<'a>(words: &mut Words<'a>) -> Result<Protocol, WordFault>
     ensures { Moves a_protocol result words.old.now words.new.now }
 {
     take_word!(words, word => protocol_of(word))
 }
 
 /// A rule's label.
-pub fn label_word<'a>(words: &mut Words<'a>) -> Result<Label, Stop>
+pub fn label_word<'a>(words: &mut Words<'a>) -> Result<Label, WordFault>
     ensures { Moves a_label result words.old.now words.new.now }
 {
     take_word!(words, word => label_of(word))
 }
 
 /// An address.
-pub fn address_word<'a>(words: &mut Words<'a>) -> Result<Addr, Stop>
+pub fn address_word<'a>(words: &mut Words<'a>) -> Result<Addr, WordFault>
     ensures { Moves an_address result words.old.now words.new.now }
 {
     take_word!(words, word => address_of(word))
 }
 
 /// A port of a protocol that has ports, or of one that has none.
-pub fn port_word<'a>(ports: bool, words: &mut Words<'a>) -> Result<u16, Stop>
+pub fn port_word<'a>(ports: bool, words: &mut Words<'a>) -> Result<u16, WordFault>
     ensures { Moves (a_port ports) result words.old.now words.new.now }
 {
     take_word!(words, word => port_of(ports, word))

@@ -17,8 +17,8 @@ abbrev pub Acknowledges : ℕ → Sitting → Type 0
 Acknowledges n s = (last : PlainReceipt) × (s.last ≡ Some last) × (n ≤ last.acked)
 
 -- a change that the session was told is applied or stored is acknowledged, with all before it
-abbrev pub AcknowledgesTold : Type 0
-AcknowledgesTold = (base : PlainDurable) (setting : Setting) (c : Command) (old new : Sitting) (text : List ℕ)
+abbrev pub AcknowledgesReplied : Type 0
+AcknowledgesReplied = (base : PlainDurable) (setting : Setting) (c : Command) (old new : Sitting) (text : List ℕ)
     (run : IsCommandRun base setting c old new text) (seq : ℕ) → number_in run.reply ≡ Some seq → Acknowledges seq new
 
 -- and stays so

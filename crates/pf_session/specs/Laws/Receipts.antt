@@ -13,7 +13,7 @@ IsWithin slip last = ForSome slip (λ s. (l : PlainReceipt) × (last ≡ Some l)
 
 -- Steps one after the other, where the receipt after each of them is within the last one. After a call it is that of its reply.
 abbrev pub ChainWithin : {S L : Type 0} → Option PlainReceipt → (S → Option PlainReceipt) → (L → S → S → List ℕ → Type 0) → S → S → List L → List ℕ → Type 0
-ChainWithin last receipt Step old new xs text = Chain (λ x a b told. Step x a b told × IsWithin (receipt b) last) old new xs text
+ChainWithin last receipt Step old new xs text = Chain (λ x a b reported. Step x a b reported × IsWithin (receipt b) last) old new xs text
 
 -- A session's own receipt, and that of each of its replies, is within the one that it has at the end.
 abbrev pub SitsWithin : (ℕ → Type 0) → Type 0

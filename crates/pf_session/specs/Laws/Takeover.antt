@@ -29,8 +29,8 @@ pub record WasRefused (text : List ℕ) : Type 0 where
   pub why : Refusal
   pub is : IsWant why
   pub front : List ℕ
-  pub behind : List ℕ
-  pub text_is : text ≡ front ++ (reply_text (Refused why) ++ behind)
+  pub following : List ℕ
+  pub text_is : text ≡ front ++ (reply_text (Refused why) ++ following)
 
 -- A Book that is ready for the lines of an export holds the states that were exported once it was given these lines, one by one, unless a
 -- line was refused for want of memory or room, or for a fault. Each state has its name, its generation and its flow, never expires, and

@@ -9,7 +9,7 @@ use Rattle.pf_view.specs.Seers.{PlainSeer}
 use Rattle.pf_line.specs.{declared.{request.Request.Request, request.Request.TheVariants.{Run, ShowStatus, ShowAnchors}}, Reply.Replies.reply_text}
 use Rattle.pf_book.specs.Receipts.{PlainReceipt, IsAnswered}
 use Rattle.pf_session.specs.declared.line_engine.fault.EngineFault.{EngineFault}
-use Rattle.pf_session.specs.{LineEngine.Chains.Chain, LineEngine.Lines.seen, LineEngine.Sessions.IsSession, Server.Inquiries.is_inquiry, Server.Sittings.{AreAnchorsShown, IsJudged, IsStatusShown, Sitting, at_next_line, at_start, next_line, packet_in}, Telling.IsToldBy}
+use Rattle.pf_session.specs.{LineEngine.Chains.Chain, LineEngine.Lines.seen, LineEngine.Sessions.IsSession, Server.Inquiries.is_inquiry, Server.Sittings.{AreAnchorsShown, IsJudged, IsStatusShown, Sitting, at_next_line, at_start, next_line, packet_in}, Telling.IsReplyTo}
 
 -- ---- what is denied
 
@@ -56,7 +56,7 @@ denied_text = codes "err denied" ++ 10 ∷ []
 -- it was denied, and nothing was run
 pub record IsDenied (old new : Sitting) (text : List ℕ) : Type 0 where
   pub same : new ≡ old
-  pub told : text ≡ denied_text
+  pub reported : text ≡ denied_text
 
 -- ---- calls
 
@@ -67,7 +67,7 @@ pub record IsInquired (base : PlainDurable) (setting : Setting) (c : Command) (o
   pub slip : PlainReceipt
   pub answered : IsAnswered base setting c reply slip old.last
   pub unchanged : heard answered.before (call c reply) answered.came ≡ answered.before
-  pub told : text ≡ reply_text reply
+  pub reported : text ≡ reply_text reply
   pub kept : new ≡ record old { last = Some slip }
 
 abbrev pub AsksBy : Option PlainPacket → Bool → PlainDurable → Setting → Command → Sitting → Sitting → List ℕ → Type 0
@@ -90,12 +90,12 @@ AsksOrShows base setting (ShowAnchors path) old new text = AreAnchorsShown base 
 -- before anything else is said of a line, it is denied or not
 abbrev pub IsHeard : Bool → PlainDurable → Setting → List ℕ → Sitting → Sitting → List ℕ → Type 0
 IsHeard true base setting line old new text = IsDenied old new text
-IsHeard false base setting line old new text = IsToldBy (AsksOrShows base setting) line old new text
+IsHeard false base setting line old new text = IsReplyTo (AsksOrShows base setting) line old new text
 
 -- A line passed the gate with its number, and this is its reply.
 pub record AsksLine (passed : ℕ → Type 0) (base : PlainDurable) (setting : Setting) (line : List ℕ) (old new : Sitting) (text : List ℕ) : Type 0 where
   pub gate : passed (next_line old.line)
-  pub told : IsHeard (is_denied line) base setting line (at_next_line old) new text
+  pub reported : IsHeard (is_denied line) base setting line (at_next_line old) new text
 
 -- These lines passed the gate one after the other, and this is the text of their replies.
 abbrev pub AsksLines : (ℕ → Type 0) → PlainDurable → Setting → Sitting → Sitting → List (List ℕ) → List ℕ → Type 0

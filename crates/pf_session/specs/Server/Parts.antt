@@ -66,14 +66,14 @@ pub record Resumes (left begun : Within Sitting) : Type 0 where
   pub front : List PlainChange
   pub renews : Renews left.base front begun.base
   pub knows : KnowsWithin front left.here.seer
-  pub told : ForSome left.here.last (λ slip. IsPrefix (take slip.acked slip.front) front)
+  pub reported : ForSome left.here.last (λ slip. IsPrefix (take slip.acked slip.front) front)
 
 -- A peer's stream does, and has no receipt there either.
 pub record Follows (left begun : Within (Option PlainReceipt)) : Type 0 where
   pub last : begun.here ≡ None
   pub front : List PlainChange
   pub renews : Renews left.base front begun.base
-  pub told : ForSome left.here (λ slip. IsPrefix (take slip.acked slip.front) front)
+  pub reported : ForSome left.here (λ slip. IsPrefix (take slip.acked slip.front) front)
 
 -- The lines of a session, over its openings; those of one that may only ask; and the parts of a peer's stream.
 abbrev pub TakesLinesAlong : (ℕ → Type 0) → Within Sitting → Within Sitting → List (List ℕ) → List ℕ → Type 0

@@ -9,7 +9,7 @@ use Rattle.pf_view.specs.Seers.{PlainSeer}
 use Rattle.pf_line.specs.{declared.{request.Request.Request, request.Request.TheVariants.{Run, ShowStatus, ShowAnchors}}, Reply.Replies.reply_text}
 use Rattle.pf_book.specs.{Anchors.SaysAnchors, Groups.{Answered as Receipted, IsGroupAnswered}, Receipts.{PlainReceipt, IsAnswered, learns_from}, Statuses.SaysStatus, declared.status.BookStatus.BookStatus}
 use Rattle.pf_session.specs.declared.line_engine.fault.EngineFault.{EngineFault}
-use Rattle.pf_session.specs.{Anchors.listed_text, LineEngine.Chains.Chain, LineEngine.Sessions.IsSession, Server.Streams.last_receipt, Statuses.shown_text, Telling.IsToldBy}
+use Rattle.pf_session.specs.{Anchors.listed_text, LineEngine.Chains.Chain, LineEngine.Sessions.IsSession, Server.Streams.last_receipt, Statuses.shown_text, Telling.IsReplyTo}
 
 -- Where a session has come to: the number of its last line, the receipt of its last call, and what its seer saw and learnt.
 pub record Sitting : Type 0 where
@@ -67,13 +67,13 @@ pub record IsAnsweredInGroup (base : PlainDurable) (setting : Setting) (c : Comm
   pub earlier : List Command
   pub later : List Command
   -- what the earlier ones and the later ones were answered
-  pub told : List Receipted
+  pub reported : List Receipted
   pub others : List Receipted
   pub handed : Option PlainReceipt
-  pub group : IsGroupAnswered base setting (earlier ++ c ∷ later) (Ok (told ++ (r, slip) ∷ others)) handed
+  pub group : IsGroupAnswered base setting (earlier ++ c ∷ later) (Ok (reported ++ (r, slip) ∷ others)) handed
   pub in_turn : AreInTurn group.before (earlier ++ c ∷ later)
-  pub place : length told ≡ length earlier
-  pub last_is : (last ≡ handed) ⊎ (last ≡ last_receipt handed (Ok told))
+  pub place : length reported ≡ length earlier
+  pub last_is : (last ≡ handed) ⊎ (last ≡ last_receipt handed (Ok reported))
 
 -- The Book answered the command, alone or at its place in a group.
 abbrev pub IsAnsweredInTurn : PlainDurable → Setting → Command → Reply → PlainReceipt → Option PlainReceipt → Type 0
@@ -90,7 +90,7 @@ pub record IsCommandRun (base : PlainDurable) (setting : Setting) (c : Command) 
   pub reply : Reply
   pub slip : PlainReceipt
   pub answered : IsAnsweredInTurn base setting c reply slip old.last
-  pub told : text ≡ reply_text reply
+  pub reported : text ≡ reply_text reply
   pub keeps : Keeps slip old new
 
 -- The device failed in a group that had the command, with the receipt of the session's last call handed in. The changes of the group stand
@@ -99,7 +99,7 @@ pub record HasFaulted (base : PlainDurable) (setting : Setting) (c : Command) (o
   pub earlier : List Command
   pub later : List Command
   pub group : IsGroupAnswered base setting (earlier ++ c ∷ later) (Err Fault) old.last
-  pub told : text ≡ reply_text (Refused Fault)
+  pub reported : text ≡ reply_text (Refused Fault)
   pub same : new ≡ old
 
 -- the packet that a command asks to judge, if it does
@@ -122,7 +122,7 @@ pub record IsStatusShown (base : PlainDurable) (setting : Setting) (old new : Si
   pub status : BookStatus
   pub says : SaysStatus base setting status old.last
   pub sessions : ℕ
-  pub told : text ≡ shown_text status sessions
+  pub reported : text ≡ shown_text status sessions
   pub same : new ≡ old
 
 -- The Book listed the anchors directly below a path, or had no memory for that, with the receipt of the session's last call handed in.
@@ -130,7 +130,7 @@ pub record IsStatusShown (base : PlainDurable) (setting : Setting) (old new : Si
 pub record AreAnchorsShown (base : PlainDurable) (setting : Setting) (path : List ℕ) (old new : Sitting) (text : List ℕ) : Type 0 where
   pub listed : Option (List (List ℕ))
   pub says : SaysAnchors base setting path listed old.last
-  pub told : text ≡ listed_text listed
+  pub reported : text ≡ listed_text listed
   pub same : new ≡ old
 
 abbrev pub RunsOrShows : PlainDurable → Setting → Request → Sitting → Sitting → List ℕ → Type 0
@@ -143,7 +143,7 @@ RunsOrShows base setting (ShowAnchors path) old new text = AreAnchorsShown base 
 -- A line passed the gate with its number, and this is its reply.
 pub record TakesLine (passed : ℕ → Type 0) (base : PlainDurable) (setting : Setting) (line : List ℕ) (old new : Sitting) (text : List ℕ) : Type 0 where
   pub gate : passed (next_line old.line)
-  pub told : IsToldBy (RunsOrShows base setting) line (at_next_line old) new text
+  pub reported : IsReplyTo (RunsOrShows base setting) line (at_next_line old) new text
 
 -- These lines passed the gate one after the other, and this is the text of their replies.
 abbrev pub TakesLines : (ℕ → Type 0) → PlainDurable → Setting → Sitting → Sitting → List (List ℕ) → List ℕ → Type 0

@@ -37,7 +37,7 @@ pub record RunsGroup (base : PlainDurable) (setting : Setting) (ms : List Messag
   pub few : length ms ≤ GROUP_LIMIT
   pub result : Result (List Receipted) Refusal
   pub answered : IsGroupAnswered base setting (asked ms) result old
-  pub told : text ≡ group_text ms result
+  pub reported : text ≡ group_text ms result
   pub kept : new ≡ last_receipt old result
 
 -- A group was run, or a fault was written.
@@ -67,13 +67,13 @@ abbrev pub messages_of : List (List Message) → List Message
 messages_of groups = flat_map (λ g. g) groups
 
 -- a fault, if there is one
-abbrev pub told : Option PeerFault → List Part
-told None = []
-told (Some f) = Err f ∷ []
+abbrev pub fault_parts : Option PeerFault → List Part
+fault_parts None = []
+fault_parts (Some f) = Err f ∷ []
 
 -- what is done at a piece: each of its groups is run, and then its fault is written
 abbrev pub parts_in : Piece → List Part
-parts_in p = map Ok p.groups ++ told p.fault
+parts_in p = map Ok p.groups ++ fault_parts p.fault
 
 -- A piece of a stream whose bytes so far are whole messages and these. It leaves those of the next message, and none after a fault, behind
 -- which there is no piece.
@@ -139,13 +139,13 @@ IsStream Serves result unread still_unread old new held held' = IsStreamFrom Ser
 
 -- ---- a piece
 
-abbrev pub told_text : Option PeerFault → List ℕ
-told_text None = []
-told_text (Some f) = reply_text (Refused (BadPeer f))
+abbrev pub peer_fault_text : Option PeerFault → List ℕ
+peer_fault_text None = []
+peer_fault_text (Some f) = reply_text (Refused (BadPeer f))
 
 -- the text where a reader finds this at the end
 abbrev pub end_text : Result (Option PeerFault) FeedError → List ℕ
-end_text (Ok fault) = told_text fault
+end_text (Ok fault) = peer_fault_text fault
 end_text (Err e) = []
 
 -- how the stream goes on after this fault, if there is one
@@ -155,9 +155,9 @@ IsGoing Over fault = (f : PeerFault) × (fault ≡ Some f)
 
 -- a fault was written, if there was one
 abbrev pub TellsFault : Result Progress EngineFault → Option PeerFault → Option (List ℕ) → Option (List ℕ) → Type 0
-TellsFault (Ok goes) fault held held' = IsGoing goes fault × Appends held held' (told_text fault)
+TellsFault (Ok goes) fault held held' = IsGoing goes fault × Appends held held' (peer_fault_text fault)
 TellsFault (Err fault.Read) fault held held' = ⊥
-TellsFault (Err fault.Write) fault held held' = WritesFront held held' (told_text fault)
+TellsFault (Err fault.Write) fault held held' = WritesFront held held' (peer_fault_text fault)
 TellsFault (Err fault.Memory) fault held held' = ⊥
 
 -- what is wrong at the end was written, if anything is
@@ -189,7 +189,7 @@ pub record RunsFed {S : Type 0} (Serves : S → S → List Part → List ℕ →
   pub groups : List (List Message)
   pub are : AreGroups groups
   pub of : messages_of groups ≡ ms
-  pub ran : RunsParts Serves result (map Ok groups ++ told fault) fault old new held held'
+  pub ran : RunsParts Serves result (map Ok groups ++ fault_parts fault) fault old new held held'
 
 -- nothing was done
 pub record Waits {S : Type 0} (old new : S) (held held' : Option (List ℕ)) : Type 0 where

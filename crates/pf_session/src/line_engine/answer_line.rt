@@ -55,7 +55,7 @@ pub trait AnswerLine {
         waiting: &mut Self::Waiting,
         writer: &mut W,
     ) -> io::Result<()>
-        ensures told { (lines : List (List ℕ)) → Waits lines waiting.old →
+        ensures reported { (lines : List (List ℕ)) → Waits lines waiting.old →
             Answers (Chain Takes) result lines self.old self.new (W.contents writer.old) (W.contents writer.new) }
         ensures none { Waits [] waiting.new };
 

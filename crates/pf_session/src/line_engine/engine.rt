@@ -115,7 +115,7 @@ pub fn go_on<A: AnswerLine, R: Read, W: Write, P: Pause>(
 ///
 /// The room for what it reads is allocated before anything is read. Its faults are those of `go_on`, and `Err(Memory)`: there was no memory
 /// for that room, and nothing was read, answered or written.
-pub fn serve<A: AnswerLine, R: Read, W: Write>(
+pub fn answer_reader<A: AnswerLine, R: Read, W: Write>(
     alloc: Global,
     reader: &mut R,
     writer: &mut W,

@@ -169,7 +169,7 @@ fn run_asker<A: AskBook<J>, J: Chapter, G: Gate, R: Read, O: Write>(
     ensures session { IsSession (AsksLines (G.passed asker.old.gate.now asker.old.number) J.base J.setting) result
         (R.remaining reader.old) (R.remaining reader.new) (place asker.old) (place asker.new) (O.contents writer.old) (O.contents writer.new) }
 {
-    line_engine::serve(alloc, reader, writer, asker)
+    line_engine::answer_reader(alloc, reader, writer, asker)
 }
 
 /// Answers the lines of a reader that may ask and change nothing, as [`serve`](crate::serve) does, with its faults.
@@ -178,7 +178,7 @@ fn run_asker<A: AskBook<J>, J: Chapter, G: Gate, R: Read, O: Write>(
 /// of it, unless it is silent. The session's seer answers a `judge`; every other line that asks goes through `Shared::run` by itself, with
 /// the receipt of the session's last call. Whatever the lines are, the opening is after each call of the session what it was before it:
 /// its changes, what is shown, and the tickets.
-pub fn serve_asking<
+pub fn answer_asking<
     W: Wait,
     D: Disk + Drop,
     J: Chapter + Numbering,
@@ -248,7 +248,7 @@ fn run_asking_part<A: AskBook<J>, J: Chapter, G: Gate, P: Pause, R: Read, O: Wri
     line_engine::go_on(alloc, intake, reader, writer, asker, pause)
 }
 
-/// Answers the lines of a reader that may ask and change nothing, as [`serve_asking`] does, in one opening of several: from where the
+/// Answers the lines of a reader that may ask and change nothing, as [`answer_asking`] does, in one opening of several: from where the
 /// session is, until it pauses or the reader is at its end, as [`go_on`](crate::go_on) does, with its faults.
 pub fn go_on_asking<
     W: Wait,

@@ -1,6 +1,6 @@
 //! What sessions and streams call: a Book that others use too.
 ghost use Rattle.std.specs.{Option.option_copied, Prelude.{◌≡◌, IfSome, MatchOption, None, Ok, Err}};
-ghost use Rattle.pf_book.specs.{Anchors.{SaysAnchors, listed_in}, Groups.{IsAnsweredAsAlone, IsGroupAnswered, told}, Receipts.IsAnswered, Statuses.SaysStatus, Together.IsAnsweredTogether};
+ghost use Rattle.pf_book.specs.{Anchors.{SaysAnchors, listed_in}, Groups.{IsAnsweredAsAlone, IsGroupAnswered, result_list}, Receipts.IsAnswered, Statuses.SaysStatus, Together.IsAnsweredTogether};
 
 use crate::server::inquiry::Inquiry;
 use pf_addr::path::Path;
@@ -33,7 +33,7 @@ pub trait CallBook<J: Chapter> {
         commands: &[Command],
         last: Option<&Receipt<J>>,
     ) -> Result<Vec<(Reply, Receipt<J>)>, Refusal>
-        ensures { IsGroupAnswered J.base J.setting commands.now (told result) (option_copied last.entry) };
+        ensures { IsGroupAnswered J.base J.setting commands.now (result_list result) (option_copied last.entry) };
 
     /// Runs commands as a group if each of them gets the reply that it would get alone, as [`Shared::group_as_alone`] does. `None`: nothing
     /// was done.
@@ -42,7 +42,7 @@ pub trait CallBook<J: Chapter> {
         commands: &[Command],
         last: Option<&Receipt<J>>,
     ) -> Option<Result<Vec<(Reply, Receipt<J>)>, Refusal>>
-        ensures { IfSome result (λ r. IsAnsweredAsAlone J.base J.setting commands.now (told r) (option_copied last.entry)) };
+        ensures { IfSome result (λ r. IsAnsweredAsAlone J.base J.setting commands.now (result_list r) (option_copied last.entry)) };
 
     /// What the Book says of itself, as [`Shared::status`] does.
     fn status(&self, last: Option<&Receipt<J>>) -> BookStatus

@@ -33,7 +33,7 @@ impl<'a, C: CallBook<J>, J: Chapter, G: Gate> Session<'a, C, J, G> {
     }
 
     /// Answers the lines that wait, and then what was read of a line.
-    pub(super) fn answer_behind<O: Write>(
+    pub(super) fn answer_after<O: Write>(
         &mut self,
         alloc: Global,
         said: Result<Option<Request>, Refusal>,
@@ -83,7 +83,7 @@ impl<'a, C: CallBook<J>, J: Chapter, G: Gate> Session<'a, C, J, G> {
             Ok(()) => Ok(()),
             Err(failed) => {
                 let request = Request::Run(failed.value);
-                self.answer_behind(alloc, Ok(Some(request)), waiting, writer)
+                self.answer_after(alloc, Ok(Some(request)), waiting, writer)
             },
         }
     }

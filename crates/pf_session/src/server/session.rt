@@ -188,7 +188,7 @@ impl<'a, C: CallBook<J>, J: Chapter, G: Gate> AnswerLine for Session<'a, C, J, G
         }
         match command_of(parse_line(alloc, line)) {
             Ok(command) => self.let_wait(alloc, command, waiting, writer),
-            Err(said) => self.answer_behind(alloc, said, waiting, writer),
+            Err(said) => self.answer_after(alloc, said, waiting, writer),
         }
     }
 
@@ -217,7 +217,7 @@ fn run_session<C: CallBook<J>, J: Chapter, G: Gate, R: Read, O: Write>(
         (R.remaining reader.old) (R.remaining reader.new) (sitting session.old) (sitting session.new)
         (O.contents writer.old) (O.contents writer.new) }
 {
-    line_engine::serve(alloc, reader, writer, session)
+    line_engine::answer_reader(alloc, reader, writer, session)
 }
 
 /// Answers the lines of a reader, as `serve_alone` does, by a Book that other sessions use too, until the reader is at its end.
@@ -256,7 +256,7 @@ pub fn serve<
         None last seer.old seer.new (O.contents writer.old) (O.contents writer.new) }
 {
     let mut last = None;
-    serve_from(
+    continue_session(
         rt, alloc, reader, writer, shared, seer, gate, session, &mut last,
     )
 }
@@ -266,7 +266,7 @@ pub fn serve<
 ///
 /// The front of the receipt that the caller then has begins with what each reply was answered by, as
 /// [`the_last_receipt_has_all`](crate::laws::the_last_receipt_has_all) says. So does the history of the Book that confirms it.
-pub fn serve_from<
+pub fn continue_session<
     W: Wait,
     D: Disk + Drop,
     J: Chapter + Numbering,
@@ -289,11 +289,11 @@ pub fn serve_from<
         last.old last.new seer.old seer.new (O.contents writer.old) (O.contents writer.new) }
 {
     let book = Caller::new(rt, shared);
-    serve_by(alloc, reader, writer, &book, seer, gate, session, last)
+    answer_session(alloc, reader, writer, &book, seer, gate, session, last)
 }
 
 // The same, by whatever is called.
-fn serve_by<C: CallBook<J>, J: Chapter, G: Gate, R: Read, O: Write>(
+fn answer_session<C: CallBook<J>, J: Chapter, G: Gate, R: Read, O: Write>(
     alloc: Global,
     reader: &mut R,
     writer: &mut O,

@@ -228,7 +228,7 @@ pub fn serve_peer<
         None last (O.contents writer.old) (O.contents writer.new) }
 {
     let mut last = None;
-    serve_peer_from(rt, alloc, reader, writer, shared, &mut last)
+    continue_peer(rt, alloc, reader, writer, shared, &mut last)
 }
 
 /// As [`serve_peer`], with its faults, but the first call hands in the receipt that the caller has, if it has one. Afterwards the caller
@@ -236,7 +236,7 @@ pub fn serve_peer<
 ///
 /// The front of the receipt that the caller then has begins with what each reply that has a receipt was answered by, as
 /// [`the_last_receipt_has_all`](crate::laws::the_last_receipt_has_all) says. So does the history of the Book that confirms it.
-pub fn serve_peer_from<
+pub fn continue_peer<
     W: Wait,
     D: Disk + Drop,
     J: Chapter + Numbering,

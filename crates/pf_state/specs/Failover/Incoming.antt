@@ -1,18 +1,18 @@
 -- What a peer's message means for the states here: a step for each record. The messages are those of pf_state::peer, after pfsync(4).
 use Rattle.std.specs.{Prelude.{ℕ, List, map}, List.flat_map}
-use Rattle.pf_state.specs.{declared.{peer.message.Group.Group, peer.message.Group.TheVariants.Inserts, peer.message.Group.TheVariants.Deletes, peer.message.Group.TheVariants.Clears, peer.message.Message.Message, step.StateStep.StateStep, step.StateStep.TheVariants.Insert, step.StateStep.TheVariants.Delete, step.StateStep.TheVariants.Clear}, Peer.Records.{PlainInsert, told_flow}, Bindings.bound, States.PlainState}
+use Rattle.pf_state.specs.{declared.{peer.message.Group.Group, peer.message.Group.TheVariants.Inserts, peer.message.Group.TheVariants.Deletes, peer.message.Group.TheVariants.Clears, peer.message.Message.Message, step.StateStep.StateStep, step.StateStep.TheVariants.Insert, step.StateStep.TheVariants.Delete, step.StateStep.TheVariants.Clear}, Peer.Records.{PlainInsert, inserted_flow}, Bindings.bound, States.PlainState}
 use Rattle.pf_state.specs.declared.{peer.record.Clear.Clear as ClearRecord, peer.record.Delete.Delete as DeleteRecord}
 
 -- The state of an insert in a message with this checksum, bound by the checksum of the main rules here and by how many there are. It has no
 -- expiry.
-abbrev pub told_state : List ℕ → List ℕ → ℕ → PlainInsert → PlainState
-told_state sum current count i = (
+abbrev pub inserted_state : List ℕ → List ℕ → ℕ → PlainInsert → PlainState
+inserted_state sum current count i = (
   record { id = i.id; creator = i.creator },
-  record { generation = i.generation; flow = told_flow i; bound = bound sum i.rule i.anchor current count; expiry = 0 },
+  record { generation = i.generation; flow = inserted_flow i; bound = bound sum i.rule i.anchor current count; expiry = 0 },
 )
 
 abbrev pub insert_step : List ℕ → List ℕ → ℕ → PlainInsert → StateStep
-insert_step sum current count i = Insert (told_state sum current count i)
+insert_step sum current count i = Insert (inserted_state sum current count i)
 
 abbrev pub delete_step : DeleteRecord → StateStep
 delete_step d = Delete (record { id = d.id; creator = d.creator })

@@ -71,12 +71,12 @@ left_by es (Delete n) q old = cond (eq_by_cmp name_order q n) None old
 left_by es (Clear creator) q old = cond (q.creator == creator) None old
 
 -- what steps in turn leave there: what the last one that affects the name does
-abbrev pub left_behind : List PlainState → List StateStep → StateName → Option Held → Option Held
-left_behind es [] q old = old
-left_behind es (x ∷ xs) q old = left_behind (stepped es x) xs q (left_by es x q old)
+abbrev pub left_after_all : List PlainState → List StateStep → StateName → Option Held → Option Held
+left_after_all es [] q old = old
+left_after_all es (x ∷ xs) q old = left_after_all (stepped es x) xs q (left_by es x q old)
 
 abbrev pub LastStepStands : Type 0
-LastStepStands = (es : List PlainState) (steps : List StateStep) (q : StateName) → held_at q (after es steps) ≡ left_behind es steps q (held_at q es)
+LastStepStands = (es : List PlainState) (steps : List StateStep) (q : StateName) → held_at q (after es steps) ≡ left_after_all es steps q (held_at q es)
 
 -- the order stays, and names and flows stay unique; so does the limit, if the batch isn't refused
 pub record LeavesStates (es : List PlainState) (steps : List StateStep) : Type 0 where

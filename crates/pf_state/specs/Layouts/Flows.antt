@@ -7,19 +7,19 @@
 --       3     1 zero                    38     2 destination port
 use Rattle.std.specs.Prelude.{ℕ, ◌==◌, ◌&&◌, ◌||◌, not, [], ◌∷◌, replicate, if◌then◌else◌}
 use Rattle.pf_addr.specs.{Address.{family_of, number_in}, declared.addr.Addr.{Addr, TheVariants.{V4, V6}}}
-use Rattle.pf_form.specs.Bytes.Forms.{Shape, nat, both, Value, Form, nothing, number, front, back, pair, pair_by, that}
+use Rattle.pf_form.specs.Bytes.Forms.{Shape, nat, both, Value, ByteForm, nothing, number, front, back, pair, pair_by, that}
 use Rattle.pf_rule.specs.{Bytes.{direction_byte, family_byte}, Value.Values.has_ports, declared.{value.direction.Direction.Direction, value.direction.Direction.TheVariants.In, value.direction.Direction.TheVariants.Out}}
 use Rattle.pf_state.specs.Flows.{PlainFlow}
 
 -- ---- its parts
 
-unfoldable pub direction_form : Form nat
+unfoldable pub direction_form : ByteForm nat
 direction_form = that (λ b. (b == 1) || (b == 2)) (number 1)
 
-unfoldable pub family_form : Form nat
+unfoldable pub family_form : ByteForm nat
 family_form = that (λ b. (b == 4) || (b == 6)) (number 1)
 
-unfoldable pub protocol_form : Form nat
+unfoldable pub protocol_form : ByteForm nat
 protocol_form = that (λ b. not (b == 0)) (number 1)
 
 -- a family's byte, and an address's number
@@ -27,14 +27,14 @@ abbrev pub AddrShape : Shape
 AddrShape = both nat nat
 
 -- an address of a known family, in 16 bytes
-abbrev pub addr_form : ℕ → Form AddrShape
+abbrev pub addr_form : ℕ → ByteForm AddrShape
 addr_form family = pair (nothing family) (if family == 4 then back (number 4) (replicate 12 0) else number 16)
 
 abbrev pub PortsShape : Shape
 PortsShape = both nat nat
 
 -- 0 if the protocol has none
-unfoldable pub ports_form : ℕ → Form PortsShape
+unfoldable pub ports_form : ℕ → ByteForm PortsShape
 ports_form protocol = that (λ n. has_ports protocol || ((n.0 == 0) && (n.1 == 0))) (pair (number 2) (number 2))
 
 -- ---- the form
@@ -42,7 +42,7 @@ ports_form protocol = that (λ n. has_ports protocol || ((n.0 == 0) && (n.1 == 0
 abbrev pub FlowShape : Shape
 FlowShape = both nat (both nat (both nat (both AddrShape (both AddrShape PortsShape))))
 
-unfoldable pub flow_form : Form FlowShape
+unfoldable pub flow_form : ByteForm FlowShape
 flow_form = pair direction_form (pair_by family_form (λ f. pair_by protocol_form (λ p. front (0 ∷ []) (pair (addr_form f) (pair (addr_form f) (ports_form p))))))
 
 -- ---- plain data

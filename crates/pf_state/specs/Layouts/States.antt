@@ -12,7 +12,7 @@
 --      88     8 its expiry; zeros in a version without expiries
 use Rattle.std.specs.{Prelude.{ℕ, ◌==◌, ◌&&◌, ◌||◌, nat_le, Bool, true, not, List, [], ◌∷◌, length, map, replicate, if◌then◌else◌}, List.{list_all, list_any}, Ordering.is_lt}
 use Rattle.std.proofs.Common.{inl, inr}
-use Rattle.pf_form.specs.Bytes.{Forms.{Shape, unit, nat, both, either, list, Value, Form, nothing, number, front, or, times, counted, that, pair}, Lists.in_order}
+use Rattle.pf_form.specs.Bytes.{Forms.{Shape, unit, nat, both, either, list, Value, ByteForm, nothing, number, front, or, times, counted, that, pair}, Lists.in_order}
 use Rattle.pf_state.specs.{declared.{layouts.state.TheConstants.EXPIRY_FROM, limits.TheConstants.STATE_LIMIT, state.Bound.Bound, state.Bound.TheVariants.Rule, state.Bound.TheVariants.Default, state.Held.Held, state.StateName.StateName}, Flows.same_flow, Layouts.Flows.{FlowShape, flow_form, plain_flow, flow_in}, States.{PlainState, name_order}}
 
 -- ---- names
@@ -20,7 +20,7 @@ use Rattle.pf_state.specs.{declared.{layouts.state.TheConstants.EXPIRY_FROM, lim
 abbrev pub NameShape : Shape
 NameShape = both nat nat
 
-unfoldable pub name_form : Form NameShape
+unfoldable pub name_form : ByteForm NameShape
 name_form = pair (number 8) (number 4)
 
 abbrev pub plain_name : StateName → Value NameShape
@@ -34,7 +34,7 @@ name_in v = record { id = v.0; creator = v.1 }
 abbrev pub BoundShape : Shape
 BoundShape = either unit (both nat (list nat))
 
-unfoldable pub bound_form : Form BoundShape
+unfoldable pub bound_form : ByteForm BoundShape
 bound_form = or 0 (front (replicate 23 0) (nothing tt)) (front (1 ∷ 0 ∷ 0 ∷ 0 ∷ []) (pair (number 4) (times 16 (number 1))))
 
 abbrev pub plain_bound : Bound → Value BoundShape
@@ -52,7 +52,7 @@ abbrev pub has_expiry : ℕ → Bool
 has_expiry version = nat_le EXPIRY_FROM version
 
 -- where there are none, zeros for 0
-unfoldable pub expiry_form : Bool → Form nat
+unfoldable pub expiry_form : Bool → ByteForm nat
 expiry_form has = if has then number 8 else front (replicate 8 0) (nothing 0)
 
 -- ---- states
@@ -61,7 +61,7 @@ expiry_form has = if has then number 8 else front (replicate 8 0) (nothing 0)
 abbrev pub HeldShape : Shape
 HeldShape = both nat (both FlowShape (both BoundShape nat))
 
-unfoldable pub held_form : ℕ → Form HeldShape
+unfoldable pub held_form : ℕ → ByteForm HeldShape
 held_form version = pair (number 4) (pair flow_form (front (replicate 8 255) (pair bound_form (expiry_form (has_expiry version)))))
 
 abbrev pub plain_held : Held → Value HeldShape
@@ -73,7 +73,7 @@ held_in v = record { generation = v.0; flow = flow_in v.1.0; bound = bound_in v.
 abbrev pub StateShape : Shape
 StateShape = both NameShape HeldShape
 
-unfoldable pub state_form : ℕ → Form StateShape
+unfoldable pub state_form : ℕ → ByteForm StateShape
 state_form version = pair name_form (held_form version)
 
 abbrev pub plain_state : PlainState → Value StateShape
@@ -106,7 +106,7 @@ abbrev pub are_a_table : List (Value StateShape) → Bool
 are_a_table vs = nat_le (length vs) STATE_LIMIT && (in_order state_before vs && no_flow_twice (map state_in vs))
 
 -- their number in four bytes, and that many, which make a table
-abbrev pub states_form : ℕ → Form (list StateShape)
+abbrev pub states_form : ℕ → ByteForm (list StateShape)
 states_form version = that are_a_table (counted 4 (state_form version))
 
 abbrev pub plain_states : List PlainState → List (Value StateShape)

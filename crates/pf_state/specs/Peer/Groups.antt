@@ -52,9 +52,9 @@ group_at bytes =
 -- the bytes are these groups and nothing else
 abbrev pub AreGroups : List ℕ → List Group → Type 0
 AreGroups bytes [] = bytes ≡ []
-AreGroups bytes (g ∷ gs) = (bytes ≢ []) × (behind : List ℕ) × (group_at bytes ≡ Ok (g, behind)) × AreGroups behind gs
+AreGroups bytes (g ∷ gs) = (bytes ≢ []) × (following : List ℕ) × (group_at bytes ≡ Ok (g, following)) × AreGroups following gs
 
 -- the bytes begin with these groups, and then have this fault
-abbrev pub BreakBehind : List Group → List ℕ → PeerFault → Type 0
-BreakBehind [] bytes f = (bytes ≢ []) × (group_at bytes ≡ Err f)
-BreakBehind (g ∷ gs) bytes f = (bytes ≢ []) × (behind : List ℕ) × (group_at bytes ≡ Ok (g, behind)) × BreakBehind gs behind f
+abbrev pub BreakAfterGroups : List Group → List ℕ → PeerFault → Type 0
+BreakAfterGroups [] bytes f = (bytes ≢ []) × (group_at bytes ≡ Err f)
+BreakAfterGroups (g ∷ gs) bytes f = (bytes ≢ []) × (following : List ℕ) × (group_at bytes ≡ Ok (g, following)) × BreakAfterGroups gs following f

@@ -6,7 +6,7 @@
 --       2     2 length of the whole message
 --       4    16 checksum
 use Rattle.std.specs.Prelude.{◌≡◌, ◌≤◌, ℕ, List, length, take, drop, Result, Ok, Err}
-use Rattle.pf_state.specs.{declared.{peer.fault.PeerFault.PeerFault, peer.message.Group.Group, peer.message.Message.Message, peer.fields.TheConstants.MESSAGE_VERSION, peer.fields.TheConstants.MESSAGE_HEADER}, Peer.Groups.{AreGroups, BreakBehind}}
+use Rattle.pf_state.specs.{declared.{peer.fault.PeerFault.PeerFault, peer.message.Group.Group, peer.message.Message.Message, peer.fields.TheConstants.MESSAGE_VERSION, peer.fields.TheConstants.MESSAGE_HEADER}, Peer.Groups.{AreGroups, BreakAfterGroups}}
 use Rattle.pf_rule.specs.Bytes.{byte_at, number_at}
 
 -- the bytes have the header of a message that is as long as they are
@@ -26,7 +26,7 @@ pub record IsMessage (bytes : List ℕ) (m : Message) : Type 0 where
 pub record IsBroken (bytes : List ℕ) (f : PeerFault) : Type 0 where
   pub whole : IsWhole bytes
   pub before : List Group
-  pub breaks : BreakBehind before (drop MESSAGE_HEADER bytes) f
+  pub breaks : BreakAfterGroups before (drop MESSAGE_HEADER bytes) f
 
 -- which of the two it is
 abbrev pub IsJudged : List ℕ → Result Message PeerFault → Type 0

@@ -7,7 +7,7 @@
 use Rattle.std.specs.Prelude.{◌≡◌, ◌<◌, ◌^◌, ℕ, false, List, ◌∷◌, ◌++◌, replicate, Option, Some, None, Result, Ok, Err}
 use Rattle.byteorder.specs.Endian.{big_bytes}
 use Rattle.pf_addr.specs.Address.{IsAddr, family_of}
-use Rattle.pf_form.specs.{declared.bytes.fault.{Fault.Fault, Undecoded.Undecoded}, Bytes.{Forms.{Shape, nat, both, Value, Form, number, pair}, Readers.read_all}}
+use Rattle.pf_form.specs.{declared.bytes.fault.{Fault.Fault, Undecoded.Undecoded}, Bytes.{Forms.{Shape, nat, both, Value, ByteForm, number, pair}, Readers.read_all}}
 use Rattle.pf_form.specs.declared.bytes.fault.Undecoded.TheVariants as undecoded
 use Rattle.pf_rule.specs.{Bytes.{number_at, addr_bytes, direction_byte, family_byte}, Value.Values.{IsProtocol, has_ports}}
 use Rattle.pf_state.specs.{declared.{peer.record.InsertFields.InsertFields, peer.record.Delete.Delete, peer.record.Clear.Clear}, Flows.PlainFlow, Layouts.Flows.{FlowShape, flow_form, plain_flow, flow_in}}
@@ -34,8 +34,8 @@ pub record IsInsert (i : PlainInsert) : Type 0 where
 -- ---- the form of an insert
 
 -- the flow of an insert's state
-abbrev pub told_flow : PlainInsert → PlainFlow
-told_flow i = record {
+abbrev pub inserted_flow : PlainInsert → PlainFlow
+inserted_flow i = record {
   direction = i.direction;
   protocol = i.protocol;
   source = i.source;
@@ -47,11 +47,11 @@ told_flow i = record {
 abbrev pub InsertShape : Shape
 InsertShape = both nat (both nat (both nat (both FlowShape (both nat nat))))
 
-unfoldable pub insert_form : Form InsertShape
+unfoldable pub insert_form : ByteForm InsertShape
 insert_form = pair (number 8) (pair (number 4) (pair (number 4) (pair flow_form (pair (number 4) (number 4)))))
 
 abbrev pub plain_insert : PlainInsert → Value InsertShape
-plain_insert i = (i.id, (i.creator, (i.generation, (plain_flow (told_flow i), (i.rule, i.anchor)))))
+plain_insert i = (i.id, (i.creator, (i.generation, (plain_flow (inserted_flow i), (i.rule, i.anchor)))))
 
 -- the insert that has these plain data
 abbrev pub insert_in : Value InsertShape → PlainInsert

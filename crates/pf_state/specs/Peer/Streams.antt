@@ -31,8 +31,8 @@ HasShortLength bytes = ⊥
 -- the bytes begin with a whole message that has this fault
 pub record BeginsBroken (bytes : List ℕ) (f : PeerFault) : Type 0 where
   pub front : List ℕ
-  pub behind : List ℕ
-  pub split : bytes ≡ front ++ behind
+  pub following : List ℕ
+  pub split : bytes ≡ front ++ following
   pub broken : IsBroken front f
 
 -- the header of a message has this fault
@@ -56,7 +56,7 @@ IsFront bytes (Bad f) = IsBadHeader bytes f
 -- the bytes so far are these messages, and end like this
 abbrev pub Reads : List ℕ → List Message → Ending → Type 0
 Reads bytes [] e = Ends bytes e
-Reads bytes (m ∷ ms) e = (front behind : List ℕ) × (bytes ≡ front ++ behind) × IsMessage front m × Reads behind ms e
+Reads bytes (m ∷ ms) e = (front following : List ℕ) × (bytes ≡ front ++ following) × IsMessage front m × Reads following ms e
 
 -- The pieces that follow these bytes give these messages, and end like this. After a fault no further piece is taken.
 abbrev pub Feeds : List ℕ → List (List ℕ) → List Message → Ending → Type 0

@@ -1,6 +1,6 @@
 //! What a peer's message means for the states here.
 ghost use Rattle.std.specs.Prelude.{◌≡◌, ◌++◌, map, IfOk, OnOk};
-ghost use Rattle.pf_state.specs.Failover.Incoming.{told_state, insert_step, delete_step, clear_step, group_steps, steps_of};
+ghost use Rattle.pf_state.specs.Failover.Incoming.{inserted_state, insert_step, delete_step, clear_step, group_steps, steps_of};
 
 use crate::peer::{Clear, Delete, Group, Insert, Message};
 use crate::{Held, State, StateName, StateStep, StepList, bind};
@@ -62,7 +62,7 @@ fn push_inserts(
     ensures { OnOk result (steps.new.items ≡ steps.old.items ++ map (insert_step sum.now current.now rule_count) inserts.now) }
 {
     for insert in inserts {
-        let state = told_state(alloc, insert, sum, current, rule_count)?;
+        let state = inserted_state(alloc, insert, sum, current, rule_count)?;
         steps.push(StateStep::Insert(state))?;
     }
     Ok(())
@@ -92,14 +92,14 @@ fn push_clears(steps: &mut Vec<StateStep>, clears: &[Clear]) -> Result<(), Alloc
 }
 
 // The state that an insert describes, bound by the rules here. It has no expiry.
-fn told_state(
+fn inserted_state(
     alloc: Global,
     insert: &Insert,
     sum: &[u8; 16],
     current: &[u8; 16],
     rule_count: usize,
 ) -> Result<State, AllocError>
-    ensures { IfOk result (λ s. s ≡ told_state sum.now current.now rule_count insert.now) }
+    ensures { IfOk result (λ s. s ≡ inserted_state sum.now current.now rule_count insert.now) }
 {
     let fields = insert.fields();
     let name = StateName {

@@ -26,7 +26,7 @@ pub fn exports_are_cut()
 /// enough of them; else to the default rule. If the peer has no states before, their number is never refused, and it then has these and no
 /// others.
 pub fn exports_tell_the_states()
-    ensures told { TellsTheStates }
+    ensures reported { TellsTheStates }
     ensures taken { TakesOver }
 {}
 

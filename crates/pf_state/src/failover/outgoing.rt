@@ -51,7 +51,7 @@ pub fn export(
     states: &StateTable,
     current: &[u8; 16],
 ) -> Result<Exported, AllocError>
-    ensures told { IfOk result (λ e. e ≡ map message_bytes (exported_messages current.now states.now)) }
+    ensures reported { IfOk result (λ e. e ≡ map message_bytes (exported_messages current.now states.now)) }
     ensures read { IfOk result (λ e. Reads (concat e) (exported_messages current.now states.now) (Unfinished [])) }
 {
     let mut messages = Vec::new(alloc);
@@ -69,7 +69,7 @@ fn next_part(alloc: Global, rest: &mut Each<'_, StateName, Held>) -> Result<Vec<
     ensures left { OnOk result (rest.new ≡ drop EXPORT_RECORDS rest.old) }
 {
     let mut part = Vec::with_capacity(alloc, EXPORT_RECORDS)?;
-    for told in 0..EXPORT_RECORDS {
+    for reported in 0..EXPORT_RECORDS {
         match rest.next() {
             Some(state) => part.push(state.shared()?)?,
             None => return Ok(part),

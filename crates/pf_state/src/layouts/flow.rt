@@ -1,7 +1,7 @@
 //! Flows in bytes.
 ghost use Rattle.std.specs.Prelude.{◌≡◌, ◌++◌, ◌∷◌, [], ◌==◌, ◌&&◌, ◌||◌, true, replicate, IfOk, OnOk};
 ghost use Rattle.pf_addr.specs.Address.{family_of};
-ghost use Rattle.pf_form.specs.Bytes.{Forms.{Form, Fits, back, number, onto}, Readers.Reads};
+ghost use Rattle.pf_form.specs.Bytes.{Forms.{ByteForm, Fits, back, number, onto}, Readers.Reads};
 ghost use Rattle.pf_rule.specs.{Bytes.{direction_byte, family_byte}, Value.Values.has_ports};
 ghost use Rattle.pf_state.specs.Layouts.Flows.{direction_form, family_form, protocol_form, addr_form, PortsShape, ports_form, plain_addr};
 ghost use Rattle.pf_state.specs.Layouts.Flows.{flow_form, plain_flow};

@@ -1,6 +1,6 @@
 //! States and steps in bytes, many at a time, after their number in four bytes.
 ghost use Rattle.std.specs.Prelude.{◌≡◌, ◌<◌, ◌^◌, ◌++◌, ℕ, true, length, map, IfOk, OnOk};
-ghost use Rattle.pf_form.specs.{Bytes.Forms.{Form, Fits, onto, length_of}, Bytes.Readers.Reads};
+ghost use Rattle.pf_form.specs.{Bytes.Forms.{ByteForm, Fits, onto, length_of}, Bytes.Readers.Reads};
 ghost use Rattle.pf_state.specs.Layouts.{Rows.IsTableOf, States.{states_form, plain_states, all_allowed}};
 ghost use Rattle.pf_state.specs.Layouts.Steps.{steps_form, plain_steps, allows_steps};
 ghost use Rattle.pf_state.specs.States.{are_whole};

@@ -1,6 +1,6 @@
 //! States in bytes, as a store has them.
 ghost use Rattle.std.specs.Prelude.{◌≡◌, ◌++◌, ◌∷◌, [], true, replicate, OnOk};
-ghost use Rattle.pf_form.specs.{Bytes.Forms.{Form, Fits, back, front, pair, times, onto}, Bytes.Readers.Reads};
+ghost use Rattle.pf_form.specs.{Bytes.Forms.{ByteForm, Fits, back, front, pair, times, onto}, Bytes.Readers.Reads};
 ghost use Rattle.pf_state.specs.Layouts.Flows.{flow_form, plain_flow};
 ghost use Rattle.pf_state.specs.Layouts.States.{name_form, plain_name, bound_form, plain_bound, has_expiry, expiry_form, held_form};
 ghost use Rattle.pf_state.specs.Layouts.States.{plain_held, state_form, plain_state, allows};
@@ -154,7 +154,7 @@ fn push_named_flow(
     flow: &Flow,
 ) -> Result<(), AllocError>
     ensures written { OnOk result (out.new.items
-        ≡ onto flow_form (plain_flow flow.now) (onto (Form.number 4) generation (onto name_form (plain_name name) out.old.items))) }
+        ≡ onto flow_form (plain_flow flow.now) (onto (ByteForm.number 4) generation (onto name_form (plain_name name) out.old.items))) }
     ensures name { Fits name_form (plain_name name) }
     ensures flow { OnOk result (Fits flow_form (plain_flow flow.now)) }
 {
@@ -186,10 +186,10 @@ fn push_named_v4(
     source: (u32, u16),
     destination: (u32, u16),
 ) -> Result<(), AllocError>
-    ensures { OnOk result (out.new.items ≡ onto (Form.number 2) destination.1 (onto (Form.number 2) source.1
-        (onto (back (Form.number 4) (replicate 12 0)) destination.0 (onto (back (Form.number 4) (replicate 12 0)) source.0
-        (onto (Form.number 1) protocol (onto (Form.number 1) 4 (onto (Form.number 1) direction
-        (onto (Form.number 4) generation (onto name_form (plain_name name) out.old.items)))) ++ 0 ∷ []))))) }
+    ensures { OnOk result (out.new.items ≡ onto (ByteForm.number 2) destination.1 (onto (ByteForm.number 2) source.1
+        (onto (back (ByteForm.number 4) (replicate 12 0)) destination.0 (onto (back (ByteForm.number 4) (replicate 12 0)) source.0
+        (onto (ByteForm.number 1) protocol (onto (ByteForm.number 1) 4 (onto (ByteForm.number 1) direction
+        (onto (ByteForm.number 4) generation (onto name_form (plain_name name) out.old.items)))) ++ 0 ∷ []))))) }
 {
     let i = name.id.to_be_bytes();
     let c = name.creator.to_be_bytes();
@@ -213,7 +213,7 @@ fn push_named_v4(
 #[tactic(auto, unfolding(crate::specs::Layouts::States::bound_form))]
 fn push_rest(out: &mut Vec<u8>, bound: &Bound, expiry: u64) -> Result<(), AllocError>
     ensures written { OnOk result
-        (out.new.items ≡ onto (front (replicate 8 255) (pair bound_form (Form.number 8))) (plain_bound bound.now, expiry) out.old.items) }
+        (out.new.items ≡ onto (front (replicate 8 255) (pair bound_form (ByteForm.number 8))) (plain_bound bound.now, expiry) out.old.items) }
     ensures fits { OnOk result (Fits bound_form (plain_bound bound.now)) }
 {
     match bound {
@@ -229,7 +229,7 @@ fn push_rest(out: &mut Vec<u8>, bound: &Bound, expiry: u64) -> Result<(), AllocE
 #[tactic(auto, unfolding(pf_form::specs::Bytes::BasicForms::number_bytes), using(crate::proofs::Pieced::four_pieces))]
 fn push_default(out: &mut Vec<u8>, expiry: u64) -> Result<(), AllocError>
     ensures { OnOk result
-        (out.new.items ≡ onto (Form.number 8) expiry (((out.old.items ++ replicate 8 255) ++ 0 ∷ []) ++ replicate 23 0)) }
+        (out.new.items ≡ onto (ByteForm.number 8) expiry (((out.old.items ++ replicate 8 255) ++ 0 ∷ []) ++ replicate 23 0)) }
 {
     let e = expiry.to_be_bytes();
     push_bytes(
@@ -244,7 +244,7 @@ fn push_default(out: &mut Vec<u8>, expiry: u64) -> Result<(), AllocError>
 #[tactic(auto, unfolding(pf_form::specs::Bytes::BasicForms::number_bytes), using(crate::proofs::Pieced::three_pushed))]
 fn push_rule(out: &mut Vec<u8>, number: u32) -> Result<(), AllocError>
     ensures { OnOk result
-        (out.new.items ≡ onto (Form.number 4) number ((out.old.items ++ replicate 8 255) ++ 1 ∷ 0 ∷ 0 ∷ 0 ∷ [])) }
+        (out.new.items ≡ onto (ByteForm.number 4) number ((out.old.items ++ replicate 8 255) ++ 1 ∷ 0 ∷ 0 ∷ 0 ∷ [])) }
 {
     let n = number.to_be_bytes();
     push_bytes(
@@ -256,8 +256,8 @@ fn push_rule(out: &mut Vec<u8>, number: u32) -> Result<(), AllocError>
 }
 
 fn push_sum(out: &mut Vec<u8>, sum: &[u8; 16]) -> Result<(), AllocError>
-    ensures written { OnOk result (out.new.items ≡ onto (times 16 (Form.number 1)) sum.now out.old.items) }
-    ensures fits { Fits (times 16 (Form.number 1)) sum.now }
+    ensures written { OnOk result (out.new.items ≡ onto (times 16 (ByteForm.number 1)) sum.now out.old.items) }
+    ensures fits { Fits (times 16 (ByteForm.number 1)) sum.now }
 {
     push_bytes(out, sum)
 }

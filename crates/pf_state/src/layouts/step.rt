@@ -1,6 +1,6 @@
 //! Steps in bytes, as a store has them.
 ghost use Rattle.std.specs.Prelude.{◌≡◌, ◌++◌, ℕ, true, OnOk};
-ghost use Rattle.pf_form.specs.{Bytes.Forms.{Form, Fits, onto, length_of}, Bytes.Readers.Reads};
+ghost use Rattle.pf_form.specs.{Bytes.Forms.{ByteForm, Fits, onto, length_of}, Bytes.Readers.Reads};
 ghost use Rattle.pf_state.specs.Layouts.Steps.{step_form, plain_step, allows_step};
 
 use crate::layouts::state::{

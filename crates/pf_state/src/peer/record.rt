@@ -1,6 +1,6 @@
 //! Records: what a group of one action has, and how each kind is read and written.
 ghost use Rattle.std.specs.Prelude.{◌≡◌, ◌++◌, length, Option, List, ℕ, OnOk};
-ghost use Rattle.pf_state.specs.Peer.Records.{IsInsert, told_flow, Says};
+ghost use Rattle.pf_state.specs.Peer.Records.{IsInsert, inserted_flow, Says};
 
 use crate::flow::Flow;
 use crate::peer::fields::{MESSAGE_VERSION, u32_at, u64_at};
@@ -77,7 +77,7 @@ impl Insert {
 
     /// The flow of its state.
     pub fn flow(&self) -> Flow
-        ensures { result ≡ told_flow self.now }
+        ensures { result ≡ inserted_flow self.now }
     {
         let fields = self.fields();
         Flow::new(

@@ -4,8 +4,8 @@ ghost use Rattle.pf_state.specs.{Peer.Outcomes.ending, Peer.Streams.{Reads, IsFr
 
 use crate::peer::fault::PeerFault;
 use crate::peer::fields::{MESSAGE_HEADER, MESSAGE_VERSION};
-use crate::peer::groups::message_of;
 use crate::peer::message::Message;
+use crate::peer::whole::message_of;
 use std::alloc::{AllocError, Global};
 
 /// What is at the start of a message.
@@ -56,12 +56,12 @@ pub(crate) fn read_stream(alloc: Global, bytes: &[u8]) -> Result<Read<'_>, Alloc
             MessageStart::Partial => return Ok(Read::new(messages, None, rest)),
             MessageStart::Bad(fault) => return Ok(Read::new(messages, Some(fault), rest)),
         };
-        let (front, behind) = rest.split_at(size);
+        let (front, following) = rest.split_at(size);
         match message_of(alloc, front)? {
             Ok(message) => messages.push(message)?,
             Err(fault) => return Ok(Read::new(messages, Some(fault), rest)),
         }
-        rest = behind;
+        rest = following;
     }
 }
 

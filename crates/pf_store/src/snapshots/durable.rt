@@ -7,7 +7,7 @@ ghost use Rattle.pf_anchor.specs.Forms.{configured, plain_ruled, plain_tabled};
 ghost use Rattle.pf_core.specs.Durable.Forms.{allows, durable_length, tick_form, durable_form, plain_durable};
 ghost use Rattle.pf_store.specs.{Durables.{durable_has_form, durable_has_form_in, IsDurable}, Lengths.snapshot_length, Snapshots.{has_least, kept_form, AreInOrder, EndsInSnapshot, KeptShape}};
 
-use crate::groups::{GroupFault, unread};
+use crate::encoding::{GroupFault, unread};
 use crate::limits::EMPTY_LENGTH;
 use crate::snapshots::facts::durable_is_its_data;
 use crate::snapshots::rulesets::{push_rulesets, read_rulesets};

@@ -3,12 +3,12 @@ ghost use Rattle.std.specs.Prelude.{◌≡◌, map};
 ghost use Rattle.pf_anchor.specs.Forms.{plain_ruled, ruled_in};
 ghost use Rattle.pf_core.specs.Durable.Forms.{plain_durable, durable_in};
 
-use crate::groups::rules_are_their_data;
+use crate::encoding::rules_are_their_data;
 use pf_anchor::Config;
 use pf_core::Durable;
 
 /// Gives contracts the fact that what is kept is what its data say; it does nothing.
-#[tactic(auto, using(crate::proofs::Durables::durable_told))]
+#[tactic(auto, using(crate::proofs::Durables::durable_read_back))]
 pub(crate) fn durable_is_its_data(durable: &Durable)
     ensures { durable_in (plain_durable durable.now) ≡ durable.now }
 {

@@ -5,7 +5,7 @@ ghost use Rattle.pf_form.specs.Bytes.{Forms.{onto, Fits}, Readers.Reads};
 ghost use Rattle.pf_anchor.specs.{declared.limits.TheConstants.RULESET_LIMIT, Rulesets.IsMap};
 ghost use Rattle.pf_anchor.specs.Forms.{has_some, rulesets_form, plain_ruled, allows_config};
 
-use crate::groups::{push_rules, read_rules};
+use crate::encoding::{push_rules, read_rules};
 use pf_anchor::{Config, Path, Placed, RULESET_LIMIT};
 use pf_form::bytes::{Fault, Layout, Ordered, Rest, Undecoded, push_u32, read_ordered_list};
 use std::alloc::{AllocError, Global};

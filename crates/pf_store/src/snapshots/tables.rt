@@ -4,7 +4,7 @@ ghost use Rattle.pf_form.specs.{Bytes.Forms.{onto, Fits}, Bytes.Readers.Reads};
 ghost use Rattle.pf_anchor.specs.{declared.limits.TheConstants.TABLE_COUNT_LIMIT, Tables.{IsTableMap, table_order}};
 ghost use Rattle.pf_anchor.specs.Forms.{has_some, kept_tables_form, placed_form, plain_tabled};
 
-use crate::groups::{push_table, read_table};
+use crate::encoding::{push_table, read_table};
 use pf_addr::path::TableName;
 use pf_anchor::{Config, Path, PlacedTable, TABLE_COUNT_LIMIT};
 use pf_form::bytes::{

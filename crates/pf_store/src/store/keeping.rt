@@ -8,10 +8,10 @@ ghost use Rattle.pf_store.specs.declared.store.fault.SaveFault.TheVariants as sa
 ghost use Rattle.pf_store.specs.declared.store.fault.OpenFault.TheVariants as opening;
 ghost use Rattle.pf_snap.specs.declared.header.TheConstants.{NEWEST};
 ghost use Rattle.pf_store.specs.declared.limits.TheConstants.{AROUND, OPENING_RECORD};
-ghost use Rattle.pf_store.specs.declared.groups.recorded.Recorded.TheVariants as recorded;
+ghost use Rattle.pf_store.specs.declared.encoding.recorded.Recorded.TheVariants as recorded;
 ghost use Rattle.pf_store.specs.{Groups.{allows_group, can_be_wanted, is_group, made_all, IsRecordOf}, Lengths.payload_length, Stores.{FollowInTurn, left_by_all, Holds, HoldsEither, FindsRoom, HasRoom}, StoreKept.{Stands, HaveKept, device_of}, StoreFaults.{is_save_fault, TellsRoom, is_fault, is_opening_fault}, Openings.{HasRoomHere, HoldsBy, IsUnopened, IsFull, IsOfOpening, IsOfSave, IsNoLaterThan, generation_of, version_of}};
 
-use crate::groups::{AsChange, record_group, record_opening};
+use crate::encoding::{AsChange, record_group, record_opening};
 use crate::store::adding::{add, add_to};
 use crate::store::fault::{AddFault, OpenFault, SaveFault};
 use crate::store::lengths::{find_room, goes_here};
@@ -258,7 +258,7 @@ fn version_for(here: bool, own: u8) -> u8
 fn raise(alloc: Global, durable: &Durable) -> Result<(Durable, Record), OpenFault>
     ensures raised { IfOk result (λ r. r.0 ≡ raised durable.now) }
     ensures made { IfOk result (λ r. (version : ℕ) → IsRecordOf version (recorded.Opens (durable.now.epoch + 1) ∷ []) r.1) }
-    ensures long { IfOk result (λ r. length r.1.behind.items + 1 ≡ OPENING_RECORD) }
+    ensures long { IfOk result (λ r. length r.1.after_gate.items + 1 ≡ OPENING_RECORD) }
     ensures next { IfOk result (λ r. durable.now.epoch < last_epoch) }
     ensures refused { IfErr result (λ e. ((e ≡ opening.Memory) × (durable.now.epoch < last_epoch))
         ⊎ ((e ≡ opening.EpochsExhausted) × (durable.now.epoch ≡ last_epoch))) }

@@ -4,11 +4,11 @@ ghost use Rattle.pf_journal.specs.Records.{records, contents};
 ghost use Rattle.pf_snap.specs.{Banks.records_start, Looked.content_of};
 ghost use Rattle.pf_core.specs.Durable.Changes.{PlainDurable};
 ghost use Rattle.pf_core.specs.declared.durable.refusal.ChangeRefusal.TheVariants as refusing;
-ghost use Rattle.pf_store.specs.declared.groups.fault.GroupFault.TheVariants as group;
-ghost use Rattle.pf_store.specs.declared.groups.recorded.Recorded.{Recorded};
+ghost use Rattle.pf_store.specs.declared.encoding.fault.GroupFault.TheVariants as group;
+ghost use Rattle.pf_store.specs.declared.encoding.recorded.Recorded.{Recorded};
 ghost use Rattle.pf_store.specs.{Durables.IsDurable, Groups.IsRecorded, Stores.{FollowInTurn, Follows, left_by, left_by_all, Leads, Makes}, StoreFaults.BreaksOff, Openings.{BreaksInSnapshot, StopsAt, MakesNone}};
 
-use crate::groups::{GroupFault, Recorded, read_group};
+use crate::encoding::{GroupFault, Recorded, read_group};
 use crate::snapshots::read_durable;
 use crate::store::fault::OpenFault;
 use pf_core::{ChangeRefusal, Durable};

@@ -1,10 +1,10 @@
 // Lines, peers' streams and images at random.
 
 use super::{Bench, Opened};
-use crate::books::{Hold, ask, asked_by, told_to};
+use crate::books::{Hold, answered_text, ask, asked_by};
 use crate::chance::{Chance, Tally};
 use crate::rows::{bytes_of, cut_word, number};
-use crate::streams::{asked_by_stream, behind, cut_text, front_of, pieces_of, stream_at_random};
+use crate::streams::{asked_by_stream, cut_text, front_of, pieces_of, rest_from, stream_at_random};
 use std::alloc::{AllocError, Global};
 use std::sync::Wait;
 
@@ -41,15 +41,15 @@ fn is_refusal(reply: &str) -> bool {
 
 impl<H: Wait + Drop + Copy> Bench<H> {
     /// Takes over the words of a row.
-    pub(super) fn add_word(&mut self, told: &mut String, row: &str) -> Result<(), AllocError> {
+    pub(super) fn add_word(&mut self, reported: &mut String, row: &str) -> Result<(), AllocError> {
         let count = self.words.add(row)?;
-        write!(told, "{count} texts")
+        write!(reported, "{count} texts")
     }
 
     /// Plays lines at random: how often each kind of reply came, and after how many refused lines something else was kept than before.
     pub(super) fn tell_lines<B: Hold>(
         &mut self,
-        told: &mut String,
+        reported: &mut String,
         book: &mut B,
         how: &str,
     ) -> Result<(), AllocError> {
@@ -60,7 +60,7 @@ impl<H: Wait + Drop + Copy> Bench<H> {
         let mut others = 0u64;
         for _ in 0..number(times) {
             let line = self.words.line(&mut chance, "LINE")?;
-            let reply = told_to(self.alloc, book, asked_by(self.alloc, &line)?)?;
+            let reply = answered_text(self.alloc, book, asked_by(self.alloc, &line)?)?;
             let now = self.kept_by(book)?;
             if is_refusal(reply.as_str()) && now != kept {
                 others = others.saturating_add(1);
@@ -69,8 +69,8 @@ impl<H: Wait + Drop + Copy> Bench<H> {
             self.note_ticket(reply.as_str())?;
             tally.count(kind_of(self.alloc, reply.as_str())?, reply.as_str())?;
         }
-        tally.tell(told)?;
-        write!(told, "\n  refused and not as before: {others}")?;
+        tally.tell(reported)?;
+        write!(reported, "\n  refused and not as before: {others}")?;
         self.keep(book)
     }
 
@@ -86,7 +86,7 @@ impl<H: Wait + Drop + Copy> Bench<H> {
     }
 
     /// Plays streams at random, each over the device with its bytes, whole and in pieces.
-    pub(super) fn tell_streams(&self, told: &mut String, how: &str) -> Result<(), AllocError> {
+    pub(super) fn tell_streams(&self, reported: &mut String, how: &str) -> Result<(), AllocError> {
         let (seed, times) = cut_word(how);
         let (mut chance, mut tally) = (Chance::new(number(seed) as u64), Tally::new(self.alloc));
         let mut same = 0u64;
@@ -100,8 +100,8 @@ impl<H: Wait + Drop + Copy> Bench<H> {
             let kind = whole.split_once(": ").map_or("", |(kind, _)| kind);
             tally.count(String::from_str(self.alloc, kind)?, whole.as_str())?;
         }
-        tally.tell(told)?;
-        write!(told, "\n  in pieces the same: {same}")
+        tally.tell(reported)?;
+        write!(reported, "\n  in pieces the same: {same}")
     }
 
     /// What a stream in these pieces comes to over the device with its bytes.
@@ -115,26 +115,30 @@ impl<H: Wait + Drop + Copy> Bench<H> {
     }
 
     /// Writes how a message ends that is cut at each place, and at how many pairs of places it comes to the same as whole.
-    pub(super) fn tell_cuts(&self, told: &mut String, digits: &str) -> Result<(), AllocError> {
+    pub(super) fn tell_cuts(&self, reported: &mut String, digits: &str) -> Result<(), AllocError> {
         let message = bytes_of(self.alloc, digits)?;
         let mut last = String::new(self.alloc);
         for cut in 0..message.len().saturating_add(1) {
-            let text = cut_text(self.alloc, front_of(&message, cut), behind(&message, cut))?;
+            let text = cut_text(
+                self.alloc,
+                front_of(&message, cut),
+                rest_from(&message, cut),
+            )?;
             if text != last {
-                write!(told, "\n  behind {cut} bytes: {text}")?;
+                write!(reported, "\n  behind {cut} bytes: {text}")?;
                 last = text;
             }
         }
-        self.tell_pairs_of_cuts(told, &message)
+        self.tell_pairs_of_cuts(reported, &message)
     }
 
-    fn tell_pairs_of_cuts(&self, told: &mut String, message: &[u8]) -> Result<(), AllocError> {
+    fn tell_pairs_of_cuts(&self, reported: &mut String, message: &[u8]) -> Result<(), AllocError> {
         let whole = self.stream_text(&[message])?;
         let (mut same, mut all) = (0u64, 0u64);
         for second in 0..message.len().saturating_add(1) {
-            let (front, last) = (front_of(message, second), behind(message, second));
+            let (front, last) = (front_of(message, second), rest_from(message, second));
             for first in 0..second.saturating_add(1) {
-                let pieces = [front_of(front, first), behind(front, first), last];
+                let pieces = [front_of(front, first), rest_from(front, first), last];
                 all = all.saturating_add(1);
                 if self.stream_text(&pieces)? == whole {
                     same = same.saturating_add(1);
@@ -142,13 +146,13 @@ impl<H: Wait + Drop + Copy> Bench<H> {
             }
         }
         write!(
-            told,
+            reported,
             "\n  whole: {whole}\n  at two places the same: {same} of {all}"
         )
     }
 
     /// Opens the device with up to four bytes changed at random, again and again.
-    pub(super) fn tell_images(&self, told: &mut String, how: &str) -> Result<(), AllocError> {
+    pub(super) fn tell_images(&self, reported: &mut String, how: &str) -> Result<(), AllocError> {
         let (seed, times) = cut_word(how);
         let (mut chance, mut tally) = (Chance::new(number(seed) as u64), Tally::new(self.alloc));
         for _ in 0..number(times) {
@@ -156,7 +160,7 @@ impl<H: Wait + Drop + Copy> Bench<H> {
             let (kind, outcome) = self.opened_texts(bytes)?;
             tally.count(kind, outcome.as_str())?;
         }
-        tally.tell(told)
+        tally.tell(reported)
     }
 
     // What a device with these bytes is opened as, without its epoch; and that with the epoch and all that is kept.

@@ -5,7 +5,7 @@ ghost use Rattle.pf_store_tests.specs.declared.books.TheConstants.{HISTORY_LIMIT
 
 use super::{Bench, fill};
 use crate::books::{
-    Asked, HISTORY_LIMIT, Moment, Told, ask, ask_opened, asked_in_turn, told_in_turn,
+    Asked, HISTORY_LIMIT, Moment, Played, answers_in_turn, ask, ask_opened, asked_in_turn,
 };
 use crate::rows::{cut_word, number};
 use pf_book::book::Book;
@@ -33,7 +33,7 @@ struct Renewal<D: Disk + Drop> {
     /// What was told to the lines.
     replies: String,
     /// What came of the second opening, and what was told to the questions then.
-    again: Told<D>,
+    again: Played<D>,
 }
 
 /// Opens a device, asks these lines of a Book of the opening, opens its device again, and asks these questions. `None` if it isn't opened
@@ -78,7 +78,7 @@ fn renew_over<D: Disk + Drop, J: Chapter, S: Publisher<J> + Drop, H: Wait + Drop
     questions: Vec<Asked>,
 ) -> Result<Option<Renewal<D>>, AllocError> {
     let mut book = book;
-    let replies = told_in_turn(alloc, &mut book, lines);
+    let replies = answers_in_turn(alloc, &mut book, lines);
     let again = open_again(waits, alloc, book, questions);
     Ok(Some(Renewal {
         replies: replies?,
@@ -92,10 +92,10 @@ fn open_again<D: Disk + Drop, J: Chapter, S: Publisher<J> + Drop, H: Wait + Drop
     alloc: Global,
     book: Book<D, J, S>,
     questions: Vec<Asked>,
-) -> Result<Told<D>, AllocError> {
+) -> Result<Played<D>, AllocError> {
     match opened_again(alloc, book) {
         Ok(opening) => ask_opened::<_, Brand, _>(waits, alloc, opening, questions),
-        Err((fault, disk)) => Ok(Told::nothing(alloc, fault, disk)),
+        Err((fault, disk)) => Ok(Played::nothing(alloc, fault, disk)),
     }
 }
 
@@ -114,8 +114,8 @@ fn opened_again<D: Disk + Drop, J: Chapter, S: Publisher<J> + Drop>(
 // The same with the device within.
 fn within<D: Disk + Drop>(renewal: Renewal<FuseDisk<D>>) -> Renewal<D> {
     let Renewal { replies, again } = renewal;
-    let Told { opened, text, disk } = again;
-    let again = Told {
+    let Played { opened, text, disk } = again;
+    let again = Played {
         opened,
         text,
         disk: disk.into_inner(),
@@ -125,23 +125,23 @@ fn within<D: Disk + Drop>(renewal: Renewal<FuseDisk<D>>) -> Renewal<D> {
 
 // Writes an opening's epoch and what was told over it, or why it isn't opened.
 fn tell_over(
-    told: &mut String,
+    reported: &mut String,
     opened: &Result<Moment, OpenFault>,
     text: &str,
 ) -> Result<(), AllocError> {
     match opened {
-        Ok(moment) => write!(told, "epoch {}: {text}", moment.epoch),
-        Err(fault) => write!(told, "{fault:?}"),
+        Ok(moment) => write!(reported, "epoch {}: {text}", moment.epoch),
+        Err(fault) => write!(reported, "{fault:?}"),
     }
 }
 
 impl<H: Wait + Drop + Copy> Bench<H> {
     /// Plays an opening, some lines, and another opening by the Book, on devices that fail each call behind the first opening in turn.
-    pub(super) fn tell_again(&self, told: &mut String, how: &str) -> Result<(), AllocError> {
+    pub(super) fn tell_again(&self, reported: &mut String, how: &str) -> Result<(), AllocError> {
         for calls in 0..MOST_CALLS {
             let disk = FuseDisk::after(self.device()?, calls);
             if let Some(renewal) = self.renewed(disk, how)? {
-                if self.tell_calls(told, calls, renewal, how)? {
+                if self.tell_calls(reported, calls, renewal, how)? {
                     return Ok(());
                 }
             }
@@ -152,7 +152,7 @@ impl<H: Wait + Drop + Copy> Bench<H> {
     // What comes of it where all calls behind so many fail, and where one does. Returns whether no call was left to fail.
     fn tell_calls(
         &self,
-        told: &mut String,
+        reported: &mut String,
         calls: u64,
         renewal: Renewal<FuseDisk<MemDisk>>,
         how: &str,
@@ -160,16 +160,21 @@ impl<H: Wait + Drop + Copy> Bench<H> {
         let is_whole = renewal.again.opened.is_ok() && renewal.again.disk.faults() == 0;
         let text = self.text_of(renewal, how)?;
         if is_whole {
-            write!(told, "\n  no call fails: {text}")?;
+            write!(reported, "\n  no call fails: {text}")?;
             return Ok(true);
         }
-        write!(told, "\n  all behind {calls} calls fail: {text}")?;
-        self.tell_torn_again(told, calls, how)?;
+        write!(reported, "\n  all behind {calls} calls fail: {text}")?;
+        self.tell_torn_again(reported, calls, how)?;
         Ok(false)
     }
 
     // A torn call stands for several fills: what each of them comes to is told once.
-    fn tell_torn_again(&self, told: &mut String, calls: u64, how: &str) -> Result<(), AllocError> {
+    fn tell_torn_again(
+        &self,
+        reported: &mut String,
+        calls: u64,
+        how: &str,
+    ) -> Result<(), AllocError> {
         let mut texts = Vec::new(self.alloc);
         for number in 0..PLAIN_FILLS {
             let disk = FuseDisk::torn(self.alloc, self.device()?, calls, fill(number, &[]));
@@ -178,7 +183,7 @@ impl<H: Wait + Drop + Copy> Bench<H> {
                 None => String::new(self.alloc),
             };
             if !texts.iter().any(|other| *other == text) {
-                write!(told, "\n  one behind {calls} calls fails: {text}")?;
+                write!(reported, "\n  one behind {calls} calls fails: {text}")?;
                 texts.push(text)?;
             }
         }
@@ -186,7 +191,11 @@ impl<H: Wait + Drop + Copy> Bench<H> {
     }
 
     /// Plays the same on devices that fail a call behind so many, and then another one, each in turn.
-    pub(super) fn tell_again_twice(&self, told: &mut String, how: &str) -> Result<(), AllocError> {
+    pub(super) fn tell_again_twice(
+        &self,
+        reported: &mut String,
+        how: &str,
+    ) -> Result<(), AllocError> {
         let (first, how) = cut_word(how);
         let first = number(first) as u64;
         for calls in first.saturating_add(1)..MOST_CALLS {
@@ -196,7 +205,7 @@ impl<H: Wait + Drop + Copy> Bench<H> {
                     return Ok(());
                 }
                 let text = self.text_of(within(renewal), how)?;
-                write!(told, "\n  and one behind {calls}: {text}")?;
+                write!(reported, "\n  and one behind {calls}: {text}")?;
             }
         }
         Ok(())
@@ -220,38 +229,43 @@ impl<H: Wait + Drop + Copy> Bench<H> {
         how: &str,
     ) -> Result<String, AllocError> {
         let Renewal { replies, again } = renewal;
-        let Told { opened, text, disk } = again;
-        let mut told = replies;
-        told.push_str("; again ")?;
-        tell_over(&mut told, &opened, text.as_str())?;
+        let Played { opened, text, disk } = again;
+        let mut reported = replies;
+        reported.push_str("; again ")?;
+        tell_over(&mut reported, &opened, text.as_str())?;
         if opened.is_err() {
-            self.tell_left(&mut told, disk, how)?;
+            self.tell_left(&mut reported, disk, how)?;
         }
-        Ok(told)
+        Ok(reported)
     }
 
     // Writes what is opened of the bytes of a device's last sync, and of all written bytes.
     fn tell_left(
         &self,
-        told: &mut String,
+        reported: &mut String,
         disk: FuseDisk<MemDisk>,
         how: &str,
     ) -> Result<(), AllocError> {
         let below = disk.into_inner();
-        told.push_str("; then ")?;
-        self.tell_answers(told, below.image(self.alloc, u64::MAX, Fill::Old)?, how)?;
-        told.push_str("; or ")?;
-        self.tell_answers(told, below.image(self.alloc, u64::MAX, Fill::New)?, how)
+        reported.push_str("; then ")?;
+        self.tell_answers(reported, below.image(self.alloc, u64::MAX, Fill::Old)?, how)?;
+        reported.push_str("; or ")?;
+        self.tell_answers(reported, below.image(self.alloc, u64::MAX, Fill::New)?, how)
     }
 
     // Writes what a device with these bytes is opened as, and what is told to the questions then.
-    fn tell_answers(&self, told: &mut String, bytes: Vec<u8>, how: &str) -> Result<(), AllocError> {
+    fn tell_answers(
+        &self,
+        reported: &mut String,
+        bytes: Vec<u8>,
+        how: &str,
+    ) -> Result<(), AllocError> {
         let (_lines, questions) = how.split_once(AGAIN).unwrap_or((how, ""));
         let (disk, asked) = (
             MemDisk::of(self.alloc, bytes)?,
             asked_in_turn(self.alloc, questions)?,
         );
         let over = ask(self.waits, self.alloc, disk, asked)?;
-        tell_over(told, &over.opened, over.text.as_str())
+        tell_over(reported, &over.opened, over.text.as_str())
     }
 }

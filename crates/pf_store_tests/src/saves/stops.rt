@@ -43,82 +43,91 @@ impl Reopened {
         }
     }
 
-    fn tell(&self, told: &mut String) -> Result<(), AllocError> {
+    fn tell(&self, reported: &mut String) -> Result<(), AllocError> {
         let Reopened {
             all,
             same,
             least,
             most,
         } = self;
-        write!(told, "{same} of {all} by {least} to {most}")
+        write!(reported, "{same} of {all} by {least} to {most}")
     }
 }
 
 impl<H: Wait + Drop + Copy> Bench<H> {
     /// Plays an opening and the same line twice on devices that tear each call in turn: the replies and how many calls passed, and by
     /// each fill after how many saves was kept what is opened then.
-    pub(super) fn tell_torn(&self, told: &mut String, line: &str) -> Result<(), AllocError> {
+    pub(super) fn tell_torn(&self, reported: &mut String, line: &str) -> Result<(), AllocError> {
         let lines = format!(in self.alloc; "{line} | {line}")?;
         for calls in 0..CALLS {
-            write!(told, "\n  behind {calls} calls:")?;
-            self.tell_torn_call(told, calls, &lines)?;
+            write!(reported, "\n  behind {calls} calls:")?;
+            self.tell_torn_call(reported, calls, &lines)?;
         }
         Ok(())
     }
 
     // The replies are told behind the first of the fills that they stand for.
-    fn tell_torn_call(&self, told: &mut String, calls: u64, lines: &str) -> Result<(), AllocError> {
+    fn tell_torn_call(
+        &self,
+        reported: &mut String,
+        calls: u64,
+        lines: &str,
+    ) -> Result<(), AllocError> {
         let mut last = String::new(self.alloc);
         for number in 0..PLAIN_FILLS {
             let disk = FuseDisk::torn(self.alloc, self.device()?, calls, fill(number, &[]));
             let (replies, disk) = self.played(disk, lines)?;
             let text = format!(in self.alloc; "{replies}, {} passed; then", disk.passed())?;
             if text != last {
-                write!(told, " {text}")?;
+                write!(reported, " {text}")?;
                 last = text;
             }
-            told.push(' ')?;
+            reported.push(' ')?;
             let bytes = disk.into_inner().image(self.alloc, u64::MAX, Fill::New)?;
-            self.tell_place(told, bytes)?;
+            self.tell_place(reported, bytes)?;
         }
         Ok(())
     }
 
     /// Writes by call and by plain fill after how many saves what a crash leaves was kept, and by call what comes of openings that are
     /// stopped in each of their calls by each plain fill, once and twice.
-    pub(super) fn tell_stopped(&self, told: &mut String, disk: &MemDisk) -> Result<(), AllocError> {
+    pub(super) fn tell_stopped(
+        &self,
+        reported: &mut String,
+        disk: &MemDisk,
+    ) -> Result<(), AllocError> {
         for moment in 1..disk.calls().saturating_add(2) {
-            write!(told, "\n  in call {moment}:")?;
+            write!(reported, "\n  in call {moment}:")?;
             let (mut second, mut third) = (Reopened::none(), Reopened::none());
             for number in 0..PLAIN_FILLS {
                 let image = self.left(disk, moment, number)?;
-                self.tell_stopped_image(told, image, &mut second, &mut third)?;
+                self.tell_stopped_image(reported, image, &mut second, &mut third)?;
             }
-            told.push_str("; ")?;
-            second.tell(told)?;
-            told.push_str("; ")?;
-            third.tell(told)?;
+            reported.push_str("; ")?;
+            second.tell(reported)?;
+            reported.push_str("; ")?;
+            third.tell(reported)?;
         }
         Ok(())
     }
 
     fn tell_stopped_image(
         &self,
-        told: &mut String,
+        reported: &mut String,
         image: Vec<u8>,
         second: &mut Reopened,
         third: &mut Reopened,
     ) -> Result<(), AllocError> {
-        told.push(' ')?;
+        reported.push(' ')?;
         match self.opened(image)? {
             Ok(first) => {
-                self.tell_saves(told, &first.kept)?;
+                self.tell_saves(reported, &first.kept)?;
                 for image in self.images_of(&first.disk)? {
                     self.open_again(image, &first, second, third)?;
                 }
                 Ok(())
             }
-            Err(fault) => write!(told, "{fault:?}"),
+            Err(fault) => write!(reported, "{fault:?}"),
         }
     }
 

@@ -25,11 +25,11 @@ AreQuiet name t (m ∷ ms) = (touches name t m ≡ false) × AreQuiet name t ms
 pub record IsGivenLast (first : PlainTickets) (ms : List Mention) (name : RulesetName) (t : Ticket) : Type 0 where
   pub before : List Mention
   pub given : RulesetName
-  pub behind : List Mention
-  pub all : ms ≡ before ++ gave given ∷ behind
+  pub following : List Mention
+  pub all : ms ≡ before ++ gave given ∷ following
   pub same : same_name given name ≡ true
   pub ticket : t ≡ next_ticket (after first before)
-  pub quiet : AreQuiet name t behind
+  pub quiet : AreQuiet name t following
 
 -- exactly that ticket is the valid one
 abbrev pub ValidIsGivenLast : Type 0
@@ -53,7 +53,7 @@ rules_added name t m = []
 -- the rules of the accepted adds with the valid ticket are offered, in order
 abbrev pub OffersTheAdded : Type 0
 OffersTheAdded = (epoch : ℕ) (ms : List Mention) (path : List ℕ) (t : Ticket) → (given : IsGivenLast (fresh epoch) ms (filter_at path) t) →
-    rules_in (content (opened epoch ms) (filter_at path)) ≡ flat_map (rules_added (filter_at path) t) given.behind
+    rules_in (content (opened epoch ms) (filter_at path)) ≡ flat_map (rules_added (filter_at path) t) given.following
 
 -- the entries with which a mention defines a table, for a ruleset with a ticket; none if it doesn't define it
 abbrev pub entries_defined : RulesetName → Ticket → List ℕ → Mention → Option (List PlainEntry)
@@ -82,7 +82,7 @@ pub record AreDefined (name : RulesetName) (t : Ticket) (ms : List Mention) (tab
 abbrev pub OffersTheDefined : Type 0
 OffersTheDefined = (epoch : ℕ) (ms : List Mention) (path : List ℕ) (t : Ticket) →
     (given : IsGivenLast (fresh epoch) ms (table_ruleset_at path) t) →
-    AreDefined (table_ruleset_at path) t given.behind (tables_in (content (opened epoch ms) (table_ruleset_at path)))
+    AreDefined (table_ruleset_at path) t given.following (tables_in (content (opened epoch ms) (table_ruleset_at path)))
 
 -- whether an entry is offered with its sign for a table of a ruleset
 abbrev pub is_offered : PlainTickets → RulesetName → List ℕ → PlainEntry → Bool
@@ -150,9 +150,9 @@ GivesEachOnce = (epoch count number : ℕ) → AreOnce (tickets_from epoch count
 
 -- for each ruleset that a begin names, its reply has at that place the ticket that is then valid, unless the ruleset is named again later
 abbrev pub TellsWhatIsGiven : Type 0
-TellsWhatIsGiven = (t : PlainTickets) (range : TicketRange) (before : List RulesetName) (name : RulesetName) (behind : List RulesetName) →
-    begin_reply t (before ++ name ∷ behind) ≡ Ok range → is_named behind name ≡ false
-    → valid_ticket (after t (gives (before ++ name ∷ behind))) name ≡ slice_get (tickets_of range) (length before)
+TellsWhatIsGiven = (t : PlainTickets) (range : TicketRange) (before : List RulesetName) (name : RulesetName) (following : List RulesetName) →
+    begin_reply t (before ++ name ∷ following) ≡ Ok range → is_named following name ≡ false
+    → valid_ticket (after t (gives (before ++ name ∷ following))) name ≡ slice_get (tickets_of range) (length before)
 
 -- this many tickets were given
 pub record AreGiven (number : ℕ) (t new : PlainTickets) : Type 0 where
@@ -161,7 +161,7 @@ pub record AreGiven (number : ℕ) (t new : PlainTickets) : Type 0 where
 
 -- a begin gives as many as it names rulesets, and its reply has them; no other step gives one
 pub record BeginsGive : Type 0 where
-  pub told : (t : PlainTickets) (names : List RulesetName) (range : TicketRange) → begin_reply t names ≡ Ok range →
+  pub reported : (t : PlainTickets) (names : List RulesetName) (range : TicketRange) → begin_reply t names ≡ Ok range →
       tickets_of range ≡ tickets_from t.epoch t.next (length names)
   pub begin : (t : PlainTickets) (names : List RulesetName) → AreGiven (length names) t (after t (gives names))
   pub add : (t : PlainTickets) (n : RulesetName) (u : Ticket) (r : PlainRule) → AreGiven 0 t (moved t (added n u r))
@@ -209,8 +209,8 @@ AreApart = (p q : List ℕ) → same_name (filter_at p) (table_ruleset_at q) ≡
 pub record IsFirstAgain (names : List RulesetName) (place : ℕ) : Type 0 where
   pub before : List RulesetName
   pub name : RulesetName
-  pub behind : List RulesetName
-  pub all : names ≡ before ++ name ∷ behind
+  pub following : List RulesetName
+  pub all : names ≡ before ++ name ∷ following
   pub placed : length before ≡ place
   pub again : is_named before name ≡ true
   pub once : IsDistinct before

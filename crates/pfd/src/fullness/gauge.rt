@@ -14,16 +14,16 @@ use std::io::{self, Write};
 #[derive(Drop)]
 pub(crate) struct Gauge {
     size: u64,
-    told: u64,
+    reported: u64,
 }
 
 impl Gauge {
     /// A gauge of banks of so many bytes, of which nothing was said.
     pub(crate) fn new(size: u64) -> Gauge
         ensures size { result.size ≡ size }
-        ensures told { result.told ≡ 0 }
+        ensures reported { result.reported ≡ 0 }
     {
-        Gauge { size, told: 0 }
+        Gauge { size, reported: 0 }
     }
 
     /// Takes note of what is kept. `Some`: how many hundredths of a bank are used is to be said, since they are more than seven eighths,
@@ -36,14 +36,14 @@ impl Gauge {
         let size = self.size as u128;
         if 0 < size && 7 * size < 8 * used {
             let hundredths = percent_of(used, size);
-            if hundredths <= self.told {
+            if hundredths <= self.reported {
                 return None;
             }
-            self.told = hundredths;
+            self.reported = hundredths;
             return Some(hundredths);
         }
         if 4 * used <= 3 * size {
-            self.told = 0;
+            self.reported = 0;
         }
         None
     }

@@ -3,7 +3,7 @@
 //! Each call takes the result of those before it, and writes after them.
 ghost use Rattle.std.specs.Prelude.{◌≡◌, ◌∷◌, ◌++◌, [], codes, decimal};
 ghost use Rattle.pf_addr.specs.Writing.{Continues};
-ghost use Rattle.pfd.specs.Log.{acknowledges, behind, fault_line, fault_word, numbered_line, opening_line, opening_word, reply_line, session_text};
+ghost use Rattle.pfd.specs.Log.{acknowledges, deed_part, fault_line, fault_word, numbered_line, opening_line, opening_word, reply_line, session_text};
 
 use crate::log::deed::{Deed, write_deed};
 use pf_addr::{write_more, write_more_number};
@@ -50,7 +50,7 @@ fn write_numbered<W: Write>(
     let so_far = write_session(out, so_far, session);
     let so_far = write_more(out, so_far, word);
     let so_far = write_more_number(out, so_far, seq);
-    let so_far = write_behind(out, so_far, deed);
+    let so_far = write_deed_part(out, so_far, deed);
     write_more(out, so_far, b"\n")
 }
 
@@ -61,12 +61,12 @@ fn write_session<W: Write>(out: &mut W, so_far: io::Result<()>, session: u32) ->
     write_more_number(out, so_far, u64::from(session))
 }
 
-fn write_behind<W: Write>(
+fn write_deed_part<W: Write>(
     out: &mut W,
     so_far: io::Result<()>,
     deed: &Option<Deed>,
 ) -> io::Result<()>
-    ensures { Continues so_far (W.contents out.old) result (W.contents out.new) (behind deed.now) }
+    ensures { Continues so_far (W.contents out.old) result (W.contents out.new) (deed_part deed.now) }
 {
     match deed {
         Some(deed) => {

@@ -1,6 +1,6 @@
 //! A caller of a Book whose replies are noted.
 ghost use Rattle.std.specs.{Option.option_copied, Prelude.{◌≡◌, IfSome, MatchOption, None, Ok, Err}};
-ghost use Rattle.pf_book.specs.{Anchors.{SaysAnchors, listed_in}, Groups.{IsAnsweredAsAlone, IsGroupAnswered, told}, Receipts.IsAnswered, Statuses.SaysStatus, Together.IsAnsweredTogether};
+ghost use Rattle.pf_book.specs.{Anchors.{SaysAnchors, listed_in}, Groups.{IsAnsweredAsAlone, IsGroupAnswered, result_list}, Receipts.IsAnswered, Statuses.SaysStatus, Together.IsAnsweredTogether};
 
 use crate::log::KeepLog;
 use crate::log::deed::deed_in;
@@ -58,11 +58,11 @@ impl<C: CallBook<J>, J: Chapter, L: KeepLog> CallBook<J> for Logged<'_, C, L> {
         commands: &[Command],
         last: Option<&Receipt<J>>,
     ) -> Result<Vec<(Reply, Receipt<J>)>, Refusal> {
-        let told = self.book.call_group(commands, last);
-        if let Ok(answers) = &told {
+        let answered = self.book.call_group(commands, last);
+        if let Ok(answers) = &answered {
             self.note_each(commands, answers);
         }
-        told
+        answered
     }
 
     fn call_as_alone(
@@ -70,11 +70,11 @@ impl<C: CallBook<J>, J: Chapter, L: KeepLog> CallBook<J> for Logged<'_, C, L> {
         commands: &[Command],
         last: Option<&Receipt<J>>,
     ) -> Option<Result<Vec<(Reply, Receipt<J>)>, Refusal>> {
-        let told = self.book.call_as_alone(commands, last);
-        if let Some(Ok(answers)) = &told {
+        let answered = self.book.call_as_alone(commands, last);
+        if let Some(Ok(answers)) = &answered {
             self.note_each(commands, answers);
         }
-        told
+        answered
     }
 
     fn status(&self, last: Option<&Receipt<J>>) -> BookStatus {

@@ -13,7 +13,7 @@ use std::io::{BufWriter, Write};
 
 /// Answers what is asked of a pf.conf.
 ///
-/// `Fault::Told`: what is wrong with a file was written to the faults; or the answer says it: a case has another verdict than is wanted, or a
+/// `Fault::Reported`: what is wrong with a file was written to the faults; or the answer says it: a case has another verdict than is wanted, or a
 /// rule decides no case.
 pub(crate) fn answer<S: Files<File = File>, W: Write, F: Write>(
     alloc: Global,
@@ -24,19 +24,19 @@ pub(crate) fn answer<S: Files<File = File>, W: Write, F: Write>(
 ) -> Result<(), Fault> {
     match answered(alloc, files, task, writer, faults) {
         Ok(true) => Ok(()),
-        Ok(false) => Err(Fault::Told),
-        Err(fault) => Err(told_of_conf(fault, faults)),
+        Ok(false) => Err(Fault::Reported),
+        Err(fault) => Err(report_conf_fault(fault, faults)),
     }
 }
 
 /// What the program says of why there is no answer.
-pub(crate) fn told_of_conf<F: Write>(fault: ConfFault, faults: &mut F) -> Fault {
+pub(crate) fn report_conf_fault<F: Write>(fault: ConfFault, faults: &mut F) -> Fault {
     match fault {
         ConfFault::Memory => Fault::Memory,
         ConfFault::Output => Fault::Output,
         fault => {
             let _ = writeln!(faults, "{fault}");
-            Fault::Told
+            Fault::Reported
         }
     }
 }

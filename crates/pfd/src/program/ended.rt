@@ -6,7 +6,7 @@ use pf_session::EngineFault;
 use pfd_files::Fault;
 
 /// A session's end, with its fault as the program says it.
-pub(crate) fn told(session: Result<(), EngineFault>) -> Result<(), Fault>
+pub(crate) fn session_end(session: Result<(), EngineFault>) -> Result<(), Fault>
     ensures { result ≡ ended session }
 {
     match session {

@@ -1,8 +1,8 @@
 //! Why a packet has its verdict at a server. No clause can say what a socket gives and takes, so here it is only tested; pf_load says what
 //! is asked, and pfd_conf what is told of that.
 
-use crate::program::conf::told_of_conf;
-use crate::program::load::told_of_load;
+use crate::program::conf::report_conf_fault;
+use crate::program::load::report_load_fault;
 use crate::stream::Stream;
 use pf_conf::Conf;
 use pf_load::served_conf;
@@ -15,7 +15,7 @@ use std::net::{Net, TcpListener, TcpStream};
 
 /// Tells which rules of a server match a packet, and the verdict on it.
 ///
-/// `Fault::Told`: why there is no answer was written to the faults. `Fault::Input`: nobody answers at the address. `Fault::Output`: the
+/// `Fault::Reported`: why there is no answer was written to the faults. `Fault::Input`: nobody answers at the address. `Fault::Output`: the
 /// server ended before it had answered, or the output can't be written.
 pub(crate) fn explain_served<
     N: Net<Listener = TcpListener, Stream = TcpStream>,
@@ -37,11 +37,11 @@ pub(crate) fn explain_served<
     let mut server = &stream;
     let conf = match served_conf(alloc, &mut server, &mut replies) {
         Ok(conf) => conf,
-        Err(fault) => return Err(told_of_load(fault, faults)),
+        Err(fault) => return Err(report_load_fault(fault, faults)),
     };
     match explain(alloc, conf, task, writer) {
         Ok(()) => Ok(()),
-        Err(fault) => Err(told_of_conf(fault, faults)),
+        Err(fault) => Err(report_conf_fault(fault, faults)),
     }
 }
 

@@ -1,6 +1,6 @@
 //! Loads of a pf.conf into a server. No clause can say what a socket gives and takes, so here it is only tested; pf_load says what is sent.
 
-use crate::program::conf::{mode_of, told_of_conf};
+use crate::program::conf::{mode_of, report_conf_fault};
 use crate::stream::Stream;
 use pf_addr::path::Path;
 use pf_conf::Conf;
@@ -15,7 +15,7 @@ use std::net::{Net, TcpListener, TcpStream};
 
 /// Loads a pf.conf into a server, or shows what that would change.
 ///
-/// `Fault::Told`: what is wrong with the file, or the line that the server refuses, was written to the faults. `Fault::Input`: nobody answers
+/// `Fault::Reported`: what is wrong with the file, or the line that the server refuses, was written to the faults. `Fault::Input`: nobody answers
 /// at the address. `Fault::Output`: the server ended before it had answered, or the output can't be written.
 pub(crate) fn load_file<
     N: Net<Listener = TcpListener, Stream = TcpStream>,
@@ -32,7 +32,7 @@ pub(crate) fn load_file<
 ) -> Result<(), Fault> {
     let taken = match taken(alloc, files, task, faults) {
         Ok(taken) => taken,
-        Err(fault) => return Err(told_of_conf(fault, faults)),
+        Err(fault) => return Err(report_conf_fault(fault, faults)),
     };
     let Ok(stream) = Stream::connect(net, task.to) else {
         return Err(Fault::Input);
@@ -43,7 +43,7 @@ pub(crate) fn load_file<
     let mut server = &stream;
     match loaded(alloc, &mut server, &mut replies, task, &taken.conf, writer) {
         Ok(()) => Ok(()),
-        Err(fault) => Err(told_of_load(fault, faults)),
+        Err(fault) => Err(report_load_fault(fault, faults)),
     }
 }
 
@@ -97,14 +97,14 @@ fn write_reply<W: Write>(writer: &mut W, reply: &[u8]) -> io::Result<()> {
 }
 
 /// What the program says of a load that stopped, or of what a server has.
-pub(crate) fn told_of_load<F: Write>(fault: LoadFault, faults: &mut F) -> Fault {
+pub(crate) fn report_load_fault<F: Write>(fault: LoadFault, faults: &mut F) -> Fault {
     match fault {
         LoadFault::Memory => Fault::Memory,
         LoadFault::Ended => Fault::Output,
         LoadFault::Output => Fault::Output,
         refused => {
             let _ = writeln!(faults, "{refused}");
-            Fault::Told
+            Fault::Reported
         }
     }
 }

@@ -10,10 +10,10 @@ use crate::door::{Doors, Listener};
 use crate::fullness::gauge::{Gauge, tell_fullness};
 use crate::fullness::notice::{Notice, SayFullness};
 use crate::fullness::watched::{Age, Watched};
-use crate::listener::{Reception, judge_until, serve_until};
+use crate::listener::{Reception, judge_until, run_workers};
 use crate::log::KeepLog;
 use crate::log::saying::Log;
-use crate::program::ended::told;
+use crate::program::ended::session_end;
 use crate::renewal::{Renewal, Reopening};
 use crate::socket_file::{SocketFile, listen_at};
 use crate::stream::is_path;
@@ -61,7 +61,7 @@ impl House {
 /// Serves connections over the disk that lies on a file. Faults are found in this order: of the file, of the disk, of the address, of the
 /// writer, and at last one of the listener, or of an opening that renews the history. How full the disk is goes to `faults`, from a thread of
 /// its own once clients are served, and so does the log, if one is kept, from whoever serves.
-pub(crate) fn serve_file<
+pub(crate) fn run_server<
     N: Wait + Threads + Net<Listener = TcpListener, Stream = TcpStream> + Sync,
     S: Files<File = File>,
     W: Write,
@@ -79,13 +79,13 @@ pub(crate) fn serve_file<
 {
     let disk = open_file(alloc, files, service.path, Some(service.size))?;
     match Opening::open(alloc, disk) {
-        Ok(opening) => serve_house(machine, alloc, files, opening, service, writer, faults),
+        Ok(opening) => run_house(machine, alloc, files, opening, service, writer, faults),
         Err((fault, _disk)) => Err(Fault::from(fault)),
     }
 }
 
 // The same over what was opened first.
-fn serve_house<
+fn run_house<
     D: Disk + Drop + Send,
     N: Wait + Threads + Net<Listener = TcpListener, Stream = TcpStream> + Sync,
     S: Files<File = File>,
@@ -112,7 +112,7 @@ fn serve_house<
         return Err(Fault::Memory);
     };
     let listening = open_doors(machine, alloc, files, service, writer)?;
-    let served = serve_and_say(
+    let served = run_and_say(
         machine,
         alloc,
         opening,
@@ -127,7 +127,7 @@ fn serve_house<
 
 // Serves connections, while a thread of its own says how full the disk gets: no change and no renewal waits for what reads that. Where no such
 // thread can be made, it is said at the end.
-fn serve_and_say<D: Disk + Drop + Send, N: Wait + Threads + Sync, L: KeepLog + SayFullness + Sync>(
+fn run_and_say<D: Disk + Drop + Send, N: Wait + Threads + Sync, L: KeepLog + SayFullness + Sync>(
     machine: &N,
     alloc: Global,
     opening: Opening<D>,
@@ -144,7 +144,7 @@ fn serve_and_say<D: Disk + Drop + Send, N: Wait + Threads + Sync, L: KeepLog + S
         ||
             requires { CanServe service.now }
         {
-            let served = serve_openings(machine, alloc, opening, service, doors, house, log);
+            let served = run_openings(machine, alloc, opening, service, doors, house, log);
             house.notice.end(machine);
             served
         },
@@ -153,7 +153,7 @@ fn serve_and_say<D: Disk + Drop + Send, N: Wait + Threads + Sync, L: KeepLog + S
 }
 
 // Serves in one opening after the other.
-fn serve_openings<D: Disk + Drop + Send, N: Wait + Threads + Sync, L: KeepLog + Sync>(
+fn run_openings<D: Disk + Drop + Send, N: Wait + Threads + Sync, L: KeepLog + Sync>(
     machine: &N,
     alloc: Global,
     first: Opening<D>,
@@ -170,7 +170,7 @@ fn serve_openings<D: Disk + Drop + Send, N: Wait + Threads + Sync, L: KeepLog + 
         log.note_opening(opening.durable().epoch(), is_renewal);
         is_renewal = true;
         let calls = NewCalls::open();
-        let next = serve_opening::<Brand, _, _, _>(
+        let next = run_opening::<Brand, _, _, _>(
             machine, alloc, opening, calls, service, doors, house, log,
         )?;
         match next {
@@ -183,7 +183,7 @@ fn serve_openings<D: Disk + Drop + Send, N: Wait + Threads + Sync, L: KeepLog + 
 
 // Serves in one opening, until its history is to be renewed, and opens the disk again; or until no more is to be served: then there is no
 // further opening.
-fn serve_opening<
+fn run_opening<
     J: Chapter + Numbering + Send + Sync,
     D: Disk + Drop + Send,
     N: Wait + Threads + Sync,
@@ -205,7 +205,7 @@ fn serve_opening<
     house.renewal.begin();
     let (book, seers) = watch::<J, _, _>(machine, alloc, opening, service, house)?;
     let shared = Shared::new(book, calls);
-    let served = serve_until(
+    let served = run_workers(
         machine,
         alloc,
         doors,
@@ -238,7 +238,7 @@ fn go_further<
     let seers = match served {
         Ok(seers) => seers,
         Err(fault) => {
-            told(Err(fault))?;
+            session_end(Err(fault))?;
             return Ok(None);
         }
     };

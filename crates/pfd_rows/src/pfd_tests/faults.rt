@@ -16,7 +16,7 @@ const TEXTS: &[(Fault, &str)] = &[
     (Fault::Places, "places"),
     (Fault::Input, "input"),
     (Fault::Output, "output"),
-    (Fault::Told, "told"),
+    (Fault::Reported, "told"),
 ];
 
 /// Looks at the text of each fault.

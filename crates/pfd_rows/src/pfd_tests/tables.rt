@@ -164,7 +164,7 @@ fn text_of(alloc: Global, reply: &Reply) -> io::Result<Vec<u8>> {
 }
 
 // What is told to a row's command.
-fn told_to(
+fn client_reply(
     alloc: Global,
     core: &mut Core,
     deed: Deed,
@@ -187,8 +187,8 @@ pub(crate) fn run_each(alloc: Global) -> io::Result<Tally> {
     let mut core = fresh(alloc)?;
     let mut changes = 0;
     for (deed, count, wanted) in ROWS {
-        let told = told_to(alloc, &mut core, *deed, *count, &mut changes)?;
-        tally.hold(wanted.trim_end(), told.as_slice() == wanted.as_bytes())?;
+        let reported = client_reply(alloc, &mut core, *deed, *count, &mut changes)?;
+        tally.hold(wanted.trim_end(), reported.as_slice() == wanted.as_bytes())?;
     }
     Ok(tally)
 }

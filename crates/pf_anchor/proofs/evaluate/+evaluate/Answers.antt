@@ -5,7 +5,7 @@ use Rattle.std.specs.Prelude.{filter}
 use Rattle.pf_addr.specs.Path.Nested.{depth, path_within, is_child}
 use Rattle.pf_addr.proofs.Nesting.{leads_deeper}
 use Rattle.pf_rule.specs.{Packets.PlainPacket, Rules.PlainRule}
-use Rattle.pf_anchor.specs.{declared.{evaluate.Stop.{Stop}, evaluated.Evaluated.Evaluated, evaluated.Evaluated.TheVariants.Open, evaluated.Evaluated.TheVariants.Ended}, Matches.PlainMatch, Rulesets.{PlainPlaced, ruled, targets}, Configurations.PlainConfig, Blocks.{IsStop, given_from}, Known.ruleset_gives, Evaluation.{and_then, settled, rules_give, effected, in_turn, evaluation, evaluate_with, matching}}
+use Rattle.pf_anchor.specs.{declared.{evaluate.StopBlock.{StopBlock}, evaluated.Evaluated.Evaluated, evaluated.Evaluated.TheVariants.Open, evaluated.Evaluated.TheVariants.Ended}, Matches.PlainMatch, Rulesets.{PlainPlaced, ruled, targets}, Configurations.PlainConfig, Blocks.{IsStop, given_from}, Known.ruleset_gives, Evaluation.{and_then, settled, rules_give, effected, in_turn, evaluation, evaluate_with, matching}}
 use Rattle.pf_anchor.proofs.{Evaluations.{unrolled, none_and_then, no_rules}, Turns.{rule_goes_on, rule_passed, child_deeper, then_open, child_step, no_child_step, no_targets, targets_from, plain_turn}}
 use Rattle.pf_anchor.proofs.Blocks.{block_goes_on, block_ends, rule_ends, lane_says}
 use Rattle.pf_anchor.proofs.evaluate.+evaluate.Goals.{each_match-then-is_set+in_ok-latest+in-Open-None, each_match-then-is_set+in_ok-latest+in-Open-Some+else-is_quick, each_match-else-is_set}
@@ -23,7 +23,7 @@ evaluate-loop-passed-init t c =
     ∙ sym (none_and_then (evaluate_with (evaluation config.rulesets (matching config.tables packet)) config.rulesets (matching config.tables packet) c.args.placed.now))
 
 -- what is said of a stop, if there is one
-said : (c : PlainConfig) (packet : PlainPacket) (e : PlainPlaced) (from : ℕ) (before last : Option PlainMatch) {stop : Option Stop} (s : Stop) → stop ≡ Some s →
+said : (c : PlainConfig) (packet : PlainPacket) (e : PlainPlaced) (from : ℕ) (before last : Option PlainMatch) {stop : Option StopBlock} (s : StopBlock) → stop ≡ Some s →
     MatchOption stop (given_from c packet e from before ≡ Open last) (λ s. IsStop c packet e from before last s.block s.mask) → IsStop c packet e from before last s.block s.mask
 said c packet e from before last s is h =
     MatchOption-at_some (given_from c packet e from before ≡ Open last) (λ s. IsStop c packet e from before last s.block s.mask) s is h

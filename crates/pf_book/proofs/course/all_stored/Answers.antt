@@ -17,7 +17,7 @@ loop-reply-preserved c =
     let e : c.loop-reply.reply-index + 1 ≡ suc i = omega arith in
     let low : i < length (map as_stored (take i xs) ++ drop i xs) = subst (λ (zs : List Reply). i < length zs) now (omega arith) in
     let x : Reply = c.reply-item.result in
-    let told : c.stored.result ≡ as_stored x = c.stored.ensures ∙ ap as_stored (c.replace-told.ensures.value ∙ sym c.reply-item.is) in
+    let reported : c.stored.result ≡ as_stored x = c.stored.ensures ∙ ap as_stored (c.replace-reported.ensures.value ∙ sym c.reply-item.is) in
     let at : x ≡ slice_index_or (map as_stored (take i xs) ++ drop i xs) i x = subst (λ (zs : List Reply). x ≡ slice_index_or zs i x) now c.reply-item.is in
-    ap (λ (z : Reply). slice_set c.loop-reply.replies i z) told ∙ ap (λ (zs : List Reply). slice_set zs i (as_stored x)) now ∙ set-next as_stored xs i x low at
+    ap (λ (z : Reply). slice_set c.loop-reply.replies i z) reported ∙ ap (λ (zs : List Reply). slice_set zs i (as_stored x)) now ∙ set-next as_stored xs i x low at
     ∙ ap (λ (n : ℕ). map as_stored (take n xs) ++ drop n xs) (sym e)

@@ -4,7 +4,7 @@ use Rattle.pf_ticket.proofs.TicketLimits.{keeps_the_limits}
 use Rattle.pf_core.specs.declared.{command.Command.Command, reply.Refusal.Refusal, step.Step.Step}
 use Rattle.pf_core.specs.{Commands.{step_by}, Durable.Changes.{PlainChange, after, voided_by}, Nexts.PlainNext, Cores.{PlainCore, plain, IsMadeFrom}, Worlds.{amid, changes_of, changes_due, replies_due}}
 use Rattle.pf_book.specs.Courses.{ready_of, found_by, StepFindsRoom}
-use Rattle.pf_book.proofs.Coursing.{Steps, tickets_there, step-behind, step-amidst, number-amidst, replies-on, changes-on, each-on, fit-on, wanted-on, few-on, left-on}
+use Rattle.pf_book.proofs.Coursing.{Steps, tickets_there, step-after, step-amidst, number-amidst, replies-on, changes-on, each-on, fit-on, wanted-on, few-on, left-on}
 use Rattle.pf_book.proofs.course.course_of.Goals as goal
 
 pub loop-command-preserved : goal.loop-command-preserved
@@ -21,7 +21,7 @@ loop-command-preserved g c =
     let new = c.take.new.self in
     let low : i < length commands = c.loop-command-test.true in
     let steps : Steps w before k s = subst (λ (x : PlainCore). Steps x before k s) inv.core c.step-step.ensures.reply in
-    let is : s ≡ step_by (tickets_there w changes) (after w.durable changes) k = step-behind w changes k before s inv.next steps c.in_ok-take.ensures.taken.known in
+    let is : s ≡ step_by (tickets_there w changes) (after w.durable changes) k = step-after w changes k before s inv.next steps c.in_ok-take.ensures.taken.known in
     let from : IsMadeFrom (found_by w.durable before) c.step-step.result = subst (λ (x : PlainCore). IsMadeFrom (found_by x.durable before) c.step-step.result) inv.core c.step-step.ensures.made in
     let wants : new.changes.items ≡ changes ++ changes_of s = c.in_ok-take.ensures.taken.changes in
     let left : drop i commands ≡ k ∷ drop (i + 1) commands = drop_more commands i k low ∙ ap (λ (x : Command). x ∷ drop (i + 1) commands) (sym c.command-item.is) in

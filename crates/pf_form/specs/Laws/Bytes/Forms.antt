@@ -2,9 +2,9 @@
 use Rattle.std.proofs.{Common.{◌≡◌, ◌==◌, ◌<◌, ◌^◌, ℕ, Bool, true, false, List, [], ◌∷◌, ◌++◌, length, Ok, Err, ◌⊎◌, inl, inr, refl, sym, ap, subst, ◌∙◌, append_assoc}, lemmas.Bool.eqb-true}
 use Rattle.std.specs.{Prelude.if◌then◌else◌, List.{flat_map, AllByRecursion}}
 use Rattle.pf_form.specs.declared.bytes.fault.Fault.TheVariants.{Short, Bad}
-use Rattle.pf_form.specs.{Bytes.BasicForms.{Read, Reader, Bytes, Laws, Faulting, Differs, TimesFaults, ThatFaults, number_at, number_bytes, constant_at, times_by, is_next, seen_as, only_if, begins_otherwise}, Bytes.Forms.{Shape, either, Value, Form, nothing, number, part, front, back, or, pair_by, times, counted, that, reads, writes, Fits, Faults}, Laws.Bytes.Steps.{bind_ok, bind_err, ok_is, seen_ok, seen_err, chosen, bad_is, eqb_same, is_false, is_other, leaves, bytes_after}, Laws.Bytes.BasicForms.{nothing_laws, number_laws, constant_laws}, Laws.Bytes.Joined.{joined_laws, items_laws}}
+use Rattle.pf_form.specs.{Bytes.BasicForms.{Read, Reader, Bytes, Laws, Faulting, Differs, TimesFaults, ThatFaults, number_at, number_bytes, constant_at, times_by, is_next, seen_as, only_if, begins_otherwise}, Bytes.Forms.{Shape, either, Value, ByteForm, nothing, number, part, front, back, or, pair_by, times, counted, that, reads, writes, Fits, Faults}, Laws.Bytes.Steps.{bind_ok, bind_err, ok_is, seen_ok, seen_err, chosen, bad_is, eqb_same, is_false, is_other, leaves, bytes_after}, Laws.Bytes.BasicForms.{nothing_laws, number_laws, constant_laws}, Laws.Bytes.Joined.{joined_laws, items_laws}}
 
-abbrev pub Lawful : {a : Shape} → Form a → Type 0
+abbrev pub Lawful : {a : Shape} → ByteForm a → Type 0
 Lawful {a = a} f = Laws (Value a) (reads f) (writes f) (Fits f) (Faults f)
 
 -- ---- a property
@@ -88,14 +88,14 @@ next_no_fault k (b ∷ bytes) left e = elim (chosen (b == k) (leaves true bytes)
   | inr g ↦ let wrong = g.1 in cc
 ]
 
-module _ {a b : Shape} (k : ℕ) (f : Form a) (g : Form b) (p : Lawful f) (q : Laws (Value b) (only_if (λ y. begins_otherwise k (writes g y)) (reads g)) (writes g) (λ y. Fits g y × (begins_otherwise k (writes g y) ≡ true)) (ThatFaults (λ y. begins_otherwise k (writes g y)) (writes g) (Fits g) (Faults g))) where
+module _ {a b : Shape} (k : ℕ) (f : ByteForm a) (g : ByteForm b) (p : Lawful f) (q : Laws (Value b) (only_if (λ y. begins_otherwise k (writes g y)) (reads g)) (writes g) (λ y. Fits g y × (begins_otherwise k (writes g y) ≡ true)) (ThatFaults (λ y. begins_otherwise k (writes g y)) (writes g) (Fits g) (Faults g))) where
   abbrev Choice : Type 0
   Choice = Value a ⊎ Value b
 
   abbrev test : Value b → Bool
   test y = begins_otherwise k (writes g y)
 
-  abbrev chosen_form : Form (either a b)
+  abbrev chosen_form : ByteForm (either a b)
   chosen_form = or k f g
 
   abbrev pick : Bool × List ℕ → Read Choice
@@ -112,10 +112,10 @@ module _ {a b : Shape} (k : ℕ) (f : Form a) (g : Form b) (p : Lawful f) (q : L
   choice_takes bytes z rest h e = let n = bind_ok (is_next k bytes) pick (z, rest) e in by n.0.0 n.0.1 n.1 n.2 where
     by : (t : Bool) (m : List ℕ) → is_next k bytes ≡ Ok (t, m) → pick (t, m) ≡ Ok (z, rest) → Taken bytes z rest
     by true m e c =
-        let behind : bytes ≡ k ∷ m = next_is k bytes true m e in
+        let following : bytes ≡ k ∷ m = next_is k bytes true m e in
         let x = seen_ok {A = Value a} {B = Choice} inl (reads f m) z rest c in
-        let first = p.takes m x.0 rest (bytes_after bytes (k ∷ []) m behind h) x.1 in
-        subst (λ (y : Choice). Taken bytes y rest) x.2 (first.0, behind ∙ ap (λ (l : List ℕ). k ∷ l) first.1)
+        let first = p.takes m x.0 rest (bytes_after bytes (k ∷ []) m following h) x.1 in
+        subst (λ (y : Choice). Taken bytes y rest) x.2 (first.0, following ∙ ap (λ (l : List ℕ). k ∷ l) first.1)
     by false m e c =
         let next = next_is k bytes false m e in
         let y = seen_ok {A = Value b} {B = Choice} inr (only_if test (reads g) m) z rest c in
@@ -149,9 +149,9 @@ module _ {a b : Shape} (k : ℕ) (f : Form a) (g : Form b) (p : Lawful f) (q : L
   ] where
     by : (t : Bool) (m : List ℕ) → is_next k bytes ≡ Ok (t, m) → pick (t, m) ≡ Err (Bad left) → (before rest : List ℕ) × (bytes ≡ before ++ rest) × (length rest ≡ left) × ChoiceFaults before rest
     by true m e c =
-        let behind : bytes ≡ k ∷ m = next_is k bytes true m e in
-        let s = p.stops m left (bytes_after bytes (k ∷ []) m behind h) (seen_err {A = Value a} {B = Choice} inl (reads f m) (Bad left) c) in
-        (k ∷ s.0, s.1, behind ∙ ap (λ (l : List ℕ). k ∷ l) s.2, s.3, inl (s.0, refl, s.4))
+        let following : bytes ≡ k ∷ m = next_is k bytes true m e in
+        let s = p.stops m left (bytes_after bytes (k ∷ []) m following h) (seen_err {A = Value a} {B = Choice} inl (reads f m) (Bad left) c) in
+        (k ∷ s.0, s.1, following ∙ ap (λ (l : List ℕ). k ∷ l) s.2, s.3, inl (s.0, refl, s.4))
     by false m e c =
         let next = next_is k bytes false m e in
         let s = q.stops m left (bytes_after bytes [] m next.0 h) (seen_err {A = Value b} {B = Choice} inr (only_if test (reads g) m) (Bad left) c) in
@@ -166,10 +166,10 @@ module _ {a b : Shape} (k : ℕ) (f : Form a) (g : Form b) (p : Lawful f) (q : L
 
 -- ---- every form
 
-abbrev fitting_list : {a : Shape} → ℕ → Form a → List (Value a) → Type 0
+abbrev fitting_list : {a : Shape} → ℕ → ByteForm a → List (Value a) → Type 0
 fitting_list n f xs = (length xs ≡ n) × AllByRecursion (Fits f) xs
 
-pub lawful : {a : Shape} (f : Form a) → Lawful f
+pub lawful : {a : Shape} (f : ByteForm a) → Lawful f
 lawful (nothing only) = nothing_laws only
 lawful (number w) = number_laws w
 lawful (part p) = p.laws

@@ -1,7 +1,7 @@
 -- A value is written in as many bytes as its form says.
 use Rattle.std.proofs.{Common.{◌≡◌, ◌+◌, ℕ, zero, suc, List, [], ◌∷◌, ◌++◌, length, inl, inr, refl, ap, ◌∙◌, arith}, lemmas.List.{length-append, Sums.sum_by-cons}}
 use Rattle.std.specs.List.{flat_map, sum_by}
-use Rattle.pf_form.specs.{Bytes.BasicForms.number_bytes, Bytes.Forms.{Shape, Value, Form, nothing, number, part, front, back, or, pair_by, times, counted, that, writes, length_of}}
+use Rattle.pf_form.specs.{Bytes.BasicForms.number_bytes, Bytes.Forms.{Shape, Value, ByteForm, nothing, number, part, front, back, or, pair_by, times, counted, that, writes, length_of}}
 
 number_long : (w n : ℕ) → length (number_bytes w n) ≡ w
 unfolding number_bytes
@@ -12,7 +12,7 @@ each_long : {A : Type 0} (write : A → List ℕ) (long : A → ℕ) → ((x : A
 each_long write long is [] = refl
 each_long write long is (x ∷ xs) = omega (arith, length-append (write x) (flat_map write xs), is x, each_long write long is xs, sum_by-cons long x xs)
 
-pub length_is : {a : Shape} (f : Form a) (x : Value a) → length (writes f x) ≡ length_of f x
+pub length_is : {a : Shape} (f : ByteForm a) (x : Value a) → length (writes f x) ≡ length_of f x
 length_is (nothing only) x = refl
 length_is (number w) n = number_long w n
 length_is (part p) x = refl

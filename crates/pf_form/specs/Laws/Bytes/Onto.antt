@@ -1,13 +1,13 @@
 -- What is appended to bytes is what is written.
 use Rattle.std.proofs.{Common.{◌≡◌, ℕ, List, [], ◌∷◌, ◌++◌, length, inl, inr, refl, sym, ap, ◌∙◌, append_assoc}, lemmas.List.append-nil}
 use Rattle.std.specs.List.{flat_map}
-use Rattle.pf_form.specs.{Bytes.BasicForms.{onto_each, number_bytes}, Bytes.Forms.{Shape, Value, Form, nothing, number, part, front, back, or, pair_by, times, counted, that, writes, onto}}
+use Rattle.pf_form.specs.{Bytes.BasicForms.{onto_each, number_bytes}, Bytes.Forms.{Shape, Value, ByteForm, nothing, number, part, front, back, or, pair_by, times, counted, that, writes, onto}}
 
 each_is : {A : Type 0} (push : A → List ℕ → List ℕ) (write : A → List ℕ) → ((x : A) (out : List ℕ) → push x out ≡ out ++ write x) → (xs : List A) (out : List ℕ) → onto_each push xs out ≡ out ++ flat_map write xs
 each_is push write is [] out = sym (append-nil out)
 each_is push write is (x ∷ xs) out = each_is push write is xs (push x out) ∙ ap (λ (m : List ℕ). m ++ flat_map write xs) (is x out) ∙ append_assoc out (write x) (flat_map write xs)
 
-pub onto_is : {a : Shape} (f : Form a) (x : Value a) (out : List ℕ) → onto f x out ≡ out ++ writes f x
+pub onto_is : {a : Shape} (f : ByteForm a) (x : Value a) (out : List ℕ) → onto f x out ≡ out ++ writes f x
 onto_is (nothing only) x out = sym (append-nil out)
 onto_is (number w) n out = refl
 onto_is (part p) x out = refl

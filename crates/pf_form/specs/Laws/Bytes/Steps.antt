@@ -53,16 +53,16 @@ is_other false e = refl
 
 -- ---- bytes
 
-pub bytes_behind : (a b : List ℕ) → Bytes (a ++ b) → Bytes b
-bytes_behind [] b h = h
-bytes_behind (x ∷ a) b h = bytes_behind a b h.1
+pub bytes_of_rest : (a b : List ℕ) → Bytes (a ++ b) → Bytes b
+bytes_of_rest [] b h = h
+bytes_of_rest (x ∷ a) b h = bytes_of_rest a b h.1
 
 pub bytes_front : (a b : List ℕ) → Bytes (a ++ b) → Bytes a
 bytes_front [] b h = tt
 bytes_front (x ∷ a) b h = (h.0, bytes_front a b h.1)
 
 pub bytes_after : (bytes a b : List ℕ) → bytes ≡ a ++ b → Bytes bytes → Bytes b
-bytes_after bytes a b e h = bytes_behind a b (subst Bytes e h)
+bytes_after bytes a b e h = bytes_of_rest a b (subst Bytes e h)
 
 -- from bytes by their places
 pub bytes_of : (bytes : List ℕ) → ((i : ℕ) → get_or bytes i 0 < 256) → Bytes bytes

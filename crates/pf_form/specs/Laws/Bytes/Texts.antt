@@ -1,7 +1,7 @@
 -- Whole texts: what is read is the value that they spell, and what is refused is refused for one reason.
 use Rattle.std.proofs.{Common.{◌≡◌, ◌<◌, ◌+◌, ℕ, List, [], ◌∷◌, ◌++◌, length, Result, Ok, Err, inl, inr, refl, sym, ap, subst, ◌∙◌, append_assoc, arith}, lemmas.List.{append-nil, length-append}}
 use Rattle.pf_form.specs.declared.{bytes.fault.Fault.Fault, bytes.fault.Fault.TheVariants.{Short, Bad}}
-use Rattle.pf_form.specs.{Bytes.BasicForms.{Read, ◌>>=◌, Bytes}, Bytes.Forms.{Shape, Value, Form, Spells, reads, writes}, Bytes.Readers.{end_at, ended, read_all, GoesWrong, GoesOn, Refused}, Laws.Bytes.Steps.{bind_ok, bind_err}, Laws.Bytes.Forms.lawful}
+use Rattle.pf_form.specs.{Bytes.BasicForms.{Read, ◌>>=◌, Bytes}, Bytes.Forms.{Shape, Value, ByteForm, Spells, reads, writes}, Bytes.Readers.{end_at, ended, read_all, GoesWrong, GoesOn, Refused}, Laws.Bytes.Steps.{bind_ok, bind_err}, Laws.Bytes.Forms.lawful}
 
 at_end : {A : Type 0} (x y : A) (rest : List ℕ) → (end_at rest >>= λ u. Ok x) ≡ Ok y → (rest ≡ []) × (x ≡ y)
 at_end x y [] e = (refl, cc)
@@ -15,7 +15,7 @@ going_on : {A : Type 0} (x : A) (rest : List ℕ) → 0 < length rest → (end_a
 going_on x [] lt = absurd (omega (arith, lt))
 going_on x (b ∷ rest) lt = refl
 
-module _ {a : Shape} (f : Form a) where
+module _ {a : Shape} (f : ByteForm a) where
   pub found : (bytes : List ℕ) (x : Value a) → Bytes bytes → read_all f bytes ≡ Ok x → Spells f x bytes
   found bytes x h e =
       let y = bind_ok (reads f bytes) ended x e in

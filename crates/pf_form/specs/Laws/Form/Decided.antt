@@ -205,9 +205,9 @@ misplaced_here {A = A} spells faults ws k rest some e =
     record { front = []; parts = g.1; starts = some; kind = inl (sym g.0) }
 
 -- Where a part stops the whole stops, after what comes before the part as well.
-pub stopped_behind : {A B : Type 0} {spells : Grammar A} {spells' : Grammar B} {faults faults' : Faulting} {k : Kind} {rest : List Word} (before part ws : List Word) → Stopped A spells faults part k rest → ws ≡ before ++ part
+pub stopped_after : {A B : Type 0} {spells : Grammar A} {spells' : Grammar B} {faults faults' : Faulting} {k : Kind} {rest : List Word} (before part ws : List Word) → Stopped A spells faults part k rest → ws ≡ before ++ part
     → ((front : List Word) → Begins spells front → Begins spells' (before ++ front)) → ((front : List Word) (v : Word) → faults front v k → faults' (before ++ front) v k) → Stopped B spells' faults' ws k rest
-stopped_behind {rest = rest} before part ws s is starts kinds = record {
+stopped_after {rest = rest} before part ws s is starts kinds = record {
   front = before ++ s.front;
   parts = is ∙ ap (λ (m : List Word). before ++ m) s.parts ∙ sym (append_assoc before s.front rest);
   starts = starts s.front s.starts;

@@ -1,7 +1,7 @@
 -- The laws of a part that is repeated up to the last word.
 use Rattle.std.proofs.{Common.{◌≡◌, ℕ, zero, suc, ◌<◌, ◌≤◌, Bool, false, true, List, [], ◌∷◌, ◌++◌, length, Result, Ok, Err, inl, inr, refl, sym, ap, subst, ◌∙◌, append_assoc, append-nil, arith}, lemmas.List.length-append}
 use Rattle.pf_form.specs.declared.form.fault.Kind.{Kind}
-use Rattle.pf_form.specs.{Form.Words.Word, Form.Forms.{Form, any_number, InOrder, Spells, Faults, Read, Reader, reads, empties, begins, follow, ◌>>=◌, the_end, may_follow, at_most, any_by}, Form.Readers.Shrinks, Laws.Form.Decided.{Clear, Heads, clears, clears_heads, bind_ok, bind_err, leaves, ok_is, seen_ok, seen_err, not_both, Stopped, Lawful, takes_some, stopped_behind}}
+use Rattle.pf_form.specs.{Form.Words.Word, Form.Forms.{Form, any_number, InOrder, Spells, Faults, Read, Reader, reads, empties, begins, follow, ◌>>=◌, the_end, may_follow, at_most, any_by}, Form.Readers.Shrinks, Laws.Form.Decided.{Clear, Heads, clears, clears_heads, bind_ok, bind_err, leaves, ok_is, seen_ok, seen_err, not_both, Stopped, Lawful, takes_some, stopped_after}}
 
 abbrev pub in_front : {A : Type 0} → A → List A × List Word → Read (List A)
 in_front x y = Ok (x ∷ y.0, y.1)
@@ -58,12 +58,12 @@ module _ {A : Type 0} (f : Form A) (p : Lawful f) (some : empties f ≡ false) (
     by (w ∷ a) s = s
 
   -- an item in front of others
-  behind_item : (x : A) (a rest : List Word) (r : Read (List A)) → Spells f x a → Clear (follow f) rest → any_by (reads f) rest ≡ r → any_by (reads f) (a ++ rest) ≡ (r >>= in_front x)
-  behind_item x a rest r h c e = one_more A (reads f) fewer (a ++ rest) x rest (p.again x a rest h c) ∙ ap (λ (y : Read (List A)). y >>= in_front x) e
+  after_item : (x : A) (a rest : List Word) (r : Read (List A)) → Spells f x a → Clear (follow f) rest → any_by (reads f) rest ≡ r → any_by (reads f) (a ++ rest) ≡ (r >>= in_front x)
+  after_item x a rest r h c e = one_more A (reads f) fewer (a ++ rest) x rest (p.again x a rest h c) ∙ ap (λ (y : Read (List A)). y >>= in_front x) e
 
   items_again : (xs : List A) (ws : List Word) → Items xs ws → any_by (reads f) ws ≡ Ok (xs, [])
   items_again [] ws h = rw h refl
-  items_again (x ∷ xs) ws (a, c, h, k, e) = rw e (behind_item x a c (Ok (xs, [])) h (by c (item_heads xs c k)) (items_again xs c k)) where
+  items_again (x ∷ xs) ws (a, c, h, k, e) = rw e (after_item x a c (Ok (xs, [])) h (by c (item_heads xs c k)) (items_again xs c k)) where
     by : (ws : List Word) → Heads true (begins f) ws → Clear (follow f) ws
     by [] h = tt
     by (w ∷ ws) h = clears (follow f) (begins f) w ws decided h
@@ -71,7 +71,7 @@ module _ {A : Type 0} (f : Form A) (p : Lawful f) (some : empties f ≡ false) (
   items_faulty : (xs : List A) (a c : List Word) (w : Word) (k : Kind) (tail : List Word) → Items xs a → Faults f c w k → any_by (reads f) (a ++ (c ++ w ∷ tail)) ≡ Err (k, w ∷ tail)
   items_faulty [] a c w k tail h g = rw h (one_failed A (reads f) fewer (c ++ w ∷ tail) (k, w ∷ tail) (omega (arith, length-append c (w ∷ tail))) (p.faulty c w k tail g))
   items_faulty (x ∷ xs) a c w k tail (a1, a2, h, i, e) g =
-      rw (e, append_assoc a1 a2 (c ++ w ∷ tail)) (behind_item x a1 (a2 ++ (c ++ w ∷ tail)) (Err (k, w ∷ tail)) h (by a2 (item_heads xs a2 i)) (items_faulty xs a2 c w k tail i g)) where
+      rw (e, append_assoc a1 a2 (c ++ w ∷ tail)) (after_item x a1 (a2 ++ (c ++ w ∷ tail)) (Err (k, w ∷ tail)) h (by a2 (item_heads xs a2 i)) (items_faulty xs a2 c w k tail i g)) where
         by : (m : List Word) → Heads true (begins f) m → Clear (follow f) (m ++ (c ++ w ∷ tail))
         by [] s = clears_heads (follow f) (begins f) c w tail [] decided (p.fault_heads c w k g)
         by (u ∷ m) s = clears (follow f) (begins f) u (m ++ (c ++ w ∷ tail)) decided s
@@ -101,12 +101,12 @@ module _ {A : Type 0} (f : Form A) (p : Lawful f) (some : empties f ≡ false) (
   list_stops n [] k rest le e = absurd (not_both (at_most n (reads f) []) ([], []) (k, rest) (none_left A (reads f) n) e)
   list_stops zero (w ∷ ws) k rest le e = absurd (omega (arith, le))
   list_stops (suc n) (w ∷ ws) k rest le e = elim (bind_err (reads f (w ∷ ws)) (others A (reads f) n) (k, rest) e) [
-    | inl h ↦ stopped_behind [] (w ∷ ws) (w ∷ ws) (p.stops (w ∷ ws) k rest h) refl (λ front s. (s.0 ∷ [], s.1, (front ++ s.1, [], s.2, refl, sym (append-nil (front ++ s.1))))) (λ front v g. ([], [], front, refl, g, refl))
+    | inl h ↦ stopped_after [] (w ∷ ws) (w ∷ ws) (p.stops (w ∷ ws) k rest h) refl (λ front s. (s.0 ∷ [], s.1, (front ++ s.1, [], s.2, refl, sym (append-nil (front ++ s.1))))) (λ front v g. ([], [], front, refl, g, refl))
     | inr (x, h, g) ↦
         let first = p.takes (w ∷ ws) x.0 x.1 h in
         let lt = fewer (w ∷ ws) x.0 x.1 h in
         let further = list_stops n x.1 k rest (omega (arith, lt, le)) (seen_err (λ (xs : List A). x.0 ∷ xs) (at_most n (reads f) x.1) (k, rest) g) in
-        stopped_behind first.0 x.1 (w ∷ ws) further first.2
+        stopped_after first.0 x.1 (w ∷ ws) further first.2
         (λ front s. (x.0 ∷ s.0, s.1, (first.0, front ++ s.1, first.1, s.2, append_assoc first.0 front s.1)))
         (λ front v i. (x.0 ∷ i.0, first.0 ++ i.1, i.2, (first.0, i.1, first.1, i.3, refl), i.4, ap (λ (m : List Word). first.0 ++ m) i.5 ∙ sym (append_assoc first.0 i.1 i.2)))
   ]

@@ -2,7 +2,7 @@
 use Rattle.std.proofs.Common.{◌≡◌, Bool, true, false, List, [], ◌∷◌, ◌++◌, Result, Ok, Err, ◌⊎◌, inl, inr, refl, sym, ap, subst, ◌∙◌, append_assoc}
 use Rattle.std.specs.Prelude.{◌&&◌, ◌||◌}
 use Rattle.pf_form.specs.declared.form.fault.Kind.{Kind}
-use Rattle.pf_form.specs.{Form.Words.Word, Form.Forms.{Form, making, Grammar, Read, Reader, reads, ◌>>=◌, Follow, plus, where_empty, may_follow}, Laws.Form.Decided.{Clear, Heads, clear_both, clears, clears_heads, or_left, or_right, and_join, bind_ok, bind_err, leaves, leaves_is, seen_ahead, seen_ok, seen_err, Faulting, Stopped, Laws, Lawful, splits, stopped_behind}}
+use Rattle.pf_form.specs.{Form.Words.Word, Form.Forms.{Form, making, Grammar, Read, Reader, reads, ◌>>=◌, Follow, plus, where_empty, may_follow}, Laws.Form.Decided.{Clear, Heads, clear_both, clears, clears_heads, or_left, or_right, and_join, bind_ok, bind_err, leaves, leaves_is, seen_ahead, seen_ok, seen_err, Faulting, Stopped, Laws, Lawful, splits, stopped_after}}
 
 module _ (A B : Type 0) (spells : Grammar A) (spells' : A → Grammar B) (faults : Faulting) (faults' : A → Faulting) (e e' : Bool) (b b' : Word → Bool) (f f' : Follow) (read : Reader A) (read' : A → Reader B)
     (p : Laws A spells faults e b f read) (q : (x : A) → Laws B (spells' x) (faults' x) e' b' f' (read' x)) (decided : may_follow f b' ≡ true) where
@@ -50,8 +50,8 @@ module _ (A B : Type 0) (spells : Grammar A) (spells' : A → Grammar B) (faults
 
   both_again : (z : A × B) (part rest : List Word) → Both z part → Clear fol rest → read_both (part ++ rest) ≡ Ok (z, rest)
   both_again z part rest (a, c, h, k, is) d =
-      let behind = clear_both f' (where_empty e' f) rest d in
-      rw (is, append_assoc a c rest, p.again z.0 a (c ++ rest) h (lift c ((q z.0).heads z.1 c k) behind.1), (q z.0).again z.1 c rest k behind.0) refl where
+      let following = clear_both f' (where_empty e' f) rest d in
+      rw (is, append_assoc a c rest, p.again z.0 a (c ++ rest) h (lift c ((q z.0).heads z.1 c k) following.1), (q z.0).again z.1 c rest k following.0) refl where
         lift : (c : List Word) → Heads e' b' c → Clear (where_empty e' f) rest → Clear f (c ++ rest)
         lift [] h k = rw h at k
         lift (w ∷ c) h k = clears f b' w (c ++ rest) decided h
@@ -64,11 +64,11 @@ module _ (A B : Type 0) (spells : Grammar A) (spells' : A → Grammar B) (faults
   both_stops : (ws : List Word) (k : Kind) (rest : List Word) → read_both ws ≡ Err (k, rest) → Stopped (A × B) Both BothFaults ws k rest
   both_stops ws k rest e = elim (bind_err (read ws) with_next (k, rest) e) [
     | inl h ↦
-        stopped_behind [] ws ws (p.stops ws k rest h) refl (λ front s. ((s.0, (q s.0).some.0), s.1 ++ (q s.0).some.1, (front ++ s.1, (q s.0).some.1, s.2, (q s.0).some.2, sym (append_assoc front s.1 (q s.0).some.1)))) (λ front v g. inl g)
+        stopped_after [] ws ws (p.stops ws k rest h) refl (λ front s. ((s.0, (q s.0).some.0), s.1 ++ (q s.0).some.1, (front ++ s.1, (q s.0).some.1, s.2, (q s.0).some.2, sym (append_assoc front s.1 (q s.0).some.1)))) (λ front v g. inl g)
     | inr (x, h, g) ↦
         let first = p.takes ws x.0 x.1 h in
         let second = (q x.0).stops x.1 k rest (seen_err (λ (y : B). (x.0, y)) (read' x.0 x.1) (k, rest) g) in
-        stopped_behind first.0 x.1 ws second first.2 (λ front s. ((x.0, s.0), s.1, (first.0, front ++ s.1, first.1, s.2, append_assoc first.0 front s.1))) (λ front v i. inr (x.0, first.0, front, first.1, i, refl))
+        stopped_after first.0 x.1 ws second first.2 (λ front s. ((x.0, s.0), s.1, (first.0, front ++ s.1, first.1, s.2, append_assoc first.0 front s.1))) (λ front v i. inr (x.0, first.0, front, first.1, i, refl))
   ]
 
   both_ahead : (o : Result (A × B) Kind) (part left : List Word) (v : Word) (r s : List Word) → read_both (part ++ v ∷ r) ≡ leaves o (left ++ v ∷ r) → read_both (part ++ v ∷ s) ≡ leaves o (left ++ v ∷ s)
@@ -106,6 +106,6 @@ made_laws {A = A} make f p = record {
   takes = λ ws y rest e. let x = seen_ok make (reads f ws) y rest e in let t = p.takes ws x.0 rest x.1 in (t.0, (x.0, t.1, sym x.2), t.2);
   again = λ y part rest h c. rw (h.2, p.again h.0 part rest h.1 c) refl;
   faulty = λ front w k tail h. rw (p.faulty front w k tail h) refl;
-  stops = λ ws k rest e. stopped_behind [] ws ws (p.stops ws k rest (seen_err make (reads f ws) (k, rest) e)) refl (λ front s. (make s.0, s.1, (s.0, s.2, refl))) (λ front v g. g);
+  stops = λ ws k rest e. stopped_after [] ws ws (p.stops ws k rest (seen_err make (reads f ws) (k, rest) e)) refl (λ front s. (make s.0, s.1, (s.0, s.2, refl))) (λ front v g. g);
   ahead = λ o part left v r s e. seen_ahead make (reads f (part ++ v ∷ r)) o (left ++ v ∷ r) (left ++ v ∷ s) (reads (making make f) (part ++ v ∷ s)) e (λ t g. rw (p.ahead t part left v r s g) refl);
 }

@@ -2,7 +2,7 @@
 use Rattle.std.proofs.Common.{◌≡◌, Bool, true, false, List, [], ◌∷◌, Result, Ok, Err, sym, ap, subst, ◌∙◌}
 use Rattle.std.specs.{Prelude.if◌then◌else◌, Str.bytes_eq}
 use denote.Ref.{Bor}
-use Rattle.pf_form.specs.declared.form.fault.Stop.{Stop}
+use Rattle.pf_form.specs.declared.form.fault.WordFault.{WordFault}
 use Rattle.pf_form.specs.{Form.Words.{Word, texts}, Form.Forms.{Form, or, Read, reads}, Form.Readers.{Fails, Moves, if_there}, Laws.Form.Decided.ok_is}
 
 module _ {A : Type 0} (k : Word) (f g : Form A) where
@@ -20,14 +20,14 @@ module _ {A : Type 0} (k : Word) (f g : Form A) where
     by true e = let no : true ≡ false = (ok_is true false ws vs e).0 in absurd cc
     by false e = ap (reads g) (ok_is false false (w ∷ ws) vs e).1
 
-  moves_so : (h : Form A) (r : Result A Stop) (ws vs rest : List (Bor Word)) → reads (or k f g) (texts ws) ≡ reads h (texts vs) → Moves h r vs rest → Moves (or k f g) r ws rest
+  moves_so : (h : Form A) (r : Result A WordFault) (ws vs rest : List (Bor Word)) → reads (or k f g) (texts ws) ≡ reads h (texts vs) → Moves h r vs rest → Moves (or k f g) r ws rest
   moves_so h (Ok x) ws vs rest e m = e ∙ m
   moves_so h (Err s) ws vs rest e m = subst (λ (q : Read A). Fails s q) (sym e) m
 
   -- the word stands there
-  pub taken : (r : Result A Stop) (there : Bool) (ws vs rest : List (Bor Word)) → reads (if_there k) (texts ws) ≡ Ok (there, texts vs) → there ≡ true → Moves f r vs rest → Moves (or k f g) r ws rest
+  pub taken : (r : Result A WordFault) (there : Bool) (ws vs rest : List (Bor Word)) → reads (if_there k) (texts ws) ≡ Ok (there, texts vs) → there ≡ true → Moves f r vs rest → Moves (or k f g) r ws rest
   taken r there ws vs rest e is m = moves_so f r ws vs rest (reads_taken (texts ws) (texts vs) (rw is at e)) m
 
   -- another word stands there, or none
-  pub passed : (r : Result A Stop) (there : Bool) (ws vs rest : List (Bor Word)) → reads (if_there k) (texts ws) ≡ Ok (there, texts vs) → there ≡ false → Moves g r vs rest → Moves (or k f g) r ws rest
+  pub passed : (r : Result A WordFault) (there : Bool) (ws vs rest : List (Bor Word)) → reads (if_there k) (texts ws) ≡ Ok (there, texts vs) → there ≡ false → Moves g r vs rest → Moves (or k f g) r ws rest
   passed r there ws vs rest e is m = moves_so g r ws vs rest (reads_passed (texts ws) (texts vs) (rw is at e)) m

@@ -2,7 +2,7 @@
 use Rattle.std.proofs.{Common.{◌≡◌, ◌≢◌, Bool, true, false, List, [], ◌∷◌, ◌++◌, length, Result, Ok, Err, ◌⊎◌, inl, inr, refl, sym, ap, ◌∙◌, arith}, lemmas.List.length-append}
 use Rattle.std.specs.Str.{bytes_eq}
 use Rattle.pf_form.specs.declared.{form.fault.Kind.Kind, form.fault.Kind.TheVariants.{BadWord, NameTooLong, BadProto}}
-use Rattle.pf_form.specs.{Form.Words.Word, Form.Forms.{Form, nothing, word, key, or, Test, Spells, Faults, reads, empties, begins, knows, follow, tested, but, plus, where_empty}, Laws.Form.Decided.{Clear, Heads, clear_both, differs, or_left, or_right, word_is, word_same, leaves, leaves_is, ok_is, still, Stopped, Lawful, heads_more, splits, misplaced_here, stopped_behind}}
+use Rattle.pf_form.specs.{Form.Words.Word, Form.Forms.{Form, nothing, word, key, or, Test, Spells, Faults, reads, empties, begins, knows, follow, tested, but, plus, where_empty}, Laws.Form.Decided.{Clear, Heads, clear_both, differs, or_left, or_right, word_is, word_same, leaves, leaves_is, ok_is, still, Stopped, Lawful, heads_more, splits, misplaced_here, stopped_after}}
 
 -- ---- no word
 
@@ -93,7 +93,7 @@ module _ {A : Type 0} (k : Word) (f : Form A) (p : Lawful f) where
   key_stops [] kind rest e = misplaced_here (Spells (key k f)) (Faults (key k f)) [] kind rest key_some e
   key_stops (w ∷ ws) kind rest e = by (bytes_eq w k) refl where
     by : (b : Bool) → bytes_eq w k ≡ b → Stopped A (Spells (key k f)) (Faults (key k f)) (w ∷ ws) kind rest
-    by true t = stopped_behind (k ∷ []) ws (w ∷ ws) (p.stops ws kind rest (rw t at e)) (ap (λ (u : Word). u ∷ ws) (word_is w k t)) (λ front b. (b.0, b.1, (front ++ b.1, b.2, refl))) (λ front v g. (front, g, refl))
+    by true t = stopped_after (k ∷ []) ws (w ∷ ws) (p.stops ws kind rest (rw t at e)) (ap (λ (u : Word). u ∷ ws) (word_is w k t)) (λ front b. (b.0, b.1, (front ++ b.1, b.2, refl))) (λ front v g. (front, g, refl))
     by false t = misplaced_here (Spells (key k f)) (Faults (key k f)) (w ∷ ws) kind rest key_some (rw t at e)
 
   key_ahead : (o : Result A Kind) (part left : List Word) (v : Word) (r s : List Word) → reads (key k f) (part ++ v ∷ r) ≡ leaves o (left ++ v ∷ r) → reads (key k f) (part ++ v ∷ s) ≡ leaves o (left ++ v ∷ s)
@@ -161,10 +161,10 @@ module _ {A : Type 0} (k : Word) (f g : Form A) (p : Lawful (key k f)) (q : Lawf
     by (u ∷ front) h s = at_other u (front ++ w ∷ tail) s ∙ q.faulty (u ∷ front) w kind tail h
 
   as_here : (ws : List Word) (kind : Kind) (rest : List Word) → Stopped A (Spells (key k f)) (Faults (key k f)) ws kind rest → Stopped A (Spells (or k f g)) (Faults (or k f g)) ws kind rest
-  as_here ws kind rest s = stopped_behind [] ws ws s refl (λ front b. (b.0, b.1, inl b.2)) (λ front v h. inl h)
+  as_here ws kind rest s = stopped_after [] ws ws s refl (λ front b. (b.0, b.1, inl b.2)) (λ front v h. inl h)
 
   as_there : (ws : List Word) (kind : Kind) (rest : List Word) → Stopped A (Spells g) (Faults g) ws kind rest → Stopped A (Spells (or k f g)) (Faults (or k f g)) ws kind rest
-  as_there ws kind rest s = stopped_behind [] ws ws s refl (λ front b. (b.0, b.1, inr b.2)) (λ front v h. inr h)
+  as_there ws kind rest s = stopped_after [] ws ws s refl (λ front b. (b.0, b.1, inr b.2)) (λ front v h. inr h)
 
   or_stops : (ws : List Word) (kind : Kind) (rest : List Word) → reads (or k f g) ws ≡ Err (kind, rest) → Stopped A (Spells (or k f g)) (Faults (or k f g)) ws kind rest
   or_stops [] kind rest e = as_there [] kind rest (q.stops [] kind rest e)

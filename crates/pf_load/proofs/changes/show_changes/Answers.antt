@@ -32,6 +32,6 @@ pub returns : goal.returns
 returns g c =
     let rules = flat_map rules_question c.args.conf.now.rulesets in
     let tables = flat_map tables_question (table_paths c.args.conf.now.tables) in
-    sent_whole c.told.result (g.W.Write.contents c.args.server.now) (g.W.Write.contents c.show_paths.new.server) (questions c.args.conf.now)
+    sent_whole c.output_checked.result (g.W.Write.contents c.args.server.now) (g.W.Write.contents c.show_paths.new.server) (questions c.args.conf.now)
     (Appends-then (g.W.Write.contents c.args.server.now) (g.W.Write.contents c.show_rulesets.new.server) (g.W.Write.contents c.show_paths.new.server) rules tables (rw c.as_slice.ensures at c.in_ok-show_rulesets.ensures)
     (rw (c.deref.ensures.value, c.in_ok-paths.ensures, c.as_slice-tables.ensures) at c.in_ok-show_paths.ensures))

@@ -35,6 +35,6 @@ end_text e = spaced (host_words e.0) ++ spaced (port_words e.1)
 pub ends_in_order : (source destination : End) → spaced (from_to_words source destination) ≡ codes " from" ++ (end_text source ++ (codes " to" ++ end_text destination))
 ends_in_order source destination =
     let each : (e : End) → spaced (end_words e) ≡ end_text e = λ e. spaced-append (host_words e.0) (port_words e.1) in
-    let behind : spaced (codes "to" ∷ end_words destination) ≡ codes " to" ++ end_text destination = spaced-append (codes "to" ∷ []) (end_words destination) ∙ ap (λ (t : List ℕ). codes " to" ++ t) (each destination) in
+    let following : spaced (codes "to" ∷ end_words destination) ≡ codes " to" ++ end_text destination = spaced-append (codes "to" ∷ []) (end_words destination) ∙ ap (λ (t : List ℕ). codes " to" ++ t) (each destination) in
     spaced-append (codes "from" ∷ []) (end_words source ++ codes "to" ∷ end_words destination)
-    ∙ ap (λ (t : List ℕ). codes " from" ++ t) (spaced-append (end_words source) (codes "to" ∷ end_words destination) ∙ rw (each source, behind) refl)
+    ∙ ap (λ (t : List ℕ). codes " from" ++ t) (spaced-append (end_words source) (codes "to" ∷ end_words destination) ∙ rw (each source, following) refl)

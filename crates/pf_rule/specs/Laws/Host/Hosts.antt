@@ -1,20 +1,20 @@
 -- A host's word is read exactly where it spells a host, and the words written for a host spell it.
 use Rattle.std.proofs.{Common.{◌≡◌, ℕ, ◌==◌, Bool, true, false, [], ◌∷◌, ◌++◌, length, drop, Option, Some, None, Result, Ok, Err, inl, inr, refl, sym, ap, ◌∙◌, subst, arith}, lemmas.Bool.lt-ltb, lemmas.List.Elements.All-head, lemmas.List.Folds.list_all-append, lemmas.List.Sums.list_all-from_AllPass}
 use Rattle.std.specs.{Prelude.{codes, nat_lt, if◌then◌else◌}, List.slice_index_or, Option.option_and_then}
-use Rattle.pf_addr.specs.{Address.{PlainNet, IsNetwork}, Grammar.SpellsNet, Reading.net_at, Laws.{Reading.{net_found, net_only, net_without}, Places.without, Spelling.{IsNetByte, net_text_spells, net_text_is_word}}, Spelling.net_text, Path.{Names.{IsTableName, table_name_of}, References.{behind, before}}}
+use Rattle.pf_addr.specs.{Address.{PlainNet, IsNetwork}, Grammar.SpellsNet, Reading.net_at, Laws.{Reading.{net_found, net_only, net_without}, Places.without, Spelling.{IsNetByte, net_text_spells, net_text_is_word}}, Spelling.net_text, Path.{Names.{IsTableName, table_name_of}, References.{rest_after, before}}}
 use Rattle.pf_form.specs.{Form.Words.Word, Laws.Form.Decided.bind_ok}
 use Rattle.pf_addr.specs.declared.{fault.AddrFault.AddrFault, path.limits.TheConstants.TABLE_NAME_LIMIT}
-use Rattle.pf_addr.proofs.{NamesRead.{name_found, name_only, name_bytes}, ReferencesRead.{behind_is, before_is, before_end}}
+use Rattle.pf_addr.proofs.{NamesRead.{name_found, name_only, name_bytes}, ReferencesRead.{rest_after_is, before_is, before_end}}
 use Rattle.pf_rule.specs.{Value.Values.{begins_with, as_word}, Laws.Value.Reading.front_is, Value.Spacing.is_word, Value.Written.Written, Host.Hosts.{in_brackets, is_negated, SpellsUnmarked, SpellsMarked, SpellsHost, bracketed, net_of, marked_by, marked, a_negated_host, host_of, a_host, IsHost, host, host_words}}
 use Rattle.pf_rule.specs.declared.{host.host.Host.Host, host.host.Host.TheVariants.{Any, Net, Table}}
 
 -- ---- a table in its brackets
 
 between_is : (w name : Word) → bracketed w ≡ Some name → w ≡ in_brackets name
-between_is w name e = by (behind (codes "<") w) refl e where
-  by : (o : Option Word) → behind (codes "<") w ≡ o → option_and_then (before (codes ">")) o ≡ Some name → w ≡ in_brackets name
+between_is w name e = by (rest_after (codes "<") w) refl e where
+  by : (o : Option Word) → rest_after (codes "<") w ≡ o → option_and_then (before (codes ">")) o ≡ Some name → w ≡ in_brackets name
   by None front e = absurd cc
-  by (Some rest) front e = behind_is (codes "<") w rest front ∙ ap (λ (t : Word). codes "<" ++ t) (before_is (codes ">") rest name e)
+  by (Some rest) front e = rest_after_is (codes "<") w rest front ∙ ap (λ (t : Word). codes "<" ++ t) (before_is (codes ">") rest name e)
 
 brackets_taken : (name : Word) → bracketed (in_brackets name) ≡ Some name
 brackets_taken name = before_end name (codes ">")

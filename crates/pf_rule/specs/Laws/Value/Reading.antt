@@ -82,13 +82,13 @@ no_colon w n is = All-from_get_or (λ b. (b == 58) ≡ false) w 0 (λ i le. let 
 
 -- ---- two numbers
 
-behind : (xs ys : List ℕ) → drop (length xs + 1) (xs ++ 58 ∷ ys) ≡ ys
-behind xs ys =
+after_colon : (xs ys : List ℕ) → drop (length xs + 1) (xs ++ 58 ∷ ys) ≡ ys
+after_colon xs ys =
     let joined : xs ++ 58 ∷ ys ≡ (xs ++ 58 ∷ []) ++ ys = sym (append_assoc xs (58 ∷ []) ys) in
     ap (drop (length xs + 1)) joined ∙ drop_at (xs ++ 58 ∷ []) ys (length xs + 1) (length-append xs (58 ∷ []))
 
 range_read : (c d : Word) (a b : ℕ) → IsPort c a → IsPort d b → start_of (c ++ 58 ∷ d) ≡ Ok (Test (Ranged Including a b))
-range_read c d a b p q = rw (place_after 58 c d (no_colon c a p), take_at c (58 ∷ d) (length c) refl, behind c d, port_read c a p, port_read d b q) refl
+range_read c d a b p q = rw (place_after 58 c d (no_colon c a p), take_at c (58 ∷ d) (length c) refl, after_colon c d, port_read c a p, port_read d b q) refl
 
 range_found : (w : Word) (i : ℕ) (s : PortStart) → position is_colon w ≡ Some i → range_of (take i w) (drop (i + 1) w) ≡ Ok s → SpellsStart w s
 range_found w i s p e =

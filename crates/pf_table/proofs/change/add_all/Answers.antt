@@ -36,8 +36,8 @@ loop-at-preserved c =
       is_first = c.first_sign-first.ensures ∙ ap (λ n. first_sign (sign_of n c.args.table.now) (sign_of n c.loop-at.noted) there) c.net-in-loop-at.ensures.value;
     } in
     let none : is_sign (not x.1) first ≡ false = sym (c.is_sign.ensures ∙ ap (λ s. is_sign (not s) first) c.is_negated.ensures) ∙ c.if-is_sign.false in
-    let told = c.addition.ensures ∙ ap (addition there) c.is_negated-in-loop-at.ensures in
-    let answers = c.push_reserved.ensures.items ∙ (λ i. c.reserve.ensures.items i ++ told i ∷ []) in
+    let reported = c.addition.ensures ∙ ap (addition there) c.is_negated-in-loop-at.ensures in
+    let answers = c.push_reserved.ensures.items ∙ (λ i. c.reserve.ensures.items i ++ reported i ∷ []) in
     rw (c.in_ok-after-2.ensures.value, c.in_ok-noted.ensures, answers) (adding_next c.args.table.now c.args.list.now c.loop-at.at c.loop-at.after
     c.loop-at.noted c.loop-at.answers.items x there first c.loop-at.invariant next c.in_ok-after-2.ensures.network none)
 
@@ -51,7 +51,7 @@ returns-clause-after c = (all_added c.args.table.now c.args.list.now c.loop-at.a
 
 pub returns-clause-answers : goal.returns-clause-answers
 returns-clause-answers c = (all_added c.args.table.now c.args.list.now c.loop-at.at c.loop-at.after c.loop-at.noted
-    c.loop-at.answers.items c.loop-at.invariant c.loop-at-test.false).told
+    c.loop-at.answers.items c.loop-at.invariant c.loop-at-test.false).reported
 
 pub returns-clause-networks : goal.returns-clause-networks
 returns-clause-networks c = (all_added c.args.table.now c.args.list.now c.loop-at.at c.loop-at.after c.loop-at.noted

@@ -5,7 +5,7 @@ use Rattle.pf_table.proofs.change.delete_all.Goals as goal
 
 pub loop-entry-init : goal.loop-entry-init
 unfolding deleted
-loop-entry-init c = record { so_far = refl; told = ap (λ l. l ++ deletions c.args.entries c.args.list.now) c.in_ok-answers.ensures.items }
+loop-entry-init c = record { so_far = refl; reported = ap (λ l. l ++ deletions c.args.entries c.args.list.now) c.in_ok-answers.ensures.items }
 
 pub loop-entry-preserved : goal.loop-entry-preserved
 loop-entry-preserved c =
@@ -18,11 +18,11 @@ loop-entry-preserved c =
     record {
       so_far = c.in_ok-after.ensures ∙ ap (λ l. without_entry l x) so_far
           ∙ one_less c.args.entries c.args.list.now c.loop-entry.entry-index x c.loop-entry-test.true c.entry-item.is;
-      told = rw (c.in_ok-push.ensures.items, answer) (dels_next c.loop-entry.answers.items c.args.entries c.loop-entry.after
-          c.args.list.now c.loop-entry.entry-index x so_far c.loop-entry-test.true c.entry-item.is) ∙ c.loop-entry.invariant.told;
+      reported = rw (c.in_ok-push.ensures.items, answer) (dels_next c.loop-entry.answers.items c.args.entries c.loop-entry.after
+          c.args.list.now c.loop-entry.entry-index x so_far c.loop-entry-test.true c.entry-item.is) ∙ c.loop-entry.invariant.reported;
     }
 
 pub returns-clause-answers : goal.returns-clause-answers
 returns-clause-answers c =
     dels_end c.loop-entry.answers.items c.args.entries c.args.list.now c.loop-entry.entry-index c.loop-entry-test.false
-    ∙ c.loop-entry.invariant.told
+    ∙ c.loop-entry.invariant.reported

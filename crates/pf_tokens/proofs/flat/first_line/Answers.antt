@@ -9,4 +9,4 @@ returns-then-is_newline-clause-line c =
     let end = c.loop-end.end in
     let newline = c.index-tokens-end.result in
     first_line_is tokens end newline c.loop-end-test.true c.index-tokens-end.is c.loop-end.invariant (sym c.is_newline.ensures ∙ c.if-is_newline.true)
-    ∙ ap (λ (behind : List Token). (take end tokens, newline) ∷ lines behind) (sym (take_rest tokens (end + 1)))
+    ∙ ap (λ (following : List Token). (take end tokens, newline) ∷ lines following) (sym (take_rest tokens (end + 1)))

@@ -3,7 +3,7 @@ use Rattle.std.proofs.lemmas.List.{take_all}
 use Rattle.std.specs.List.{AllWithin}
 use Rattle.pf_trie.specs.declared.rows.Row.{Row}
 use Rattle.pf_trie.specs.Rows.{cut_row}
-use Rattle.pf_trie.proofs.{ForkSlots.slot_first, RowLists.{begins_so, one_kept}, RowsWithin.{none_before_front, none_behind_front}}
+use Rattle.pf_trie.proofs.{ForkSlots.slot_first, RowLists.{begins_so, one_kept}, RowsWithin.{none_before_front, none_after_front}}
 use Rattle.pf_trie.proofs.in_order.rows_within.Goals as goal
 
 pub loop-place-init : goal.loop-place-init
@@ -21,10 +21,10 @@ pub returns-then-row-at : goal.returns-then-row-at
 returns-then-row-at c = λ order.
     let rows = c.args.rows.now in
     c.loop-place.invariant order ∙ ap (λ (xs : List Row). map (cut_row c.args.at) xs)
-    (none_behind_front c.args.at c.args.front c.before-from.result c.loop-place.place rows c.at-row.result (omega arith) (omega arith)
+    (none_after_front c.args.at c.args.front c.before-from.result c.loop-place.place rows c.at-row.result (omega arith) (omega arith)
     (c.at-row.ensures c.at-row.result) c.if-row-at.true
     (subst (λ (n : ℕ). AllWithin (λ r. n ≤ r.first) rows c.before-from.result (length rows))
-    (slot_first c.args.front c.args.at c.requires.at c.requires.front) (c.before-from.ensures.behind order)) order)
+    (slot_first c.args.front c.args.at c.requires.at c.requires.front) (c.before-from.ensures.beyond order)) order)
 
 pub returns : goal.returns
 returns c = λ order.

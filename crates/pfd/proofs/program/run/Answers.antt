@@ -2,14 +2,14 @@ use Rattle.std.proofs.Common.{ℕ, [], ◌∷◌, inl, inr, lit<, refl, subst}
 use Rattle.pf_core.specs.{Durable.Changes.kept_nothing, WorldBooks.StandsFor, Worlds.opened}
 use Rattle.pf_store.specs.Rooms.{on_device}
 use Rattle.pf_book.specs.Books.{world_book}
-use Rattle.pfd_files.specs.Faults.{told_of_opening}
+use Rattle.pfd_files.specs.Faults.{fault_of_opening}
 use Rattle.pfd.proofs.Begun.{unshown-hinders}
 use Rattle.pfd.proofs.program.run.Goals as goal
 
 pub returns : goal.returns
 returns g c =
     let size_is = c.in_ok-opening.ensures.size in
-    elim c.serve_opening.ensures [
+    elim c.run_alone.ensures [
       | inl (session, is_end, began) ↦ inl (
         session,
         is_end,
@@ -22,5 +22,5 @@ returns g c =
           session = began.session;
         },
       )
-      | inr (fault, unshown, is_end, unread_still, held_still) ↦ inr (told_of_opening fault, is_end, unshown-hinders c.args.size fault size_is unshown, unread_still, held_still)
+      | inr (fault, unshown, is_end, unread_still, held_still) ↦ inr (fault_of_opening fault, is_end, unshown-hinders c.args.size fault size_is unshown, unread_still, held_still)
     ]

@@ -1,5 +1,5 @@
 use Rattle.std.proofs.Common.{Some}
-use Rattle.pf_addr.specs.Writing.{Continues-then, behind_nothing}
+use Rattle.pf_addr.specs.Writing.{Continues-then, after_nothing}
 use Rattle.pf_form.specs.Form.Words.{texts}
 use Rattle.pfd_conf.specs.Junit.{name_text}
 use Rattle.pfd_conf.proofs.Texts.{all_at_ok}
@@ -8,7 +8,7 @@ use Rattle.pfd_conf.proofs.junit.name_of.Goals as goal
 pub returns : goal.returns
 returns c =
     let w =
-    behind_nothing tt
+    after_nothing tt
     (Continues-then (Continues-then (Continues-then c.write_more-so_far.ensures c.write_more_number-so_far.ensures)
     c.write_more-so_far-2.ensures) c.write_spaced.ensures) in
     rw c.new-name.ensures.items at

@@ -14,4 +14,4 @@ returns-in-Ok-Some-clause-refused c =
 
 pub returns-in-Err-clause-refused : goal.returns-in-Err-clause-refused
 returns-in-Err-clause-refused c =
-    refused_comes c.args.core.now c.args.line.now c.parse_line.result c.in-Err.refusal c.told.result (cc) c.parse_line.ensures.exact c.told.ensures.memory c.told.ensures.refused
+    refused_comes c.args.core.now c.args.line.now c.parse_line.result c.in-Err.refusal c.line_refusal.result (cc) c.parse_line.ensures.exact c.line_refusal.ensures.memory c.line_refusal.ensures.refused

@@ -1,86 +1,61 @@
-use Rattle.std.proofs.Common.{◌≡◌, ◌+◌, ◌<◌, ◌∙◌, ℕ, Bool, false, cond, [], length, map, Ok, Err, refl, sym, ap, subst, arith}
-use Rattle.std.specs.{Arc.arc_value, Prelude.nat_lt}
-use Rattle.pf_core.specs.declared.reply.{Refusal.Refusal}
-use Rattle.pf_core.specs.{WorldBooks.{IsAt}, Worlds.{CurrentOpening, flat, grouping, changes_due, replies_due, is_fault}}
-use Rattle.pf_store.proofs.Saving.{on_ok}
-use Rattle.pf_book.specs.{Books.{world_book, is_fault_result, replied}, Courses.IsCalm}
-use Rattle.pf_book.proofs.{Calling.{not-more, fault-flag}, Coursing.{none-ready, ready-some}, Grouping.{IsBegun, all-made-opening, calm, calm-group, told-leads, told-unchanged, told-uses, all-made-stay, replied-fault, still-by}, OpenedBooks.{folded-of, rests-of, left-in}, Openable.uses-told}
+use Rattle.std.proofs.Common.{◌≡◌, ◌∙◌, Bool, true, false, Result, List, Ok, Err, length, map, take, drop, Some, ℕ, ◌++◌, sym, ap, subst, append-nil, arith}
+use Rattle.std.proofs.lemmas.List.{length-map, drop_all, take_all}
+use Rattle.std.specs.{Arc.arc_value}
+use Rattle.pf_core.specs.{declared.reply.{Refusal.Refusal, Reply.Reply}, Worlds.{as_stored, grouping}}
+use Rattle.pf_book.specs.{Books.{reported_after, UsesDevice, IsLeft, world_book}, Courses.{IsPlanned, KeepsTogether}, Groups.IsGroupCall}
+use Rattle.pf_book.proofs.{Grouping.{changes-are, made-call, nothing-due, ready, unchanged-call}, OpenedBooks.{rests-of, left-in}}
 use Rattle.pf_book.proofs.book.Book.finish.Given.{Over}
-use Rattle.pf_book.proofs.book.Book.finish.Goals.{After-make_all, After-self}
+use Rattle.pf_book.proofs.book.Book.finish.Goals.{After-make, After-self}
 use Rattle.pf_book.proofs.book.Book.finish.Goals as goal
 
--- the replies and the changes are those that are due
-module _ (g : Over) (c : After-self g) where
-  begun : IsBegun (world_book c.args.self.now) c.args.commands.now
-  begun = record { none = c.requires.none; words = c.requires.words }
+-- no call of the device was made before
+quiet : (g : Over) (c : After-self g) → UsesDevice g.D.Disk false c.args.self.now c.args.self.now (IsLeft (world_book c.args.self.now) (grouping c.args.commands.now))
+quiet g c = rests-of g.D.Disk c.self.invariant c.self.view_is (g.met.D.Disk.only_now c.self.inside.store.disk) (left-in c.self.invariant c.self.view_is (grouping c.args.commands.now))
 
-  calmly : (h : CurrentOpening) → IsAt h (world_book c.args.self.now) → IsCalm h c.args.self.now.whole (length (flat c.args.self.now.acked))
-  calmly h at = calm h (world_book c.args.self.now) at (folded-of c.self.invariant c.self.view_is) c.requires.none
+-- nothing is to be kept
+pub returns-in_default-clause-call : goal.returns-in_default-clause-call
+returns-in_default-clause-call g c =
+    let plan = subst (λ next. IsPlanned (world_book c.args.self.now) c.args.commands.now c.args.course.replies.items c.args.course.changes.items next) c.in_default.is c.requires in
+    unchanged-call c.args.self.now c.args.commands.now _ _ plan (quiet g (goal.at.returns-in_default-clause-call g c).After-self)
 
-  told_is : (h : CurrentOpening) → IsAt h (world_book c.args.self.now) → c.args.course.replies.items ≡ replies_due h [] c.args.commands.now
-  told_is h at = c.requires.course.replies h (calmly h at)
+pub returns-in_default-clause-given : goal.returns-in_default-clause-given
+returns-in_default-clause-given g c h at =
+    let plan = subst (λ next. IsPlanned (world_book c.args.self.now) c.args.commands.now c.args.course.replies.items c.args.course.changes.items next) c.in_default.is c.requires in
+    ap (λ xs. map arc_value xs) c.new.ensures.items ∙ sym (nothing-due c.args.self.now c.args.commands.now _ _ plan (quiet g (goal.at.returns-in_default-clause-given g c).After-self)) ∙ changes-are plan h at
 
-  wants : (h : CurrentOpening) → IsAt h (world_book c.args.self.now) → c.args.course.changes.items ≡ changes_due h [] c.args.commands.now
-  wants h at = c.requires.course.changes h (calmly h at)
+module _ (g : Over) (c : After-make g) where
+  plan : IsPlanned (world_book c.args.self.now) c.args.commands.now c.args.course.replies.items c.args.course.changes.items (Some c.in-Some.next)
+  plan = subst (λ next. IsPlanned (world_book c.args.self.now) c.args.commands.now c.args.course.replies.items c.args.course.changes.items next) c.in-Some.is c.requires
 
--- they are kept and shown, or refused
-module _ (g : Over) (c : After-make_all g) where
-  some : 0 < length c.args.course.changes.items
-  some = ready-some c.args.self.now.whole.durable c.args.course.changes.items c.in-Some.next (sym c.in-Some.is ∙ c.requires.course.next)
+  made : (shown : Result Bool Refusal) → KeepsTogether g.D.Disk c.args.self.now c.make.new.self c.args.course.changes.items shown → IsGroupCall g.D.Disk c.args.self.now c.make.new.self c.args.commands.now (reported_after shown c.args.course.replies.items)
+  made = made-call c.args.self.now c.make.new.self c.args.commands.now c.args.course.replies.items c.args.course.changes.items plan
+      (rests-of g.D.Disk c.self.invariant c.self.view_is (g.met.D.Disk.only_now c.self.inside.store.disk) (left-in c.self.invariant c.self.view_is (grouping c.args.commands.now)))
 
-  still : (why : Refusal) → replied c.make_all.result ≡ Err why → is_fault why ≡ false → c.make_all.new.self.disk ≡ c.args.self.now.disk
-  still why is quiet = still-by c.make_all.result c.make_all.ensures.still why is quiet
+pub make-requires : goal.make-requires
+make-requires g c = ready (subst (λ next. IsPlanned (world_book c.args.self.now) c.args.commands.now c.args.course.replies.items c.args.course.changes.items next) c.in-Some.is c.requires)
 
-pub returns-in-Some-clause-leads : goal.returns-in-Some-clause-leads
-returns-in-Some-clause-leads g c h at =
-    let here = (goal.at.returns-in-Some-clause-leads g c).After-self in
-    let there = (goal.at.returns-in-Some-clause-leads g c).After-make_all in
-    let new = c.make_all.new.self in
-    let failed : Bool = is_fault_result (replied c.make_all.result) in
-    let faults : g.D.Disk.fault_count new.disk ≡ g.D.Disk.fault_count c.args.self.now.disk + cond failed 1 0 =
-    subst (λ (x : Bool). g.D.Disk.fault_count new.disk ≡ g.D.Disk.fault_count c.args.self.now.disk + cond x 1 0) (sym (replied-fault c.make_all.result)) c.make_all.ensures.device.run.faults in
-    told-leads h (world_book c.args.self.now) c.args.commands.now at (begun g here) _ _ (told_is g here h at) (wants g here h at) (replied c.make_all.result) (world_book new)
-    (nat_lt (g.D.Disk.fault_count c.args.self.now.disk) (g.D.Disk.fault_count new.disk)) (some g there) c.make_all.ensures.made (fault-flag (g.D.Disk.fault_count c.args.self.now.disk) (g.D.Disk.fault_count new.disk) failed faults)
+pub returns-then-shown-clause-call : goal.returns-then-shown-clause-call
+returns-then-shown-clause-call g c =
+    made g (goal.at.returns-then-shown-clause-call g c).After-make (Ok true) (subst (λ (x : Bool). KeepsTogether g.D.Disk c.args.self.now c.make.new.self c.args.course.changes.items (Ok x)) c.if-shown.true c.in-Ok.ensures.kept)
 
-pub returns-in-Some-clause-given : goal.returns-in-Some-clause-given
-returns-in-Some-clause-given g c = on_ok c.make_all.result _ _ (λ x is h at. is ∙ wants g (goal.at.returns-in-Some-clause-given g c).After-self h at) c.make_all.ensures.given
+pub returns-then-shown-clause-given : goal.returns-then-shown-clause-given
+returns-then-shown-clause-given g c h at = c.in-Ok.ensures.given ∙ changes-are (plan g (goal.at.returns-then-shown-clause-given g c).After-make) h at
 
-pub returns-in-Some-clause-device : goal.returns-in-Some-clause-device
-returns-in-Some-clause-device g c =
-    let here = (goal.at.returns-in-Some-clause-device g c).After-self in
-    let there = (goal.at.returns-in-Some-clause-device g c).After-make_all in
-    uses-told (sym (replied-fault c.make_all.result))
-    (told-uses c.args.self.now c.make_all.new.self c.args.commands.now (begun g here) (folded-of c.self.invariant c.self.view_is) c.args.course.changes.items (wants g here) _ (replied c.make_all.result) c.make_all.ensures.made (still g there)
-    (uses-told (replied-fault c.make_all.result) c.make_all.ensures.device)
-    (rests-of g.D.Disk c.self.invariant c.self.view_is (g.met.D.Disk.only_now c.self.inside.store.disk) (left-in c.self.invariant c.self.view_is (grouping c.args.commands.now))))
+pub returns-else-shown-clause-call : goal.returns-else-shown-clause-call
+returns-else-shown-clause-call g c =
+    let items : List Reply = c.args.course.replies.items in
+    let reported : List Reply = c.all_stored.new.replies in
+    let len : ℕ = c.args.course.replies.len in
+    let stored : reported ≡ map as_stored items = c.all_stored.ensures ∙ ap (map as_stored) c.deref_mut.ensures.value in
+    let long : length reported ≡ length items = ap length stored ∙ length-map items as_stored in
+    let whole : length items ≡ len = ap length (sym c.deref_mut.ensures.value) ∙ c.deref_mut.ensures.len in
+    let all : take len (reported ++ drop (length reported) items) ≡ map as_stored items =
+    ap (λ (l : List Reply). take len (reported ++ l)) (drop_all (length reported) items (omega (arith, long))) ∙ ap (take len) (append-nil reported) ∙ take_all len reported (omega (arith, long, whole)) ∙ stored in
+    subst (λ (rs : List Reply). IsGroupCall g.D.Disk c.args.self.now c.make.new.self c.args.commands.now (Ok rs)) (sym all)
+    (made g (goal.at.returns-else-shown-clause-call g c).After-make (Ok false) (subst (λ (x : Bool). KeepsTogether g.D.Disk c.args.self.now c.make.new.self c.args.course.changes.items (Ok x)) c.if-shown.false c.in-Ok.ensures.kept))
 
-pub returns-in-Some-clause-opening : goal.returns-in-Some-clause-opening
-returns-in-Some-clause-opening g c = all-made-opening c.args.self.now c.make_all.new.self (replied c.make_all.result) _ _ c.make_all.ensures.made
+pub returns-else-shown-clause-given : goal.returns-else-shown-clause-given
+returns-else-shown-clause-given g c h at = c.in-Ok.ensures.given ∙ changes-are (plan g (goal.at.returns-else-shown-clause-given g c).After-make) h at
 
-pub returns-in-Some-clause-stays : goal.returns-in-Some-clause-stays
-returns-in-Some-clause-stays g c =
-    let there = (goal.at.returns-in-Some-clause-stays g c).After-make_all in
-    all-made-stay c.args.self.now c.make_all.new.self (replied c.make_all.result) _ _ (some g there) c.make_all.ensures.made (still g there)
-
-pub returns-in-None-clause-leads : goal.returns-in-None-clause-leads
-returns-in-None-clause-leads g c h at =
-    let here = (goal.at.returns-in-None-clause-leads g c).After-self in
-    let now = c.args.self.now in
-    let nothing : c.args.course.changes.items ≡ [] = none-ready now.whole.durable c.args.course.changes.items (sym c.in-None.is ∙ c.requires.course.next) in
-    let f : ℕ = g.D.Disk.fault_count now.disk in
-    calm-group h (world_book now) c.args.commands.now (Ok c.args.course.replies.items) now.shown (nat_lt f f) (not-more f f (omega arith)) (told-unchanged h (world_book now) c.args.commands.now at (begun g here) _ _ (told_is g here h at) (wants g here h at) nothing)
-
-pub returns-in-None-clause-given : goal.returns-in-None-clause-given
-returns-in-None-clause-given g c h at =
-    let nothing : c.args.course.changes.items ≡ [] = none-ready c.args.self.now.whole.durable c.args.course.changes.items (sym c.in-None.is ∙ c.requires.course.next) in
-    ap (λ xs. map arc_value xs) c.new.ensures.items ∙ sym nothing ∙ wants g (goal.at.returns-in-None-clause-given g c).After-self h at
-
-pub returns-in-None-clause-device : goal.returns-in-None-clause-device
-returns-in-None-clause-device g c =
-    rests-of g.D.Disk c.self.invariant c.self.view_is (g.met.D.Disk.only_now c.self.inside.store.disk) (left-in c.self.invariant c.self.view_is (grouping c.args.commands.now))
-
-pub returns-in-None-clause-opening : goal.returns-in-None-clause-opening
-returns-in-None-clause-opening g c = record { base = refl; setting = refl }
-
-pub returns-in-None-clause-stays : goal.returns-in-None-clause-stays
-returns-in-None-clause-stays g c = λ is. (refl, refl)
+pub returns-in-Err-clause-call : goal.returns-in-Err-clause-call
+returns-in-Err-clause-call g c = made g (goal.at.returns-in-Err-clause-call g c).After-make (Err c.in-Err.refusal) c.in-Err.ensures.kept

@@ -8,7 +8,7 @@ abbrev pub invariant-loop-reply : goal.invariant-loop-reply
 invariant-loop-reply g l = record {
   all : l.yielded ++ into_iter_items l.reply-iterator ≡ into_iter_items l.initial.reply-iterator;
   len : into_iter_len l.reply-iterator ≡ length (into_iter_items l.reply-iterator);
-  told : l.answers.items ++ paired l.self.shown (log_in (world_book l.self)) l.seq (into_iter_items l.reply-iterator) (map arc_value (into_iter_items l.given)) ≡ paired l.self.shown (log_in (world_book l.self)) l.before (into_iter_items l.initial.reply-iterator) (map arc_value (into_iter_items l.initial.given));
+  reported : l.answers.items ++ paired l.self.shown (log_in (world_book l.self)) l.seq (into_iter_items l.reply-iterator) (map arc_value (into_iter_items l.given)) ≡ paired l.self.shown (log_in (world_book l.self)) l.before (into_iter_items l.initial.reply-iterator) (map arc_value (into_iter_items l.initial.given));
   given : drop l.seq (log_in (world_book l.self)) ≡ map arc_value (into_iter_items l.given);
   within : l.seq ≤ length (log_in (world_book l.self));
   kept : kept_count (into_iter_items l.reply-iterator) ≡ length (map arc_value (into_iter_items l.given));

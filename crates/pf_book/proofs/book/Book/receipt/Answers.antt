@@ -1,46 +1,34 @@
-use Rattle.std.proofs.{Common.{◌≡◌, ◌≤◌, List, length, map, take, sym, ap, ◌∙◌, subst, arith}, lemmas.{Grind.common_steps, List.take_all}}
-use Rattle.std.specs.Arc.{arc_value}
+use Rattle.std.proofs.Common.{◌≡◌, List, length, take, min, sym, ap, ◌∙◌, subst, arith}
+use Rattle.std.specs.{Arc.arc_value, Option.option_map}
 use Rattle.pf_core.specs.{Durable.Changes.PlainChange, Worlds.flat}
 use Rattle.pf_view.specs.Past.Pasts.{PlainFront}
-use Rattle.pf_book.specs.{Books.{PlainBook, world_book, log_in}, Receipts.EndsIn}
+use Rattle.pf_book.specs.{Books.{PlainBook, world_book, log_in}, Receipts.{EndsIn, token_of}}
 use Rattle.pf_book.proofs.OpenedBooks.{acked-of, log-of, token-of}
+use Rattle.pf_book.proofs.book.Book.receipt.Given.{Over}
+use Rattle.pf_book.proofs.book.Book.receipt.Goals.{After-front}
 use Rattle.pf_book.proofs.book.Book.receipt.Goals as goal
+
+-- the front is the whole history, with all that was acknowledged
+module _ (g : Over) (c : After-front g) where
+  whole : c.front.result.front ≡ log_in (world_book c.args.self.now)
+  whole = ap (λ (p : PlainFront). p.front) c.front.ensures ∙ c.self.invariant.log_is ∙ sym (log-of c.self.invariant c.self.view_is)
+
+  acked : c.front.result.acked ≡ length (flat c.args.self.now.acked)
+  acked = ap (λ (p : PlainFront). p.acked) c.front.ensures ∙ c.self.invariant.acked_is ∙ acked-of c.self.invariant c.self.view_is
 
 pub invariant_of-result : goal.invariant_of-result
 invariant_of-result g c =
-    let i = c.self.invariant in
-    let log : List PlainChange = map arc_value c.self.inside.log.items in
-    let whole : log_in (world_book c.args.self.now) ≡ log = log-of i c.self.view_is in
-    let front : c.front.result.front ≡ log = ap (λ (p : PlainFront). p.front) c.front.ensures ∙ i.log_is in
-    let acked : c.front.result.acked ≡ c.self.inside.acked = ap (λ (p : PlainFront). p.acked) c.front.ensures ∙ i.acked_is in
-    let counted : c.len.result ≡ length log = grind (arith, common_steps, c.len.ensures) in
-    let all : c.self.inside.acked ≡ length (flat c.args.self.now.acked) = acked-of i c.self.view_is in
+    let here = (goal.at.invariant_of-result g c).After-front in
     record {
-      within = omega (arith, counted, ap length front);
-      last = λ e some. subst (λ (l : List PlainChange). EndsIn l e) (whole ∙ sym (ap (take c.len.result) front ∙ take_all c.len.result log (omega (arith, counted)))) (c.requires.last e some).0;
-      acked = λ e some.
-          let no_more : length (log_in (world_book c.args.self.now)) ≤ length (flat c.args.self.now.acked) = (c.requires.last e some).1 in
-          omega (arith, no_more, counted, ap length whole, acked, all);
-      shown_is = c.len-2.ensures ∙ sym (c.showing.ensures ∙ i.noted);
+      within = omega (arith, c.requires.within, ap length (whole g here));
+      last = λ e some. subst (λ (l : List PlainChange). EndsIn (take c.args.seq l) e) (sym (whole g here)) (c.requires.last e some).0;
+      acked = λ e some. omega (arith, (c.requires.last e some).1, acked g here);
+      shown_is = c.len.ensures ∙ sym (c.showing.ensures ∙ c.self.invariant.noted);
     }
 
-pub returns-clause-shown : goal.returns-clause-shown
-returns-clause-shown g c = c.len-2.ensures ∙ ap (λ (l : PlainBook g.row.D.Denot). l.shown) c.self.view_is
-
-pub returns-clause-front : goal.returns-clause-front
-returns-clause-front g c =
-    let i = c.self.invariant in
-    let log : List PlainChange = map arc_value c.self.inside.log.items in
-    let counted : c.len.result ≡ length log = grind (arith, common_steps, c.len.ensures) in
-    ap (λ (p : PlainFront). take c.len.result p.front) c.front.ensures ∙ ap (take c.len.result) i.log_is ∙ take_all c.len.result log (omega (arith, counted)) ∙ sym (log-of i c.self.view_is)
-
-pub returns-clause-acked : goal.returns-clause-acked
-returns-clause-acked g c =
-    let i = c.self.invariant in
-    let counted : c.len.result ≡ length (map arc_value c.self.inside.log.items) = grind (arith, common_steps, c.len.ensures) in
-    let acked : c.front.result.acked ≡ c.self.inside.acked = ap (λ (p : PlainFront). p.acked) c.front.ensures ∙ i.acked_is in
-    let all : c.self.inside.acked ≡ length (flat c.args.self.now.acked) = acked-of i c.self.view_is in
-    omega (arith, acked, all, counted, i.low)
-
-pub returns-clause-token : goal.returns-clause-token
-returns-clause-token g c = c.token_after.ensures ∙ token-of c.self.invariant c.self.view_is c.args.reply.now c.requires.shown
+pub returns : goal.returns
+returns g c =
+    let here = (goal.at.returns g c).After-front in
+    let shown : c.len.result ≡ c.args.self.now.shown = c.len.ensures ∙ ap (λ (l : PlainBook g.row.D.Denot). l.shown) c.self.view_is in
+    let token : c.token_after.result ≡ token_of c.args.reply.now (log_in (world_book c.args.self.now)) = c.token_after.ensures ∙ token-of c.self.invariant c.self.view_is c.args.reply.now c.requires.shown in
+    λ j. record { front = take c.args.seq (whole g here j); acked = min c.args.seq (acked g here j); shown = shown j; change = option_map arc_value c.args.change; token = token j }

@@ -37,7 +37,7 @@ pub returns-clause-stays : goal.returns-clause-stays
 returns-clause-stays g c = c.call-reply.ensures.stays
 
 pub returns-clause-device : goal.returns-clause-device
-returns-clause-device g c = c.call-reply.ensures.device
+returns-clause-device g c = c.call-reply.ensures.uses
 
 pub returns-clause-opening : goal.returns-clause-opening
 returns-clause-opening g c = c.call-reply.ensures.opening

@@ -14,8 +14,8 @@ use Rattle.pf_book.proofs.book.Book.save.Goals.{After-save, After-accept, In-Err
 use Rattle.pf_book.proofs.book.Book.save.Goals as goal
 
 -- what stands in the log with copies of changes behind it
-logged-behind : {X : Type 0} (f : X → PlainChange) (old mid new copies given : List X) → mid ≡ old → new ≡ mid ++ copies → map f copies ≡ map f given → map f new ≡ map f old ++ map f given
-logged-behind f old mid new copies given same put is = ap (map f) put ∙ map-append f mid copies ∙ ap (λ xs. map f xs ++ map f copies) same ∙ ap (λ es. map f old ++ es) is
+logged-onto : {X : Type 0} (f : X → PlainChange) (old mid new copies given : List X) → mid ≡ old → new ≡ mid ++ copies → map f copies ≡ map f given → map f new ≡ map f old ++ map f given
+logged-onto f old mid new copies given same put is = ap (map f) put ∙ map-append f mid copies ∙ ap (λ xs. map f xs ++ map f copies) same ∙ ap (λ es. map f old ++ es) is
 
 -- a later generation is at most one later
 one-more : (g h : ℕ) → g ≤ h → g + 1 ≤ h + 1
@@ -43,7 +43,7 @@ save-requires-clause-early g c going =
 pub returns-in_err-logged-clause-err : goal.returns-in_err-logged-clause-err
 returns-in_err-logged-clause-err g c =
     let p = err_from_is_err_and c.from_residual.result c.from_residual.ensures.1 in
-    let same = same-of c.self.invariant c.self.view_is c.self.inside.store (map arc_value c.prepare.new.log.items) c.prepare.new.sizes.items refl (ap (map arc_value) c.prepare.ensures.log) c.prepare.ensures.sizes in
+    let same = same-of c.self.invariant c.self.view_is c.self.inside.store (map arc_value c.share_and_reserve.new.log.items) c.share_and_reserve.new.sizes.items refl (ap (map arc_value) c.share_and_reserve.ensures.log) c.share_and_reserve.ensures.sizes in
     rw (p.1, p.2) (same, c.requires.room)
 
 pub returns-in_err-logged-clause-device : goal.returns-in_err-logged-clause-device
@@ -59,7 +59,7 @@ returns-in_err-logged-clause-still g c = let p = err_from_is_err_and c.from_resi
 
 -- the log and the sizes have the same items
 pub invariant_of-self : goal.invariant_of-self
-invariant_of-self g c = rw (c.prepare.ensures.log, c.prepare.ensures.sizes) c.self.invariant
+invariant_of-self g c = rw (c.share_and_reserve.ensures.log, c.share_and_reserve.ensures.sizes) c.self.invariant
 
 -- what the store's save leaves
 module _ (g : Over) (c : After-save g) where
@@ -115,7 +115,7 @@ grown : (g : Over) (c : After-accept g) → IsGrown (parts c.self.invariant) (ma
 grown g c =
     let s = c.self.inside in
     let es : List PlainChange = map arc_value c.args.changes.now in
-    let logged : map arc_value c.put_all.new.log.items ≡ map arc_value s.log.items ++ es = logged-behind arc_value s.log.items c.prepare.new.log.items c.put_all.new.log.items _ c.args.changes.now c.prepare.ensures.log c.put_all.ensures c.in_ok-logged.ensures.logged in
+    let logged : map arc_value c.put_all.new.log.items ≡ map arc_value s.log.items ++ es = logged-onto arc_value s.log.items c.share_and_reserve.new.log.items c.put_all.new.log.items _ c.args.changes.now c.share_and_reserve.ensures.log c.put_all.ensures c.in_ok-logged.ensures.logged in
     let counted : length c.args.changes.now ≡ length es = sym (length-map c.args.changes.now arc_value) in
     let found : FindsRoom c.args.self.now.size c.args.self.now.whole.durable c.args.next.durable es = c.requires.found in
     record {
@@ -123,7 +123,7 @@ grown g c =
       all = all-of c.self.invariant c.self.view_is c.requires.free;
       some = some-formed es found.formed;
       logged = logged;
-      sized = c.push_reserved.ensures.items ∙ ap (λ (ns : List ℕ). ns ++ length c.args.changes.now ∷ []) c.prepare.ensures.sizes ∙ ap (λ (n : ℕ). s.sizes.items ++ n ∷ []) counted;
+      sized = c.push_reserved.ensures.items ∙ ap (λ (ns : List ℕ). ns ++ length c.args.changes.now ∷ []) c.share_and_reserve.ensures.sizes ∙ ap (λ (n : ℕ). s.sizes.items ++ n ∷ []) counted;
       counted = ap (λ (n : ℕ). s.acked + n) counted;
     }
 
@@ -169,7 +169,7 @@ pub returns-in-Err-Memory-clause-err : goal.returns-in-Err-Memory-clause-err
 returns-in-Err-Memory-clause-err g c =
     let f = rw c.in-Err-Memory.field-0-is at c.in-Err-Memory.ensures in
     let unchanged : c.save.new.self ≡ c.self.inside.store = f.unchanged (λ x. cc (x)) in
-    (same-of c.self.invariant c.self.view_is c.save.new.self (map arc_value c.prepare.new.log.items) c.prepare.new.sizes.items unchanged (ap (map arc_value) c.prepare.ensures.log) c.prepare.ensures.sizes, c.requires.room)
+    (same-of c.self.invariant c.self.view_is c.save.new.self (map arc_value c.share_and_reserve.new.log.items) c.share_and_reserve.new.sizes.items unchanged (ap (map arc_value) c.share_and_reserve.ensures.log) c.share_and_reserve.ensures.sizes, c.requires.room)
 
 pub returns-in-Err-Memory-clause-device : goal.returns-in-Err-Memory-clause-device
 returns-in-Err-Memory-clause-device g c =
@@ -179,7 +179,7 @@ pub invariant_of-self-in-Err-Memory : goal.invariant_of-self-in-Err-Memory
 invariant_of-self-in-Err-Memory g c =
     let f = rw c.in-Err-Memory.field-0-is at c.in-Err-Memory.ensures in
     let unchanged : c.save.new.self ≡ c.self.inside.store = f.unchanged (λ x. cc (x)) in
-    rw (unchanged, c.prepare.ensures.log, c.prepare.ensures.sizes) c.self.invariant
+    rw (unchanged, c.share_and_reserve.ensures.log, c.share_and_reserve.ensures.sizes) c.self.invariant
 
 pub returns-in-Err-Memory-clause-still : goal.returns-in-Err-Memory-clause-still
 returns-in-Err-Memory-clause-still g c =
@@ -203,11 +203,11 @@ invariant_of-self-in-Err-Fault g c =
     let i = c.self.invariant in
     let saved = (goal.at.invariant_of-self-in-Err-Fault g c).After-save in
     let es : List PlainChange = map arc_value c.args.changes.now in
-    let logged : map arc_value c.put_all-in-Err-Fault.new.log.items ≡ map arc_value s.log.items ++ es = logged-behind arc_value s.log.items c.prepare.new.log.items c.put_all-in-Err-Fault.new.log.items _ c.args.changes.now c.prepare.ensures.log c.put_all-in-Err-Fault.ensures c.in_ok-logged.ensures.logged in
+    let logged : map arc_value c.put_all-in-Err-Fault.new.log.items ≡ map arc_value s.log.items ++ es = logged-onto arc_value s.log.items c.share_and_reserve.new.log.items c.put_all-in-Err-Fault.new.log.items _ c.args.changes.now c.share_and_reserve.ensures.log c.put_all-in-Err-Fault.ensures c.in_ok-logged.ensures.logged in
     let found : FindsRoom c.args.self.now.size c.args.self.now.whole.durable c.args.next.durable es = c.requires.found in
     let f = rw c.in-Err-Fault.field-0-is at c.in-Err-Fault.ensures in
-    fault-book i c.save.new.self (map arc_value c.put_all-in-Err-Fault.new.log.items) c.prepare.new.sizes.items c.note_all-in-Err-Fault.new.tip es
-    (all-of i c.self.view_is c.requires.free) (some-formed es found.formed) (few-formed es found.formed) (room-of i c.self.view_is es c.requires.room) logged c.prepare.ensures.sizes
+    fault-book i c.save.new.self (map arc_value c.put_all-in-Err-Fault.new.log.items) c.share_and_reserve.new.sizes.items c.note_all-in-Err-Fault.new.tip es
+    (all-of i c.self.view_is c.requires.free) (some-formed es found.formed) (few-formed es found.formed) (room-of i c.self.view_is es c.requires.room) logged c.share_and_reserve.ensures.sizes
     (c.note_all-in-Err-Fault.ensures.front ∙ ap (λ (l : List PlainChange). s.tip.front ++ l) c.in_ok-logged.ensures.noted) (omega (arith, c.note_all-in-Err-Fault.ensures.acked)) c.note_all-in-Err-Fault.ensures.shown (f.halts refl)
     (λ image is. holds g saved image (saves g saved image is)) (generations g saved) (roomy g saved)
 
@@ -216,12 +216,12 @@ returns-in-Err-Fault-clause-err g c =
     let s = c.self.inside in
     let i = c.self.invariant in
     let es : List PlainChange = map arc_value c.args.changes.now in
-    let logged : map arc_value c.put_all-in-Err-Fault.new.log.items ≡ map arc_value s.log.items ++ es = logged-behind arc_value s.log.items c.prepare.new.log.items c.put_all-in-Err-Fault.new.log.items _ c.args.changes.now c.prepare.ensures.log c.put_all-in-Err-Fault.ensures c.in_ok-logged.ensures.logged in
+    let logged : map arc_value c.put_all-in-Err-Fault.new.log.items ≡ map arc_value s.log.items ++ es = logged-onto arc_value s.log.items c.share_and_reserve.new.log.items c.put_all-in-Err-Fault.new.log.items _ c.args.changes.now c.share_and_reserve.ensures.log c.put_all-in-Err-Fault.ensures c.in_ok-logged.ensures.logged in
     let f = rw c.in-Err-Fault.field-0-is at c.in-Err-Fault.ensures in
-    let new : WorldBook = world_book_of (record (parts i) { store = c.save.new.self; log = map arc_value c.put_all-in-Err-Fault.new.log.items; sizes = c.prepare.new.sizes.items }) in
+    let new : WorldBook = world_book_of (record (parts i) { store = c.save.new.self; log = map arc_value c.put_all-in-Err-Fault.new.log.items; sizes = c.share_and_reserve.new.sizes.items }) in
     subst (λ (l : PlainBook g.row.D.Denot). IsPending (world_book l) new es) c.self.view_is (record {
       room = room-of i c.self.view_is es c.requires.room;
-      same = with-pending (parts i) c.save.new.self (map arc_value c.put_all-in-Err-Fault.new.log.items) es c.prepare.new.sizes.items i.cuts (all-of i c.self.view_is c.requires.free) logged c.prepare.ensures.sizes f.size;
+      same = with-pending (parts i) c.save.new.self (map arc_value c.put_all-in-Err-Fault.new.log.items) es c.share_and_reserve.new.sizes.items i.cuts (all-of i c.self.view_is c.requires.free) logged c.share_and_reserve.ensures.sizes f.size;
     })
 
 pub returns-in-Err-Fault-clause-device : goal.returns-in-Err-Fault-clause-device

@@ -1,5 +1,5 @@
-use Rattle.std.proofs.Common.{List, ap, sym, subst, ◌∙◌, take}
-use Rattle.pf_core.specs.{Durable.Changes.{PlainChange, PlainDurable}, Worlds.flat}
+use Rattle.std.proofs.Common.{ap, sym, subst, ◌∙◌, take}
+use Rattle.pf_core.specs.{Durable.Changes.{PlainDurable}, Worlds.flat}
 use Rattle.pf_store.specs.StoreKept.{Stands}
 use Rattle.pf_book.specs.Books.{PlainBook}
 use Rattle.pf_book.proofs.{HistoryGroups.flat-acked, OpenedBooks.parts}

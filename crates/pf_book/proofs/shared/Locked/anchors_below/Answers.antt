@@ -1,6 +1,6 @@
-use Rattle.std.proofs.Common.{◌≡◌, sym, subst}
+use Rattle.std.proofs.Common.{sym, subst}
 use Rattle.std.specs.Option.{option_copied}
-use Rattle.pf_book.specs.{Anchors.listed_in, Books.{PlainBook, world_book}, Receipts.IsReached}
+use Rattle.pf_book.specs.{Books.{PlainBook, world_book}, Receipts.IsReached}
 use Rattle.pf_book.proofs.Listing.{listed}
 use Rattle.pf_book.proofs.shared.Locked.anchors_below.Goals as goal
 

@@ -1,8 +1,8 @@
 use Rattle.std.proofs.Common.{sym, ◌∙◌, subst}
 use Rattle.std.specs.Prelude.{nat_lt}
 use Rattle.pf_core.specs.Worlds.{Upshot, upshot}
-use Rattle.pf_book.specs.{Books.{PlainBook, world_book}, Groups.{IsGroupAsAlone, told}, Receipts.{IsReached, TakesUp}}
-use Rattle.pf_book.proofs.LockedCalls.{group-as-alone, reached-behind}
+use Rattle.pf_book.specs.{Books.{PlainBook, world_book}, Groups.{IsGroupAsAlone, result_list}, Receipts.{IsReached, TakesUp}}
+use Rattle.pf_book.proofs.LockedCalls.{group-as-alone, reached-too}
 use Rattle.pf_book.proofs.shared.Locked.group_as_alone.Goals as goal
 
 pub invariant_of-self-2 : goal.invariant_of-self-2
@@ -11,7 +11,7 @@ invariant_of-self-2 g c =
     let new = c.answer_as_alone.new.self in
     let t : Upshot = upshot new.shown (nat_lt (g.D.Disk.fault_count old.disk) (g.D.Disk.fault_count new.disk)) in
     let e = c.in-Some.ensures.group.group in
-    reached-behind g.J.Naming.base g.J.Chapter.setting (world_book old) (world_book new) c.args.commands.now (told c.in-Some.answers) t c.self.invariant e.leads c.between_calls.ensures.folded e.opening.base e.opening.setting
+    reached-too g.J.Naming.base g.J.Chapter.setting (world_book old) (world_book new) c.args.commands.now (result_list c.in-Some.answers) t c.self.invariant e.call.leads c.between_calls.ensures.folded e.call.opening.base e.call.opening.setting
 
 pub invariant_of-self : goal.invariant_of-self
 invariant_of-self g c =
@@ -24,11 +24,10 @@ returns-clause-answered g c = λ last taken.
     let t : Upshot = upshot new.shown (nat_lt (g.D.Disk.fault_count old.disk) (g.D.Disk.fault_count new.disk)) in
     let e = c.in-Some.ensures.group.group in
     let takes : TakesUp last (world_book old) = subst (λ (l : PlainBook g.row.D.Denot). TakesUp last (world_book l)) (sym c.self.view_is) taken in
-    group-as-alone g.J.Naming.base g.J.Chapter.setting (world_book old) (world_book new) c.args.commands.now (told c.in-Some.answers) t c.self.invariant e.leads c.between_calls.ensures.folded last e.receipts e.shown takes.follows takes.shows
-    c.in-Some.ensures.group.in_turn
+    group-as-alone g.J.Naming.base g.J.Chapter.setting (world_book old) (world_book new) c.args.commands.now (result_list c.in-Some.answers) t c.self.invariant e.call.leads c.between_calls.ensures.folded last e.receipts e.shown takes c.in-Some.ensures.group.in_turn
 
 pub returns-clause-group : goal.returns-clause-group
-returns-clause-group g c = subst (λ (l : PlainBook g.row.D.Denot). IsGroupAsAlone g.D.Disk l c.answer_as_alone.new.self c.args.commands.now (told c.in-Some.answers)) c.self.view_is c.in-Some.ensures.group
+returns-clause-group g c = subst (λ (l : PlainBook g.row.D.Denot). IsGroupAsAlone g.D.Disk l c.answer_as_alone.new.self c.args.commands.now (result_list c.in-Some.answers)) c.self.view_is c.in-Some.ensures.group
 
 pub returns-in_default-clause-none : goal.returns-in_default-clause-none
 returns-in_default-clause-none g c = λ is. c.answer_as_alone.ensures.none c.in_default.is ∙ c.self.view_is

@@ -6,6 +6,6 @@ abbrev pub invariant-loop-last : goal.invariant-loop-last
 invariant-loop-last g l = record {
   all : l.yielded ++ into_iter_items l.last-iterator ≡ into_iter_items l.initial.last-iterator;
   len : into_iter_len l.last-iterator ≡ length (into_iter_items l.last-iterator);
-  told : l.told.items ≡ map Err l.yielded;
-  room : vec_len l.told + length (into_iter_items l.last-iterator) ≤ vec_capacity l.told;
+  reported : l.reported.items ≡ map Err l.yielded;
+  room : vec_len l.reported + length (into_iter_items l.last-iterator) ≤ vec_capacity l.reported;
 }

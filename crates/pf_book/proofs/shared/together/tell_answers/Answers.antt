@@ -1,6 +1,6 @@
 use Rattle.std.proofs.Common.{◌≡◌, ◌∙◌, ◌++◌, length, List, [], ◌∷◌, Ok, sym, ap, append_assoc, arith}
 use Rattle.std.specs.Vec.Iter.{into_iter_items}
-use Rattle.pf_book.specs.{Groups.Answered, Together.Told}
+use Rattle.pf_book.specs.{Groups.Answered, Together.PlainGiven}
 use Rattle.pf_book.proofs.Joining.{one-more}
 use Rattle.pf_book.proofs.shared.together.tell_answers.Goals as goal
 
@@ -11,6 +11,6 @@ loop-answer-preserved g c =
     record {
       all = append_assoc at.yielded (c.in-Some.answer ∷ []) _ ∙ rw (← steps) at.invariant.all;
       len = let was = at.invariant.len in let gone = c.in-Some.ensures.steps.1 in let short = ap length steps in omega arith;
-      told = c.push_reserved.ensures.items ∙ ap (λ (l : List Told). l ++ Ok c.in-Some.answer ∷ []) at.invariant.told ∙ sym (one-more {A = Answered} {B = Told} Ok at.yielded c.in-Some.answer);
+      reported = c.push_reserved.ensures.items ∙ ap (λ (l : List PlainGiven). l ++ Ok c.in-Some.answer ∷ []) at.invariant.reported ∙ sym (one-more {A = Answered} {B = PlainGiven} Ok at.yielded c.in-Some.answer);
       room = omega (arith, at.invariant.room, c.push_reserved.ensures.len, c.push_reserved.ensures.capacity, ap length steps);
     }

@@ -6,6 +6,6 @@ abbrev pub invariant-loop-answer : goal.invariant-loop-answer
 invariant-loop-answer g l = record {
   all : l.yielded ++ into_iter_items l.answer-iterator ≡ into_iter_items l.initial.answer-iterator;
   len : into_iter_len l.answer-iterator ≡ length (into_iter_items l.answer-iterator);
-  told : l.told.items ≡ map Ok l.yielded;
-  room : vec_len l.told + length (into_iter_items l.answer-iterator) ≤ vec_capacity l.told;
+  reported : l.reported.items ≡ map Ok l.yielded;
+  room : vec_len l.reported + length (into_iter_items l.answer-iterator) ≤ vec_capacity l.reported;
 }

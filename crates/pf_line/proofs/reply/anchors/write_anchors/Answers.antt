@@ -9,5 +9,5 @@ returns g c =
     let paths = c.args.paths.now in
     let lines = lines_text paths in
     let shown = c.write_paths-so_far.ensures in
-    let whole = (Continues-then c.write_numbered-so_far.ensures.written c.end_line.ensures).behind (g.W.Write.contents c.args.out.now) lines shown.text in
+    let whole = (Continues-then c.write_numbered-so_far.ensures.written c.end_line.ensures).following (g.W.Write.contents c.args.out.now) lines shown.text in
     record { text = whole.0; retried = whole.1; lines = lined (length paths) lines (codes "end " ++ decimal (length paths)) shown.count c.write_numbered-so_far.ensures.one_line }

@@ -11,7 +11,7 @@ returns g c = (
   record {
     reply = Answered (answer.Judged c.judge.result);
     upshot = upshot c.args.self.now.shown false;
-    told = refl;
+    reported = refl;
     worlds = c.judge.ensures.worlds;
     setting = refl;
     failed = omega arith;

@@ -14,7 +14,7 @@ returns g c =
       record {
         reply = c.run-reply.result;
         upshot = upshot c.run-reply.new.self.shown (nat_lt old new);
-        told = refl;
+        reported = refl;
         worlds = c.run-reply.ensures.worlds;
         setting = c.run-reply.ensures.opening.setting;
         failed = one-failed old new (is_fault_reply c.run-reply.result) c.run-reply.ensures.device.run.faults;

@@ -14,6 +14,6 @@ returns g c =
     let r = c.anchors_below.result in
     let paths = anchors_below (world_book c.args.self.now) c.args.path.now in (
       listed_text (listed_in r),
-      record { listed = listed_in r; are = are-listed paths r c.anchors_below.ensures; told = refl; same = refl },
+      record { listed = listed_in r; are = are-listed paths r c.anchors_below.ensures; reported = refl; same = refl },
       c.tell_anchors.ensures,
     )

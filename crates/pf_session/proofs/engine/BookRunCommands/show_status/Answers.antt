@@ -8,4 +8,4 @@ pub returns : goal.returns
 returns g c =
     let book = c.args.self.now in
     let size = bank_size (length (g.D.Disk.seen book.disk)) in
-    (shown_text (status_of (world_book book) size) 1, record { size = size; told = refl; same = refl }, rw c.status.ensures at c.show.ensures)
+    (shown_text (status_of (world_book book) size) 1, record { size = size; reported = refl; same = refl }, rw c.status.ensures at c.show.ensures)

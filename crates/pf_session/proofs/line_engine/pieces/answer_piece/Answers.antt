@@ -23,25 +23,25 @@ returns-in_err-answer_waiting-clause-session g c = λ input start held s.
     let k = c.loop-byte.byte-index in
     rw (is, ← piece-all input c.args.piece.now (k + 1), ← piece-on input c.args.piece.now k c.loop-byte-test.true, c.if-byte-eq10.true)
     (failed-more g.A.AnswerLine.Takes (drop (k + 1) c.args.piece.now)
-    (wait-failed g.A.AnswerLine.Takes g.A.AnswerLine.Waits c.answer_waiting.new.self (g.W.Write.contents c.answer_waiting.new.writer) c.in_err-answer_waiting.ensures.told
+    (wait-failed g.A.AnswerLine.Takes g.A.AnswerLine.Waits c.answer_waiting.new.self (g.W.Write.contents c.answer_waiting.new.writer) c.in_err-answer_waiting.ensures.reported
     (line-taken g.A.AnswerLine.Takes g.A.AnswerLine.Waits c.take_line.new.self c.take_line.new.waiting (g.W.Write.contents c.take_line.new.writer) c.in_ok-take_line.ensures (c.loop-byte.invariant.session input start held s))))
 
 pub returns-in_err-answer_waiting-2-clause-session : goal.returns-in_err-answer_waiting-2-clause-session
 returns-in_err-answer_waiting-2-clause-session g c = λ input start held s.
     let (e, is, same) = err_from_is_err_and c.from_residual-in_err-answer_waiting-2.result c.from_residual-in_err-answer_waiting-2.ensures.1 in
     let whole : take c.loop-byte.byte-index c.args.piece.now ≡ c.args.piece.now = take_all c.loop-byte.byte-index c.args.piece.now (omega (arith, c.loop-byte-test.false)) in
-    rw (is, ← whole) (wait-failed g.A.AnswerLine.Takes g.A.AnswerLine.Waits c.answer_waiting-2.new.self (g.W.Write.contents c.answer_waiting-2.new.writer) c.in_err-answer_waiting-2.ensures.told (c.loop-byte.invariant.session input start held s))
+    rw (is, ← whole) (wait-failed g.A.AnswerLine.Takes g.A.AnswerLine.Waits c.answer_waiting-2.new.self (g.W.Write.contents c.answer_waiting-2.new.writer) c.in_err-answer_waiting-2.ensures.reported (c.loop-byte.invariant.session input start held s))
 
 pub returns-clause-session : goal.returns-clause-session
 returns-clause-session g c = λ input start held s.
     rw c.loop-byte.invariant.used_is
-    (wait-ended g.A.AnswerLine.Takes g.A.AnswerLine.Waits c.answer_waiting-2.new.self (g.W.Write.contents c.answer_waiting-2.new.writer) c.in_ok-answer_waiting-2.ensures.told (c.loop-byte.invariant.session input start held s))
+    (wait-ended g.A.AnswerLine.Takes g.A.AnswerLine.Waits c.answer_waiting-2.new.self (g.W.Write.contents c.answer_waiting-2.new.writer) c.in_ok-answer_waiting-2.ensures.reported (c.loop-byte.invariant.session input start held s))
 
 -- behind a line at which a pause is due
 pub returns-then-is_due-clause-session : goal.returns-then-is_due-clause-session
 returns-then-is_due-clause-session g c = λ input start held s.
     rw (c.loop-byte.invariant.used_is, ← piece-on input c.args.piece.now c.loop-byte.byte-index c.loop-byte-test.true, c.if-byte-eq10.true)
-    (wait-ended g.A.AnswerLine.Takes g.A.AnswerLine.Waits c.answer_waiting.new.self (g.W.Write.contents c.answer_waiting.new.writer) c.in_ok-answer_waiting.ensures.told
+    (wait-ended g.A.AnswerLine.Takes g.A.AnswerLine.Waits c.answer_waiting.new.self (g.W.Write.contents c.answer_waiting.new.writer) c.in_ok-answer_waiting.ensures.reported
     (line-taken g.A.AnswerLine.Takes g.A.AnswerLine.Waits c.take_line.new.self c.take_line.new.waiting (g.W.Write.contents c.take_line.new.writer) c.in_ok-take_line.ensures (c.loop-byte.invariant.session input start held s)))
 
 pub loop-byte-preserved : goal.loop-byte-preserved

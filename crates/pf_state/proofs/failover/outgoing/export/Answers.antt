@@ -11,7 +11,7 @@ loop-message-preserved c =
     let current = c.args.current.now in
     let rest = c.loop-message.rest in
     let part = take 31 rest in
-    let behind = drop 31 rest in
+    let following = drop 31 rest in
     let bytes = c.in_ok-written.field-0.items in
     let is_written = rw (c.deref.ensures.value, c.in_ok-part.ensures.part) at c.in_ok-written.ensures.written in
     let is_read = rw (c.deref.ensures.value, c.in_ok-part.ensures.part) at c.in_ok-written.ensures.read in
@@ -19,8 +19,8 @@ loop-message-preserved c =
     let some = some_left rest c.loop-message.message (length c.args.states.now) c.loop-message.invariant.count more in
     let grown = ap (map (λ m. m.items)) c.in_ok-push.ensures.items ∙ map-append (λ m. m.items) c.loop-message.messages.items _ in
     rw c.in_ok-part.ensures.left record {
-      told = one_more_part current rest part behind _ _ _ bytes (split_off rest) (part_long rest) some is_written grown c.loop-message.invariant.told;
-      read = one_read_more current rest part behind bytes _ (split_off rest) (part_long rest) some is_written is_read c.loop-message.invariant.read;
+      reported = one_more_part current rest part following _ _ _ bytes (split_off rest) (part_long rest) some is_written grown c.loop-message.invariant.reported;
+      read = one_read_more current rest part following bytes _ (split_off rest) (part_long rest) some is_written is_read c.loop-message.invariant.read;
       count = counted_on rest c.loop-message.message _ some c.loop-message.invariant.count;
     }
 
@@ -30,5 +30,5 @@ returns-clause-read c =
     let rest = c.loop-message.rest in
     let end = rw (c.div_ceil-message-end.ensures, c.len.ensures) at c.loop-message-test.false in
     let none = none_left rest c.loop-message.message (length c.args.states.now) c.loop-message.invariant.count end in
-    rw (all_parts current rest _ _ none c.loop-message.invariant.told)
+    rw (all_parts current rest _ _ none c.loop-message.invariant.reported)
     (read_in_turn current (parts c.args.states.now) (all_read current rest _ none c.loop-message.invariant.read))

@@ -6,7 +6,7 @@ use Rattle.pf_state.proofs.failover.outgoing.export.Given as goal
 
 abbrev pub invariant-loop-message : goal.invariant-loop-message
 invariant-loop-message l = record {
-  told : map (λ m. m.items) l.messages.items ++ map message_bytes (exported_messages l.current l.rest) ≡ map message_bytes (exported_messages l.current l.states);
+  reported : map (λ m. m.items) l.messages.items ++ map message_bytes (exported_messages l.current l.rest) ≡ map message_bytes (exported_messages l.current l.states);
   read : Each (IsRead l.current) (parts l.rest) → Each (IsRead l.current) (parts l.states);
   count : chunk_count (length l.rest) 31 + l.message ≡ chunk_count (length l.states) 31;
 }

@@ -10,9 +10,9 @@ alone front snapshot bytes none is = sym (is ∙ ap (λ (l : List ℕ). l ++ sna
 pub returns-clause-written : goal.returns-clause-written
 returns-clause-written c =
     let it = c.in_ok-push_snapshot.ensures in
-    subst (IsDurable c.args.version c.args.durable.now) (alone _ _ _ c.in_ok-out.ensures.items it.behind) it.written
+    subst (IsDurable c.args.version c.args.durable.now) (alone _ _ _ c.in_ok-out.ensures.items it.appended) it.written
 
 pub returns-clause-length : goal.returns-clause-length
 returns-clause-length c =
     let it = c.in_ok-push_snapshot.ensures in
-    ap length (sym (alone _ _ _ c.in_ok-out.ensures.items it.behind)) ∙ snapshot_long c.args.version c.args.durable.now it.snapshot it.written
+    ap length (sym (alone _ _ _ c.in_ok-out.ensures.items it.appended)) ∙ snapshot_long c.args.version c.args.durable.now it.snapshot it.written

@@ -1,7 +1,7 @@
 use Rattle.std.proofs.Common.{◌≡◌, ◌+◌, ◌∙◌, ℕ, Bool, true, false, Err, refl, sym, ap, arith, rules}
 use Rattle.std.proofs.lemmas.Result.{err_from_is_err_and}
 use Rattle.std.specs.Prelude.{if◌then◌else◌}
-use Rattle.pf_disk.proofs.Writing.{and_then, at_most, told, unmoved, weakened}
+use Rattle.pf_disk.proofs.Writing.{and_then, at_most, failed_as, unmoved, weakened}
 use Rattle.pf_snap.specs.{Faults.is_switch_fault, declared.{fault.SwitchFault.SwitchFault, fault.SwitchFault.TheVariants.{Memory, Fault}, header.TheConstants.NEWEST}}
 use Rattle.pf_store.specs.StoreFaults.{is_add_fault, switched_to}
 use Rattle.pf_store.proofs.Saving.{have_added, not_called, not_yet, of_append}
@@ -15,15 +15,15 @@ same_fault : (fault : SwitchFault) → is_add_fault {T = Unit {0}} (Err (switche
 same_fault Memory = refl
 same_fault Fault = refl
 
-pub returns-then-not-has_room-clause-writes : goal.returns-then-not-has_room-clause-writes
-returns-then-not-has_room-clause-writes g c =
+pub returns-then-not-snapshot_leaves_room-clause-writes : goal.returns-then-not-snapshot_leaves_room-clause-writes
+returns-then-not-snapshot_leaves_room-clause-writes g c =
     unmoved g.D.Disk c.args.banks.now.journal.disk (g.met.D.Disk.only_now c.args.banks.now.journal.disk) (λ i image. not_yet c.args.durable.now i (not_called c.requires.kept c.requires.ready i image))
 
 pub returns-in_err-append_record-clause-writes : goal.returns-in_err-append_record-clause-writes
 returns-in_err-append_record-clause-writes g c =
     let b = c.args.banks.now in
     let some : is_add_fault c.from_residual.result ≡ true = search rules in
-    told some
+    failed_as some
     (at_most {most = 10} (weakened c.in_err-append_record.ensures.writes
     (of_append c.requires.kept (g.D.Disk.seen b.journal.disk) refl (b.generation + 1) (omega arith) _ (version_here c.args.here true b.version c.if-here.true) c.args.added.now c.requires.made)) (omega arith))
 
@@ -41,7 +41,7 @@ pub returns-in_err-switch-clause-writes : goal.returns-in_err-switch-clause-writ
 returns-in_err-switch-clause-writes g c =
     let fault = c.in_err-switch.field-0.0 in
     let p = err_from_is_err_and c.from_residual-in_err-switch.result c.from_residual-in_err-switch.ensures.1 in
-    told (ap is_add_fault p.1 ∙ ap (λ e. is_add_fault {T = Unit {0}} (Err e)) p.2 ∙ same_fault fault)
+    failed_as (ap is_add_fault p.1 ∙ ap (λ e. is_add_fault {T = Unit {0}} (Err e)) p.2 ∙ same_fault fault)
     (at_most {most = 10} (weakened c.in_err-switch.ensures.writes (not_yet c.args.durable.now)) (omega arith))
 
 pub returns-in_err-append_record-2-clause-writes : goal.returns-in_err-append_record-2-clause-writes
@@ -50,7 +50,7 @@ returns-in_err-append_record-2-clause-writes g c =
     let turned = c.in_ok-switch.ensures.turned in
     let first = c.in_ok-switch.ensures.writes in
     let some : is_add_fault c.from_residual-in_err-append_record-2.result ≡ true = search rules in
-    told some
+    failed_as some
     (and_then {most = 10} (weakened first (not_yet c.args.durable.now))
     (weakened c.in_err-append_record-2.ensures.writes
     (of_append c.in_ok-switch.ensures.kept (g.D.Disk.seen b.journal.disk) first.same_size (b.generation + 1) (omega (arith, turned.generation)) _ (version_here c.args.here false b.version c.if-here.false ∙ sym turned.version)

@@ -1,6 +1,6 @@
 use Rattle.std.proofs.Common.{◌≡◌, ◌+◌, ℕ, [], ◌∷◌, subst, arith}
 use Rattle.pf_store.specs.Groups.{IsRecordOf}
-use Rattle.pf_store.specs.declared.groups.recorded.Recorded.TheVariants.{Opens as opens}
+use Rattle.pf_store.specs.declared.encoding.recorded.Recorded.TheVariants.{Opens as opens}
 use Rattle.pf_store.proofs.store.keeping.raise.Goals as goal
 
 pub returns-clause-made : goal.returns-clause-made

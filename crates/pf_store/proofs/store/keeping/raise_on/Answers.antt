@@ -1,10 +1,10 @@
 use Rattle.std.proofs.Common.{◌≡◌, ◌+◌, ⊎_elim, ℕ, false, List, [], ◌∷◌, arith, length, Err, refl, sym, ◌∙◌, ap, subst}
-use Rattle.pf_disk.proofs.{Images.only_read, Writing.{told, unmoved, weakened}}
+use Rattle.pf_disk.proofs.{Images.only_read, Writing.{failed_as, unmoved, weakened}}
 use Rattle.pf_disk.specs.Runs.{MayWrite}
 use Rattle.pf_snap.specs.Banks as snap
 use Rattle.pf_core.specs.{Durable.Changes.PlainDurable, Worlds.raised}
 use Rattle.pf_store.specs.{Openings.{HoldsBy, IsUnopened}, StoreFaults.{is_add_fault, is_fault, unadded}, Stores.{Holds, HoldsEither}}
-use Rattle.pf_store.specs.declared.{groups.recorded.Recorded.TheVariants.Opens as opens, store.fault.{AddFault.AddFault, OpenFault.TheVariants.BadSize}}
+use Rattle.pf_store.specs.declared.{encoding.recorded.Recorded.TheVariants.Opens as opens, store.fault.{AddFault.AddFault, OpenFault.TheVariants.BadSize}}
 use Rattle.pf_store.specs.declared.store.fault.AddFault.TheVariants as adding
 use Rattle.pf_store.specs.declared.store.fault.OpenFault.TheVariants as opening
 use Rattle.pf_store.proofs.Refusing.{held_in_want}
@@ -36,7 +36,7 @@ returns-in-Err-clause-writes g c =
     let old = b.journal.disk in
     let k = c.args.durable.now in
     let none : is_fault c.in-Err.fault ≡ false = ⊎_elim (λ is. ap is_fault is.0) (λ last. ap is_fault last.0) c.in-Err.ensures.refused in
-    told none
+    failed_as none
     (subst (λ x. MayWrite d old x 10 false (HoldsBy (d.seen old) (b.generation + 1) (HoldsEither k (raised k)))) (sym c.into_disk.ensures)
     (unmoved d old (g.met.D.Disk.only_now old) (λ i image. either_yet k (raised k) i (not_called c.requires.kept c.requires.ready i image))))
 
@@ -52,7 +52,7 @@ returns-in-Err-add-clause-writes g c =
     let old = b.journal.disk in
     let k = c.args.durable.now in
     let fault = c.in-Err-add.fault in
-    told (ap is_fault c.into.ensures ∙ same_fault fault)
+    failed_as (ap is_fault c.into.ensures ∙ same_fault fault)
     (subst (λ x. MayWrite d old x 10 (is_add_fault {T = Unit {0}} (Err fault)) (HoldsBy (d.seen old) (b.generation + 1) (HoldsEither k (raised k)))) (sym c.into_disk-in-Err-add.ensures)
     (weakened c.in-Err-add.ensures.writes (either_added (raised k) (opens (k.epoch + 1) ∷ []) c.in-Ok.ensures.made (refl, tt) refl)))
 
@@ -73,7 +73,7 @@ returns-in-Err-add-clause-refused g c =
     (refused fault seen (held_in_want seen c.args.durable.now (have_held k) (omega (arith, c.requires.early, k.keeps.generation)))
     (λ full. (
       c.args.durable.now,
-      is_full c.requires.ready k (length c.in-Ok.raised.1.behind.items + 1) c.in-Ok.ensures.long c.requires.early c.in-Ok.ensures.next (c.in-Err-add.ensures.full.0 (ap Err full)),
+      is_full c.requires.ready k (length c.in-Ok.raised.1.after_gate.items + 1) c.in-Ok.ensures.long c.requires.early c.in-Ok.ensures.next (c.in-Err-add.ensures.full.0 (ap Err full)),
     )) k.keeps.holds.size)
 
 pub returns-in-Err-clause-refused : goal.returns-in-Err-clause-refused
@@ -99,12 +99,12 @@ invariant_of-result g c going =
 
 pub returns-in-Ok-add-clause-room : goal.returns-in-Ok-add-clause-room
 returns-in-Ok-add-clause-room g c e full =
-    cc (c.in-Ok-add.ensures.full.1 (tells_full c.requires.ready c.requires.kept (length c.in-Ok.raised.1.behind.items + 1) c.in-Ok.ensures.long e full))
+    cc (c.in-Ok-add.ensures.full.1 (tells_full c.requires.ready c.requires.kept (length c.in-Ok.raised.1.after_gate.items + 1) c.in-Ok.ensures.long e full))
 
 pub returns-in-Ok-add-clause-here : goal.returns-in-Ok-add-clause-here
 returns-in-Ok-add-clause-here g c e held room =
     let r = c.requires in
-    let n = length c.in-Ok.raised.1.behind.items + 1 in
+    let n = length c.in-Ok.raised.1.after_gate.items + 1 in
     let twelve = c.in-Ok.ensures.long in
     let both = c.in-Ok-add.ensures.here (room_here r.ready r.kept n twelve e held room) in
     (both.0 ∙ sym (by_generation r.ready r.kept n twelve e held), both.1 ∙ sym (by_version r.ready r.kept n twelve e held))
@@ -112,7 +112,7 @@ returns-in-Ok-add-clause-here g c e held room =
 pub returns-in-Ok-add-clause-there : goal.returns-in-Ok-add-clause-there
 returns-in-Ok-add-clause-there g c e held full =
     let r = c.requires in
-    let n = length c.in-Ok.raised.1.behind.items + 1 in
+    let n = length c.in-Ok.raised.1.after_gate.items + 1 in
     let twelve = c.in-Ok.ensures.long in
     let both = c.in-Ok-add.ensures.there (no_room_here r.ready r.kept n twelve e held full) in
     (both.0 ∙ ap (λ (n : ℕ). n + 1) (sym (by_generation r.ready r.kept n twelve e held)), both.1)

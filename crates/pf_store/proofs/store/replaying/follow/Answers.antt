@@ -1,5 +1,5 @@
 use Rattle.std.proofs.Common.{List, sym, subst}
-use Rattle.pf_store.specs.declared.groups.recorded.Recorded.{Recorded}
+use Rattle.pf_store.specs.declared.encoding.recorded.Recorded.{Recorded}
 use Rattle.pf_store.specs.Groups.{IsRecorded}
 use Rattle.pf_store.proofs.Leading.{none_follows}
 use Rattle.pf_store.proofs.store.replaying.follow.Goals as goal

@@ -6,10 +6,10 @@ use Rattle.pf_tokens.proofs.items.ItemsU8Display.fmt.Goals as goal
 pub returns-in-Ok-clause-writes : goal.returns-in-Ok-clause-writes
 returns-in-Ok-clause-writes g c =
     let cases = c.in-Ok.ensures.cases in
-    let told : shown c.args.self.now ≡ c.in-Ok.text.now = ap (λ (bytes : List ℕ). shown bytes) (sym c.as_slice.ensures) ∙ shown-text c.as_slice.result.now cases.1 ∙ sym cases.0 in
-    rw told c.write_str.ensures.writes
+    let reported : shown c.args.self.now ≡ c.in-Ok.text.now = ap (λ (bytes : List ℕ). shown bytes) (sym c.as_slice.ensures) ∙ shown-text c.as_slice.result.now cases.1 ∙ sym cases.0 in
+    rw reported c.write_str.ensures.writes
 
 pub returns-in-Err-clause-writes : goal.returns-in-Err-clause-writes
 returns-in-Err-clause-writes g c =
-    let told : shown c.args.self.now ≡ [] = ap (λ (bytes : List ℕ). shown bytes) (sym c.as_slice.ensures) ∙ shown-none c.as_slice.result.now c.in-Err.ensures.cases.0 in
-    rw told c.write_str-in-Err.ensures.writes
+    let reported : shown c.args.self.now ≡ [] = ap (λ (bytes : List ℕ). shown bytes) (sym c.as_slice.ensures) ∙ shown-none c.as_slice.result.now c.in-Err.ensures.cases.0 in
+    rw reported c.write_str-in-Err.ensures.writes

@@ -5,4 +5,4 @@ returns c =
     let within = rw c.self.view_is at c.up_to_between.ensures.within in
     let between = rw c.self.view_is at c.bounds-low.ensures.between in
     let place = rw c.self.view_is at c.up_to_between.ensures.place in
-    record { within = within; before = λ order. (place (between order)).before order; behind = λ order. (place (between order)).behind order }
+    record { within = within; before = λ order. (place (between order)).before order; beyond = λ order. (place (between order)).beyond order }

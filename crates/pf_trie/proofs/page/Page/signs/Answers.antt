@@ -10,6 +10,6 @@ returns-in-None c = λ s top front are in_front.
     (record {
       within = omega arith;
       before = λ order k d low high. absurd (omega (arith, high));
-      behind = λ order k d low high. absurd (omega (arith, high));
+      beyond = λ order k d low high. absurd (omega (arith, high));
     })
     c.none.ensures

@@ -1,5 +1,5 @@
 use Rattle.std.proofs.Common.{Some}
-use Rattle.pf_addr.specs.Writing.{behind_nothing}
+use Rattle.pf_addr.specs.Writing.{after_nothing}
 use Rattle.pf_form.specs.Form.Words.{texts}
 use Rattle.pfd_conf.specs.Reports.{difference_text}
 use Rattle.pfd_conf.proofs.Texts.{all_at_ok}
@@ -7,7 +7,7 @@ use Rattle.pfd_conf.proofs.firewall.Origins.message_of.Goals as goal
 
 pub returns : goal.returns
 returns c =
-    let w = behind_nothing tt c.write_difference.ensures in
+    let w = after_nothing tt c.write_difference.ensures in
     rw c.if-outcome.false
     (rw c.new-message.ensures.items at
     (all_at_ok c.write_difference.result _ (Some c.new-message.result.items) (Some c.write_difference.new.out.items)

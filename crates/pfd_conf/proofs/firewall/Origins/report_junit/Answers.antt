@@ -1,6 +1,6 @@
 use Rattle.std.proofs.Common.{◌++◌}
 use Rattle.std.specs.Prelude.{codes}
-use Rattle.pf_addr.specs.Writing.{WritesFront-longer, WritesFront-then, Appends-then, behind_nothing}
+use Rattle.pf_addr.specs.Writing.{WritesFront-longer, WritesFront-then, Appends-then, after_nothing}
 use Rattle.pfd_conf.specs.{Reports.tally, Junit.{head_text, suites_text, junit_text}}
 use Rattle.pfd_conf.proofs.Texts.{stopped, some_front, all_at_ok, flushed}
 use Rattle.pfd_conf.proofs.firewall.Origins.report_junit.Goals as goal
@@ -11,7 +11,7 @@ returns-in_err-written g c =
     let new = g.W.Write.contents c.write_head.new.out in
     let head = head_text (tally c.args.tried.now) in
     let suites = suites_text c.args.self.now c.args.tried.now in
-    let w = behind_nothing tt (rw c.of.ensures at c.write_head.ensures) in
+    let w = after_nothing tt (rw c.of.ensures at c.write_head.ensures) in
     stopped _ c.from_residual.result old new (junit_text c.args.self.now c.args.tried.now) c.from_residual.ensures.1
     (WritesFront-longer old new (head ++ suites) (codes "</testsuites>\n")
     (WritesFront-longer old new head suites (some_front c.write_head.result old new head w.0)))
@@ -23,7 +23,7 @@ returns-in_err-write_suites g c =
     let new = g.W.Write.contents c.write_suites.new.out in
     let head = head_text (tally c.args.tried.now) in
     let suites = suites_text c.args.self.now c.args.tried.now in
-    let w = behind_nothing tt (rw c.of.ensures at c.write_head.ensures) in
+    let w = after_nothing tt (rw c.of.ensures at c.write_head.ensures) in
     stopped _ c.from_residual-in_err-write_suites.result old new (junit_text c.args.self.now c.args.tried.now)
     c.from_residual-in_err-write_suites.ensures.1
     (WritesFront-longer old new (head ++ suites) (codes "</testsuites>\n")
@@ -38,8 +38,8 @@ returns-in_err-written-2 g c =
     let new = g.W.Write.contents c.write_more.new.out in
     let head = head_text (tally c.args.tried.now) in
     let suites = suites_text c.args.self.now c.args.tried.now in
-    let w = behind_nothing tt (rw c.of.ensures at c.write_head.ensures) in
-    let last = behind_nothing tt c.write_more.ensures in
+    let w = after_nothing tt (rw c.of.ensures at c.write_head.ensures) in
+    let last = after_nothing tt c.write_more.ensures in
     stopped _ c.from_residual-in_err-written-2.result old new (junit_text c.args.self.now c.args.tried.now)
     c.from_residual-in_err-written-2.ensures.1
     (WritesFront-then old mid new (head ++ suites) (codes "</testsuites>\n")
@@ -55,8 +55,8 @@ returns g c =
     let new = g.W.Write.contents c.write_more.new.out in
     let head = head_text (tally c.args.tried.now) in
     let suites = suites_text c.args.self.now c.args.tried.now in
-    let w = behind_nothing tt (rw c.of.ensures at c.write_head.ensures) in
-    let last = behind_nothing tt c.write_more.ensures in
+    let w = after_nothing tt (rw c.of.ensures at c.write_head.ensures) in
+    let last = after_nothing tt c.write_more.ensures in
     flushed c.written-3.result old new (g.W.Write.contents c.flush.new.self) (junit_text c.args.self.now c.args.tried.now)
     (Appends-then old mid new (head ++ suites) (codes "</testsuites>\n")
     (Appends-then old first mid head suites (all_at_ok c.write_head.result _ old first head c.in_ok-written.ensures.ok w.0)

@@ -1,6 +1,6 @@
 use Rattle.std.proofs.Common.{◌++◌}
 use Rattle.std.specs.Prelude.{codes}
-use Rattle.pf_addr.specs.Writing.{WritesFront-longer, WritesFront-then, Appends-then, behind_nothing}
+use Rattle.pf_addr.specs.Writing.{WritesFront-longer, WritesFront-then, Appends-then, after_nothing}
 use Rattle.pfd_conf.specs.Reports.{sayable, case_count, files_points, tally, plan_text, tap_text}
 use Rattle.pfd_conf.proofs.Texts.{stopped, some_front, all_at_ok, flushed}
 use Rattle.pfd_conf.proofs.firewall.Origins.report_tap.Goals as goal
@@ -12,7 +12,7 @@ returns-in_err-written g c =
     let head = codes "TAP version 13\n" in
     let points = files_points c.args.self.now 0 c.args.tried.now in
     let plan = plan_text (sayable (case_count c.args.tried.now)) (tally c.args.tried.now) in
-    let w = behind_nothing tt c.write_more.ensures in
+    let w = after_nothing tt c.write_more.ensures in
     stopped _ c.from_residual.result old new (tap_text c.args.self.now c.args.tried.now) c.from_residual.ensures.1
     (WritesFront-longer old new (head ++ points) plan
     (WritesFront-longer old new head points (some_front c.write_more.result old new head w.0)))
@@ -25,7 +25,7 @@ returns-in_err-count g c =
     let head = codes "TAP version 13\n" in
     let points = files_points c.args.self.now 0 c.args.tried.now in
     let plan = plan_text (sayable (case_count c.args.tried.now)) (tally c.args.tried.now) in
-    let w = behind_nothing tt c.write_more.ensures in
+    let w = after_nothing tt c.write_more.ensures in
     stopped _ c.from_residual-in_err-count.result old new (tap_text c.args.self.now c.args.tried.now) c.from_residual-in_err-count.ensures.1
     (WritesFront-longer old new (head ++ points) plan
     (WritesFront-then old mid new head points (all_at_ok c.write_more.result _ old mid head c.in_ok-written.ensures.ok w.0)
@@ -40,8 +40,8 @@ returns-in_err-written-2 g c =
     let head = codes "TAP version 13\n" in
     let points = files_points c.args.self.now 0 c.args.tried.now in
     let plan = plan_text (sayable (case_count c.args.tried.now)) (tally c.args.tried.now) in
-    let w = behind_nothing tt c.write_more.ensures in
-    let rest = behind_nothing tt (rw (c.in_ok-count.ensures.count, c.of.ensures) at c.write_plan.ensures) in
+    let w = after_nothing tt c.write_more.ensures in
+    let rest = after_nothing tt (rw (c.in_ok-count.ensures.count, c.of.ensures) at c.write_plan.ensures) in
     stopped _ c.from_residual-in_err-written-2.result old new (tap_text c.args.self.now c.args.tried.now)
     c.from_residual-in_err-written-2.ensures.1
     (WritesFront-then old mid new (head ++ points) plan
@@ -58,8 +58,8 @@ returns g c =
     let head = codes "TAP version 13\n" in
     let points = files_points c.args.self.now 0 c.args.tried.now in
     let plan = plan_text (sayable (case_count c.args.tried.now)) (tally c.args.tried.now) in
-    let w = behind_nothing tt c.write_more.ensures in
-    let rest = behind_nothing tt (rw (c.in_ok-count.ensures.count, c.of.ensures) at c.write_plan.ensures) in
+    let w = after_nothing tt c.write_more.ensures in
+    let rest = after_nothing tt (rw (c.in_ok-count.ensures.count, c.of.ensures) at c.write_plan.ensures) in
     flushed c.written-3.result old new (g.W.Write.contents c.flush.new.self) (tap_text c.args.self.now c.args.tried.now)
     (Appends-then old mid new (head ++ points) plan
     (Appends-then old first mid head points (all_at_ok c.write_more.result _ old first head c.in_ok-written.ensures.ok w.0)

@@ -1,20 +1,20 @@
-use Rattle.pfd_conf.specs.Reports.{told_text, failures_text}
-use Rattle.pfd_conf.proofs.Texts.{stopped, one_told_at, told_front_at}
+use Rattle.pfd_conf.specs.Reports.{failure_line, failures_text}
+use Rattle.pfd_conf.proofs.Texts.{stopped, one_written_at, front_written_at}
 use Rattle.pfd_conf.proofs.firewall.Origins.write_failures.Goals as goal
 
-pub returns-in_err-write_told : goal.returns-in_err-write_told
-returns-in_err-write_told g c =
+pub returns-in_err-write_if_failed : goal.returns-in_err-write_if_failed
+returns-in_err-write_if_failed g c =
     let old = g.W.Write.contents c.args.out.now in
-    let new = g.W.Write.contents c.write_told.new.out in
+    let new = g.W.Write.contents c.write_if_failed.new.out in
     stopped _ c.from_residual.result old new (failures_text c.args.self.now c.args.tried.now) c.from_residual.ensures.1
     (rw c.as_slice-outcome-items.ensures at
-    (told_front_at (told_text c.args.self.now c.args.tried.now) old (g.W.Write.contents c.loop-outcome.out) new
+    (front_written_at (failure_line c.args.self.now c.args.tried.now) old (g.W.Write.contents c.loop-outcome.out) new
     c.as_slice-outcome-items.result.now c.loop-outcome.outcome-index _
-    c.loop-outcome-test.true c.loop-outcome.invariant c.in_err-write_told.ensures))
+    c.loop-outcome-test.true c.loop-outcome.invariant c.in_err-write_if_failed.ensures))
 
 pub loop-outcome-preserved : goal.loop-outcome-preserved
 loop-outcome-preserved g c =
-    one_told_at (told_text c.args.self.now c.args.tried.now) (g.W.Write.contents c.args.out.now) (g.W.Write.contents c.loop-outcome.out)
-    (g.W.Write.contents c.write_told.new.out)
+    one_written_at (failure_line c.args.self.now c.args.tried.now) (g.W.Write.contents c.args.out.now) (g.W.Write.contents c.loop-outcome.out)
+    (g.W.Write.contents c.write_if_failed.new.out)
     c.as_slice-outcome-items.result.now c.loop-outcome.outcome-index _ c.loop-outcome-test.true c.loop-outcome.invariant
-    c.in_ok-write_told.ensures
+    c.in_ok-write_if_failed.ensures

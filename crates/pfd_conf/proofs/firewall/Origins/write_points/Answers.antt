@@ -1,6 +1,6 @@
 use Rattle.std.proofs.Common.{◌++◌, ◌+◌}
 use Rattle.std.specs.Prelude.{codes}
-use Rattle.pf_addr.specs.Writing.{Continues-then, WritesFront-longer, behind_nothing}
+use Rattle.pf_addr.specs.Writing.{Continues-then, WritesFront-longer, after_nothing}
 use Rattle.pf_conf.specs.Shown.{newline}
 use Rattle.pfd_conf.specs.Reports.{points_text, file_points}
 use Rattle.pfd_conf.proofs.{Points.{head_of, point_of, no_point_of}, Texts.{stopped, some_front, all_at_ok, none_of, more_of, stopped_of, all_of}}
@@ -12,7 +12,7 @@ returns-in_err-written g c =
     let new = g.W.Write.contents c.write_more.new.out in
     let t = c.args.tried.now in
     let head = codes "# " ++ t.name.now ++ newline in
-    let w = behind_nothing tt (Continues-then (Continues-then c.write_more-so_far.ensures c.write_more-so_far-2.ensures)
+    let w = after_nothing tt (Continues-then (Continues-then c.write_more-so_far.ensures c.write_more-so_far-2.ensures)
     c.write_more.ensures) in
     stopped _ c.from_residual.result old new (file_points c.args.self.now c.args.before t) c.from_residual.ensures.1
     (WritesFront-longer old new head (points_text c.args.self.now t c.args.before t.outcomes)
@@ -25,7 +25,7 @@ loop-index-init g c =
     let t = c.args.tried.now in
     let all = file_points c.args.self.now c.args.before t in
     let head = codes "# " ++ t.name.now ++ newline in
-    let w = behind_nothing tt (Continues-then (Continues-then c.write_more-so_far.ensures c.write_more-so_far-2.ensures)
+    let w = after_nothing tt (Continues-then (Continues-then c.write_more-so_far.ensures c.write_more-so_far-2.ensures)
     c.write_more.ensures) in
     more_of old old new all all head (points_text c.args.self.now t (c.args.before + 0) t.outcomes) (none_of old all)
     (head_of c.args.self.now t c.args.before)

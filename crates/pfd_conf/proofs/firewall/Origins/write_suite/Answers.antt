@@ -1,6 +1,6 @@
 use Rattle.std.proofs.Common.{◌++◌}
 use Rattle.std.specs.Prelude.{codes}
-use Rattle.pf_addr.specs.Writing.{WritesFront-longer, WritesFront-then, Appends-then, Writes-then, behind_nothing}
+use Rattle.pf_addr.specs.Writing.{WritesFront-longer, WritesFront-then, Appends-then, Writes-then, after_nothing}
 use Rattle.pfd_conf.specs.Junit.{suite_head, tally_in, testcases_text, suite_text}
 use Rattle.pfd_conf.proofs.Texts.{stopped, some_front, all_at_ok, as_written}
 use Rattle.pfd_conf.proofs.firewall.Origins.write_suite.Goals as goal
@@ -12,7 +12,7 @@ returns-in_err-written g c =
     let t = c.args.tried.now in
     let head = suite_head t.name.now (tally_in t) in
     let cases = testcases_text c.args.self.now t in
-    let w = behind_nothing tt (rw c.tally_in.ensures at c.write_suite_head.ensures) in
+    let w = after_nothing tt (rw c.tally_in.ensures at c.write_suite_head.ensures) in
     stopped _ c.from_residual.result old new (suite_text c.args.self.now t) c.from_residual.ensures.1
     (WritesFront-longer old new (head ++ cases) (codes "  </testsuite>\n")
     (WritesFront-longer old new head cases (some_front c.write_suite_head.result old new head w.0)))
@@ -25,7 +25,7 @@ returns-in_err-write_testcases g c =
     let t = c.args.tried.now in
     let head = suite_head t.name.now (tally_in t) in
     let cases = testcases_text c.args.self.now t in
-    let w = behind_nothing tt (rw c.tally_in.ensures at c.write_suite_head.ensures) in
+    let w = after_nothing tt (rw c.tally_in.ensures at c.write_suite_head.ensures) in
     stopped _ c.from_residual-in_err-write_testcases.result old new (suite_text c.args.self.now t)
     c.from_residual-in_err-write_testcases.ensures.1
     (WritesFront-longer old new (head ++ cases) (codes "  </testsuite>\n")
@@ -41,8 +41,8 @@ returns g c =
     let t = c.args.tried.now in
     let head = suite_head t.name.now (tally_in t) in
     let cases = testcases_text c.args.self.now t in
-    let w = behind_nothing tt (rw c.tally_in.ensures at c.write_suite_head.ensures) in
-    let last = behind_nothing tt c.write_more.ensures in
+    let w = after_nothing tt (rw c.tally_in.ensures at c.write_suite_head.ensures) in
+    let last = after_nothing tt c.write_more.ensures in
     as_written c.written-2.result c.write_more.result _ old new (suite_text c.args.self.now t) c.written-2.ensures.ok
     (Writes-then c.write_more.result old mid new (head ++ cases) (codes "  </testsuite>\n")
     (Appends-then old first mid head cases (all_at_ok c.write_suite_head.result _ old first head c.in_ok-written.ensures.ok w.0)

@@ -1,6 +1,6 @@
 use Rattle.pfd_conf.specs.Junit.{suite_text}
-use Rattle.pfd_conf.proofs.Texts.{Told}
+use Rattle.pfd_conf.proofs.Texts.{AreWrittenBefore}
 use Rattle.pfd_conf.proofs.firewall.Origins.write_suites.Given as goal
 
 abbrev pub invariant-loop-file : goal.invariant-loop-file
-invariant-loop-file g l = Told (suite_text l.self) (g.W.Write.contents l.initial.out) (g.W.Write.contents l.out) l.tried l.file-index
+invariant-loop-file g l = AreWrittenBefore (suite_text l.self) (g.W.Write.contents l.initial.out) (g.W.Write.contents l.out) l.tried l.file-index

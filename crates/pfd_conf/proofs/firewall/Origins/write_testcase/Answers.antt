@@ -1,4 +1,4 @@
-use Rattle.pf_addr.specs.Writing.{behind_nothing}
+use Rattle.pf_addr.specs.Writing.{after_nothing}
 use Rattle.pfd_conf.specs.Junit.{testcase_text}
 use Rattle.pfd_conf.proofs.Texts.{as_written}
 use Rattle.pfd_conf.proofs.firewall.Origins.write_testcase.Goals as goal
@@ -17,6 +17,6 @@ returns g c =
       c.line.ensures,
     ) at
     c.write_element.ensures in
-    let w = behind_nothing tt written in
+    let w = after_nothing tt written in
     as_written c.written.result c.write_element.result _ (g.W.Write.contents c.args.out.now) (g.W.Write.contents c.write_element.new.out)
     (testcase_text c.args.self.now c.args.tried.now c.args.outcome.now) c.written.ensures.ok w.0

@@ -11,7 +11,7 @@ use denote.Struct.Owning.{shape, fields, to}
 use denote.Param.Send.{IsSend, Quiet, AllSend, part_keyless, owning_send, struct_send, sendable}
 use Rattle.std.proofs.Crossing as any
 use Rattle.pf_core.specs.Durable.Changes.{PlainDurable}
-use Rattle.wirdalf_c.specs.Held.{heap, holds}
+use Rattle.wirdalf_c.specs.Owned.{heap, holds}
 use Rattle.wirdalf_c.specs.contracts.holding.Holding as holding
 use Rattle.wirdalf_c.proofs.holding.Holding.TheSendSync.{the_send as holding_send}
 use Rattle.wirdalf_c.specs.contracts.configuration.Configuration.{the_row, the_type}

@@ -27,7 +27,7 @@ use Rattle.std.proofs.raw_atomic.Walks.{proved}
 use Rattle.std.proofs.VecSteps.Shapes.{after}
 use Rattle.std.specs.Box.Ownership.{box_owns}
 use Rattle.std.specs.contracts.impls.GlobalAllocator.TheImpl.{ghosts}
-use Rattle.wirdalf_c.specs.Held.{heap}
+use Rattle.wirdalf_c.specs.Owned.{heap}
 use Rattle.wirdalf_c.specs.Lending.{with_held}
 use Rattle.pf_core.specs.Durable.Changes.{PlainDurable}
 use Rattle.wirdalf_c.specs.contracts.holding.Holding as holding

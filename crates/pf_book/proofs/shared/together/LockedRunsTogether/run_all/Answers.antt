@@ -16,7 +16,7 @@ returns-in-Some-Ok-clause-answered g c =
     let now = (goal.at.returns-in-Some-Ok-clause-answered g c).After-group_as_alone in
     all-answered g.J.Naming.base g.J.Chapter.setting (world_book c.args.self.now) c.args.asked.items c.deref-2.result.now c.part.new.lasts.items (c.deref-2.ensures.value ∙ c.part.ensures.commands) c.part.ensures.lasts (taken g now)
     c.in-Some-Ok.answers.items (λ last takes. (rw c.in-Some-Ok.field-0-is at c.in-Some-Ok.ensures.answered) last (subst (λ (b : PlainBook g.row.D.Denot). TakesUp last (world_book b)) (sym c.look_at_each.ensures.same) takes))
-    c.tell_answers.new.told.items c.tell_answers.ensures
+    c.tell_answers.new.reported.items c.tell_answers.ensures
 
 pub returns-in-Some-Ok-clause-each : goal.returns-in-Some-Ok-clause-each
 returns-in-Some-Ok-clause-each g c =
@@ -30,7 +30,7 @@ tell_answers-requires-clause-room g c =
     let now = (goal.at.tell_answers-requires-clause-room g c).After-group_as_alone in
     let each = one-each g.J.Naming.base g.J.Chapter.setting (world_book c.args.self.now) c.args.asked.items c.deref-2.result.now c.part.new.lasts.items (c.deref-2.ensures.value ∙ c.part.ensures.commands) c.part.ensures.lasts (taken g now)
     c.in-Some-Ok.answers.items (λ last takes. (rw c.in-Some-Ok.field-0-is at c.in-Some-Ok.ensures.answered) last (subst (λ (b : PlainBook g.row.D.Denot). TakesUp last (world_book b)) (sym c.look_at_each.ensures.same) takes)) in
-    let room = c.in-Ok.ensures.told.1 in
+    let room = c.in-Ok.ensures.reported.1 in
     let many = c.len.ensures in
     grind (arith, common_steps, each, room, many)
 
@@ -41,7 +41,7 @@ returns-in-Some-Err-Fault-clause-answered g c =
     rw (c.in-Some-Err-Fault.field-0-is, c.in-Some-Err-Fault.field-0-0-is) at c.in-Some-Err-Fault.ensures.answered in
     all-failed g.J.Naming.base g.J.Chapter.setting (world_book c.args.self.now) c.args.asked.items c.deref-2.result.now c.part.new.lasts.items (c.deref-2.ensures.value ∙ c.part.ensures.commands) c.part.ensures.lasts (taken g now)
     (λ last takes. (failed last (subst (λ (b : PlainBook g.row.D.Denot). TakesUp last (world_book b)) (sym c.look_at_each.ensures.same) takes)).group)
-    c.give_back.new.told.items c.give_back.ensures
+    c.give_back.new.reported.items c.give_back.ensures
 
 pub returns-in-Some-Err : goal.returns-in-Some-Err
 returns-in-Some-Err g c = record {

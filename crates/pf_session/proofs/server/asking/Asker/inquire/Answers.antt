@@ -10,6 +10,6 @@ returns-clause-asked g c =
       slip = c.ask-reply.result.1;
       answered = answered;
       unchanged = asked-as-was g.J.Naming.base g.J.Chapter.setting c.args.inquiry.command c.ask-reply.result.0 c.ask-reply.result.1 c.args.self.now.last.now answered c.args.inquiry.asks;
-      told = refl;
+      reported = refl;
       kept = refl;
     }

@@ -12,8 +12,8 @@ returns-then-is_denied g c = (
 
 pub returns : goal.returns
 returns g c =
-    let (text, told, written) = c.answer.ensures in (
+    let (text, reported, written) = c.answer.ensures in (
       text,
-      answered-one g.G.Gate.passed g.J.Naming.base g.J.Chapter.setting c.args.self.now c.answer.new.runner c.args.line.now text c.saturating_add-self.result c.saturating_add-self.ensures c.pass.ensures (sym c.is_denied.ensures ∙ c.if-is_denied.false) told,
+      answered-one g.G.Gate.passed g.J.Naming.base g.J.Chapter.setting c.args.self.now c.answer.new.runner c.args.line.now text c.saturating_add-self.result c.saturating_add-self.ensures c.pass.ensures (sym c.is_denied.ensures ∙ c.if-is_denied.false) reported,
       written,
     )

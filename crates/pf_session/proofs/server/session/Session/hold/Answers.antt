@@ -13,4 +13,4 @@ returns-in-Ok g c = λ lines line whole meant one is.
 
 pub returns-in-Err : goal.returns-in-Err
 returns-in-Err g c = λ lines line whole meant one is.
-    c.answer_behind.ensures lines line whole (rw c.in-Err.ensures.items meant) (inl (rw c.in-Err.ensures.value_returned one.means)) tt is
+    c.answer_after.ensures lines line whole (rw c.in-Err.ensures.items meant) (inl (rw c.in-Err.ensures.value_returned one.means)) tt is

@@ -1,7 +1,7 @@
 use Rattle.std.proofs.{Common.{◌∙◌, List, [], ◌∷◌, ◌++◌, Ok, sym, ap, subst, append_assoc, arith}, lemmas.Result.err_from_is_err_and}
 use Rattle.std.specs.Vec.Iter.{into_iter_items}
 use Rattle.pf_book.specs.Groups.{Answered as Receipted, IsAnsweredAsAlone}
-use Rattle.pf_session.proofs.Running.{IsTelling, telling-begun, one-told, told-cut, all-told}
+use Rattle.pf_session.proofs.Running.{IsTelling, telling-begun, one-replied, reply-cut, all-replied}
 use Rattle.pf_session.proofs.server.session.Session.tell_each.Goals as goal
 
 pub loop-answer-init : goal.loop-answer-init
@@ -27,7 +27,7 @@ loop-answer-preserved g c =
       len = omega (arith);
       all = append_assoc at.yielded (c.in-Some.answer ∷ []) left ∙ sym whole;
       way = λ lines commands meant gates group.
-          one-told passed base setting c.in-Some.answer left (subst (λ (l : List Receipted). IsAnsweredAsAlone base setting commands (Ok l) c.args.self.now.last.now) whole group)
+          one-replied passed base setting c.in-Some.answer left (subst (λ (l : List Receipted). IsAnsweredAsAlone base setting commands (Ok l) c.args.self.now.last.now) whole group)
           (subst (λ (l : List Receipted). IsTelling passed base setting lines commands at.yielded l c.args.self.now at.self (g.O.Write.contents c.args.writer.now) (g.O.Write.contents at.writer)) steps.0 (at.invariant.way lines commands meant gates group))
           c.tell_one.new.self c.saturating_add-self.result c.saturating_add-self.ensures c.tell_one.ensures.same c.tell_one.ensures.kept (g.O.Write.contents c.tell_one.new.writer) c.in_ok-tell_one.ensures.written;
     }
@@ -42,10 +42,10 @@ returns-in_err-tell_one g c = λ lines commands meant gates group.
     let setting = g.J.Chapter.setting in
     let left = into_iter_items c.next.new.self in
     let whole = sym at.invariant.all ∙ ap (λ (l : List Receipted). at.yielded ++ l) steps.0 in
-    rw failed (told-cut passed base setting c.in-Some.answer left (subst (λ (l : List Receipted). IsAnsweredAsAlone base setting commands (Ok l) c.args.self.now.last.now) whole group)
+    rw failed (reply-cut passed base setting c.in-Some.answer left (subst (λ (l : List Receipted). IsAnsweredAsAlone base setting commands (Ok l) c.args.self.now.last.now) whole group)
     (subst (λ (l : List Receipted). IsTelling passed base setting lines commands at.yielded l c.args.self.now at.self (g.O.Write.contents c.args.writer.now) (g.O.Write.contents at.writer)) steps.0 (at.invariant.way lines commands meant gates group))
     c.tell_one.new.self c.saturating_add-self.result c.saturating_add-self.ensures c.tell_one.ensures.same c.tell_one.ensures.kept (g.O.Write.contents c.tell_one.new.writer) c.in_err-tell_one.ensures.written)
 
 pub returns : goal.returns
 returns g c = λ lines commands meant gates group.
-    all-told g.G.Gate.passed g.J.Naming.base g.J.Chapter.setting (omega (arith, c.in-None.ensures.steps, c.loop-answer.invariant.len)) (c.loop-answer.invariant.way lines commands meant gates group)
+    all-replied g.G.Gate.passed g.J.Naming.base g.J.Chapter.setting (omega (arith, c.in-None.ensures.steps, c.loop-answer.invariant.len)) (c.loop-answer.invariant.way lines commands meant gates group)

@@ -3,13 +3,13 @@ use Rattle.std.specs.Prelude.{Vec}
 use Rattle.std.specs.declared.alloc.Global.{Global}
 use Rattle.pf_core.specs.declared.command.Command.{Command}
 use Rattle.pf_session.specs.{Laws.Server.attends-seen, Server.SessionRuns.{AreMeant, TakesInSession}}
-use Rattle.pf_session.proofs.{AnsweredLines.{all-taken, answers-behind, cut-longer, line-answers}, Running.read-meant}
+use Rattle.pf_session.proofs.{AnsweredLines.{all-taken, answers-onto, cut-longer, line-answers}, Running.read-meant}
 use Rattle.pf_session.proofs.server.session.SessionAnswerLine.take_line.Goals as goal
 
 pub returns-in_err-answer_waiting : goal.returns-in_err-answer_waiting
 returns-in_err-answer_waiting g c = λ lines whole meant is.
     let (e, failed, same) = err_from_is_err_and c.from_residual.result c.from_residual.ensures.1 in
-    rw failed (cut-longer (TakesInSession g.G.Gate.passed g.J.Naming.base g.J.Chapter.setting) (whole ∷ []) (c.in_err-answer_waiting.ensures.told lines meant))
+    rw failed (cut-longer (TakesInSession g.G.Gate.passed g.J.Naming.base g.J.Chapter.setting) (whole ∷ []) (c.in_err-answer_waiting.ensures.reported lines meant))
 
 pub returns-then-may_judge : goal.returns-then-may_judge
 returns-then-may_judge g c = λ lines whole meant is.
@@ -21,7 +21,7 @@ returns-then-may_judge g c = λ lines whole meant is.
     let new = c.answer_line.new.self in
     let whole_takes = attends-seen passed base setting old new whole text (subst (λ (l : List ℕ). TakesInSession passed base setting l old new text) is takes) in
     all-taken (TakesInSession passed base setting) (λ (ls : List (List ℕ)) (commands : Vec Command Global). AreMeant ls commands.items) c.answer_line.result (lines ++ whole ∷ []) c.args.self.now new c.answer_waiting.new.waiting (g.O.Write.contents c.args.writer.now) (g.O.Write.contents c.answer_line.new.writer) c.in_ok-answer_waiting.ensures.none
-    (answers-behind (TakesInSession passed base setting) c.answer_line.result (whole ∷ []) new (g.O.Write.contents c.answer_line.new.writer) (c.in_ok-answer_waiting.ensures.told lines meant)
+    (answers-onto (TakesInSession passed base setting) c.answer_line.result (whole ∷ []) new (g.O.Write.contents c.answer_line.new.writer) (c.in_ok-answer_waiting.ensures.reported lines meant)
     (line-answers (TakesInSession passed base setting) c.answer_line.result (g.O.Write.contents c.answer_waiting.new.writer) (g.O.Write.contents c.answer_line.new.writer) whole text whole_takes written))
 
 pub returns-in-Ok : goal.returns-in-Ok
@@ -30,4 +30,4 @@ returns-in-Ok g c = λ lines whole meant is.
 
 pub returns-in-Err : goal.returns-in-Err
 returns-in-Err g c = λ lines whole meant is.
-    c.answer_behind.ensures lines c.args.line.now whole meant (rw c.in-Err.ensures c.parse_line.ensures.exact) (rw c.in-Err.ensures c.parse_line.ensures.refused) is
+    c.answer_after.ensures lines c.args.line.now whole meant (rw c.in-Err.ensures c.parse_line.ensures.exact) (rw c.in-Err.ensures c.parse_line.ensures.refused) is

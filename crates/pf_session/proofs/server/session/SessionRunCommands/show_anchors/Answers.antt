@@ -10,7 +10,7 @@ returns g c =
       listed_text listed,
       record {
         same = same-still c.args.self.now;
-        runs = record { listed = listed; says = rw c.as_ref.ensures.value at c.anchors_below-listed.ensures; told = refl; same = refl };
+        runs = record { listed = listed; says = rw c.as_ref.ensures.value at c.anchors_below-listed.ensures; reported = refl; same = refl };
       },
       c.tell_anchors.ensures,
     )

@@ -8,7 +8,7 @@ returns g c = (
   shown_text c.status-status.result c.sessions.result,
   record {
     same = same-still c.args.self.now;
-    runs = record { status = c.status-status.result; says = rw c.as_ref.ensures.value at c.status-status.ensures; sessions = c.sessions.result; told = refl; same = refl };
+    runs = record { status = c.status-status.result; says = rw c.as_ref.ensures.value at c.status-status.ensures; sessions = c.sessions.result; reported = refl; same = refl };
   },
   c.show.ensures,
 )

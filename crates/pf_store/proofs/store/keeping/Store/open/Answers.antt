@@ -1,5 +1,5 @@
 use Rattle.std.proofs.Common.{◌≡◌, ◌+◌, ◌∙◌, ℕ, true, false, List, inl, refl, sym, ap, subst, arith}
-use Rattle.pf_disk.proofs.Writing.{at_most, told, weakened}
+use Rattle.pf_disk.proofs.Writing.{at_most, failed_as, weakened}
 use Rattle.pf_disk.specs.Runs.{MayWrite}
 use Rattle.pf_snap.specs.{Faults.is_fault as looked_fault, declared.fault.{LookFault.LookFault, LookFault.TheVariants.{BadSize, NoBank, Corrupt, Memory, Fault}}}
 use Rattle.pf_snap.specs.{Looked.content_of, declared.header.TheConstants.NEWEST}
@@ -65,7 +65,7 @@ returns-in-Ok-clause-writes g c =
     let old = c.args.disk in
     let l = c.in-Ok.looked in
     let P = IsOfOpening (d.seen old) (d.unsynced old) in
-    told (calm c.in-Err-replay.fault (MakesNone (l.broken ≡ true) l.at (content_of l)) c.in-Err-replay.ensures.refused)
+    failed_as (calm c.in-Err-replay.fault (MakesNone (l.broken ≡ true) l.at (content_of l)) c.in-Err-replay.ensures.refused)
     (subst (λ x. MayWrite d old x 15 false P) (sym c.into_disk.ensures) (at_most {most = 15} (weakened {Q = P} c.in-Ok.ensures.unwritten.run (λ i image. inl image)) (omega arith)))
 
 same_fault : (fault : LookFault) → is_fault (unlooked fault) ≡ looked_fault fault
@@ -79,7 +79,7 @@ pub returns-clause-writes : goal.returns-clause-writes
 returns-clause-writes g c =
     let d = g.D.Disk in
     let old = c.args.disk in
-    told (ap is_fault c.into.ensures ∙ same_fault c.in-Err.fault)
+    failed_as (ap is_fault c.into.ensures ∙ same_fault c.in-Err.fault)
     (at_most {most = 15} (weakened {Q = IsOfOpening (d.seen old) (d.unsynced old)} c.in-Err.ensures.unwritten_err.run (λ i image. inl image)) (omega arith))
 
 pub returns-in-Ok-clause-refused : goal.returns-in-Ok-clause-refused

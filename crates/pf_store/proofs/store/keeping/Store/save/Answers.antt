@@ -1,10 +1,10 @@
 use Rattle.std.proofs.Common.{◌≡◌, ◌+◌, ◌-◌, ◌<◌, ◌≤◌, ◌∙◌, ℕ, Err, List, true, false, length, map, sym, ap, subst, inl, inr, arith}
 use Rattle.std.specs.Prelude.{◌⊎◌, if◌then◌else◌}
-use Rattle.pf_disk.proofs.Writing.{told, unmoved}
+use Rattle.pf_disk.proofs.Writing.{failed_as, unmoved}
 use Rattle.pf_disk.specs.Runs.{MayWrite}
 use Rattle.pf_core.specs.Durable.Changes.{PlainDurable}
 use Rattle.pf_snap.specs.{Banks.bank_size, declared.{banks.Banks.Banks, header.TheConstants.NEWEST}}
-use Rattle.pf_store.specs.declared.groups.recorded.Recorded.{Recorded}
+use Rattle.pf_store.specs.declared.encoding.recorded.Recorded.{Recorded}
 use Rattle.pf_store.specs.{Groups.{allows_group, made_all, IsRecordOf}, Lengths.payload_length, Openings.IsOfSave, StoreFaults.is_add_fault, Stores.{FindsRoom, Holds}, StoreKept.{PlainStore, store_with}}
 use Rattle.pf_store.proofs.{Allowing.{allowed_there, elsewhere}, Sized.{spare_roomy}}
 use Rattle.pf_store.proofs.Saving.{have_held, held_synced, saved, store_has, unsaved}
@@ -27,7 +27,7 @@ record_group-requires g c =
       allowed =
           subst (λ (v : ℕ). allows_group v (made_all es) ≡ true) (sym c.version_for-version.ensures)
           (allowed_there c.goes_here-here.result c.self.inside.banks.version es (λ here. (c.goes_here-here.ensures.0 here).0));
-      short = omega (arith, found.room.behind, size, (c.self.invariant c.if-self.false).ready.size.most);
+      short = omega (arith, found.room.room_left, size, (c.self.invariant c.if-self.false).ready.size.most);
     }
 
 pub add_to-requires-clause-made : goal.add_to-requires-clause-made
@@ -146,13 +146,13 @@ returns-in-Err-clause-writes g c =
     (λ i image going. unsaved c.self.inside.halted c.args.after.now c.self.view_is (c.self.invariant c.if-self.false) (c.requires.stands going).holds i image)
 
 pub returns-in-Ok-add_to-clause-writes : goal.returns-in-Ok-add_to-clause-writes
-returns-in-Ok-add_to-clause-writes g c = told (sym (ap is_add_fault c.in-Ok-add_to.is)) (adds g (goal.at.returns-in-Ok-add_to-clause-writes g c).After-add_to)
+returns-in-Ok-add_to-clause-writes g c = failed_as (sym (ap is_add_fault c.in-Ok-add_to.is)) (adds g (goal.at.returns-in-Ok-add_to-clause-writes g c).After-add_to)
 
 pub returns-in-Err-Memory-clause-writes : goal.returns-in-Err-Memory-clause-writes
-returns-in-Err-Memory-clause-writes g c = told (sym (ap is_add_fault (c.in-Err-Memory.is ∙ ap Err c.in-Err-Memory.field-0-is))) (adds g (goal.at.returns-in-Err-Memory-clause-writes g c).After-add_to)
+returns-in-Err-Memory-clause-writes g c = failed_as (sym (ap is_add_fault (c.in-Err-Memory.is ∙ ap Err c.in-Err-Memory.field-0-is))) (adds g (goal.at.returns-in-Err-Memory-clause-writes g c).After-add_to)
 
 pub returns-in-Err-Full-clause-writes : goal.returns-in-Err-Full-clause-writes
-returns-in-Err-Full-clause-writes g c = told (sym (ap is_add_fault (c.in-Err-Full.is ∙ ap Err c.in-Err-Full.field-0-is))) (adds g (goal.at.returns-in-Err-Full-clause-writes g c).After-add_to)
+returns-in-Err-Full-clause-writes g c = failed_as (sym (ap is_add_fault (c.in-Err-Full.is ∙ ap Err c.in-Err-Full.field-0-is))) (adds g (goal.at.returns-in-Err-Full-clause-writes g c).After-add_to)
 
 pub returns-clause-writes : goal.returns-clause-writes
-returns-clause-writes g c = told (sym (ap is_add_fault (c.in-Err-Fault.is ∙ ap Err c.in-Err-Fault.field-0-is))) (adds g (goal.at.returns-clause-writes g c).After-add_to)
+returns-clause-writes g c = failed_as (sym (ap is_add_fault (c.in-Err-Fault.is ∙ ap Err c.in-Err-Fault.field-0-is))) (adds g (goal.at.returns-clause-writes g c).After-add_to)

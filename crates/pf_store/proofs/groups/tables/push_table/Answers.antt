@@ -1,5 +1,0 @@
-use Rattle.pf_store.proofs.Pushed.{entries_fit}
-use Rattle.pf_store.proofs.groups.tables.push_table.Goals as goal
-
-pub returns-clause-fits : goal.returns-clause-fits
-returns-clause-fits c = entries_fit c.args.table.now c.entries-entries.ensures.table
