@@ -12,7 +12,7 @@ use Rattle.pf_tokens.specs.declared.{place.Place.Place, files.File.File, files.T
 use Rattle.pf_parse.specs.declared.{fault.Stop.Stop, parser.Mode.Mode, statements.Parsed.Parsed, tree.Braces.Braces, tree.Entry.Entry, tree.Product.Product, tree.Table.Table, tree.Tree.Tree}
 use Rattle.pf_parse.specs.declared.fault.Mistake.TheVariants as mistakes
 use Rattle.pf_parse.specs.{Stops.fault_at, Reading.Word}
-use Rattle.pf_interfaces.specs.declared.interface.Interface.{Interface}
+use Rattle.pf_values.specs.declared.interfaces.interface.Interface.{Interface}
 use Rattle.pf_conf.specs.Lines.{parsed_with}
 use Rattle.pf_conf.specs.declared.{fault.Spot.Spot, found.Conf.Conf, found.FilledTable.FilledTable, found.Found.Found, found.Mention.Mention, found.Ruleset.Ruleset, found.Waiting.Waiting}
 use Rattle.pf_conf.specs.declared.found.TheConstants.{RULE_LIMIT, RULESET_LIMIT, LINE_LIMIT}

@@ -19,7 +19,7 @@ use Rattle.pf_lists.specs.declared.rules.Mistake.TheVariants.{ManyCombinations}
 use Rattle.pf_addr.specs.Path.Paths.{path_text}
 use Rattle.pf_conf.specs.declared.found.TheConstants.{RULE_LIMIT, LINE_LIMIT}
 use Rattle.pf_parse.specs.Stops.{fault_at}
-use Rattle.pf_interfaces.specs.declared.interface.Interface.{Interface}
+use Rattle.pf_values.specs.declared.interfaces.interface.Interface.{Interface}
 use Rattle.pf_conf.specs.Lines.{parsed_with}
 use Rattle.pf_sources.specs.{Tables.filled, Steps.each}
 use Rattle.pf_conf.specs.Found.{nothing_found, is_full, has_rules, has_tables}

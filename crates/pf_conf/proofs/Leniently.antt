@@ -6,8 +6,8 @@ use Rattle.pf_tokens.specs.declared.{files.File.File, files.TheConstants.READING
 use Rattle.pf_tokens.specs.declared.token.Token.{Token}
 use Rattle.pf_parse.specs.declared.{fault.Stop.Stop, parser.Mode.TheVariants.{Strict, Lenient}, statements.Parsed.Parsed}
 use Rattle.pf_parse.specs.{Reading.Word, Lines.parsed}
-use Rattle.pf_interfaces.specs.declared.interface.Interface.{Interface}
-use Rattle.pf_interfaces.specs.Addresses.{with_addresses}
+use Rattle.pf_values.specs.declared.interfaces.interface.Interface.{Interface}
+use Rattle.pf_values.specs.Interfaces.Addresses.{with_addresses}
 use Rattle.pf_conf.specs.declared.{fault.Spot.Spot, found.Conf.Conf, found.Found.Found, found.Mention.Mention, found.Waiting.Waiting}
 use Rattle.pf_conf.specs.{Found.nothing_found, Lines.{spoof_checked, parsed_with}, Telling.{telling, first_spot}}
 use Rattle.pf_conf.specs.Resolving.{is_main, room_for, with_notes, with_tree, with_flat, with_file, with_load, with_waiting, load_numbered, loads_from, after_flat, flat_of, free_for, committed, main_file, resolved}

@@ -2,7 +2,7 @@
 use Rattle.std.proofs.Common.{◌≡◌, ℕ, suc, ◌+◌, ◌-◌, ◌<◌, ◌≤◌, List, Result, Ok, Err, refl, ap, ◌∙◌, arith}
 use Rattle.pf_tokens.specs.declared.files.File.{File}
 use Rattle.pf_parse.specs.declared.parser.Mode.{Mode}
-use Rattle.pf_interfaces.specs.declared.interface.Interface.{Interface}
+use Rattle.pf_values.specs.declared.interfaces.interface.Interface.{Interface}
 use Rattle.pf_conf.specs.declared.{found.Found.Found, fault.Unread.Unread, fault.Unread.TheVariants.{Faulty, Needs, Memory}}
 use Rattle.pf_conf.specs.{Telling.LeavesWanted, Resolving.{load_numbered, loads_from}}
 

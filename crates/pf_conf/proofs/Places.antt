@@ -12,9 +12,9 @@ use Rattle.pf_parse.specs.declared.fault.Mistake.TheVariants as mistakes
 use Rattle.pf_tokens.specs.declared.token.Kind.TheVariants.{Word}
 use Rattle.pf_tokens.specs.{Places.text_of, Words.same_kind}
 use Rattle.pf_parse.specs.{Stops.fault_at, Lines.parsed, Laws.{begins_rule, BeginsAt}}
-use Rattle.pf_interfaces.specs.declared.interface.Interface.{Interface}
-use Rattle.pf_interfaces.specs.Addresses.{with_addresses}
-use Rattle.pf_interfaces.proofs.Words.{words_are}
+use Rattle.pf_values.specs.declared.interfaces.interface.Interface.{Interface}
+use Rattle.pf_values.specs.Interfaces.Addresses.{with_addresses}
+use Rattle.pf_values.proofs.Words.{words_are}
 use Rattle.pf_conf.specs.declared.{found.TheConstants.RULE_LIMIT}
 use Rattle.pf_sources.specs.Steps.{each}
 use Rattle.pf_conf.specs.{Lines.{spoof_checked, parsed_with}, Laws.IsRulePlace}

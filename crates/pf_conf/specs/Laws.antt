@@ -4,7 +4,7 @@ use Rattle.pf_addr.specs.Path.Paths.{same_path}
 use Rattle.pf_tokens.specs.declared.{place.Place.Place, files.File.File, flat.Flat.Flat}
 use Rattle.pf_parse.specs.declared.{parser.Mode.Mode, statements.Parsed.Parsed, tree.Product.Product}
 use Rattle.pf_parse.specs.Laws.{BeginsAt}
-use Rattle.pf_interfaces.specs.declared.interface.Interface.{Interface}
+use Rattle.pf_values.specs.declared.interfaces.interface.Interface.{Interface}
 use Rattle.pf_table.specs.declared.limits.TheConstants.{TABLE_LIMIT}
 use Rattle.pf_conf.specs.declared.{found.Conf.Conf, found.FilledTable.FilledTable, found.Mention.Mention, found.Ruleset.Ruleset, found.TheConstants.{RULE_LIMIT, RULESET_LIMIT}}
 use Rattle.pf_conf.specs.{Lines.parsed_with, Resolving.flat_of}

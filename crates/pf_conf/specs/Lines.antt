@@ -2,8 +2,8 @@
 use Rattle.std.specs.Prelude.{Bool, List, [], ◌∷◌, Option, Some, None, Result, Ok, Err}
 use Rattle.pf_form.specs.Form.Forms.{◌>>=◌}
 use Rattle.pf_tokens.specs.declared.token.Token.{Token}
-use Rattle.pf_interfaces.specs.declared.interface.Interface.{Interface}
-use Rattle.pf_interfaces.specs.Addresses.{with_addresses, antispoof_in}
+use Rattle.pf_values.specs.declared.interfaces.interface.Interface.{Interface}
+use Rattle.pf_values.specs.Interfaces.Addresses.{with_addresses, antispoof_in}
 use Rattle.pf_parse.specs.declared.{fault.Stop.Stop, parser.Mode.Mode, statements.Parsed.Parsed}
 use Rattle.pf_parse.specs.declared.fault.Reason.TheVariants as reasons
 use Rattle.pf_parse.specs.{Reading.refused_at, Lines.parsed}

@@ -9,7 +9,7 @@ use Rattle.pf_tokens.specs.{Places.{start_of, text_of}, Files.text_of_file, Flat
 use Rattle.pf_parse.specs.declared.{fault.At.At, fault.Remark.Remark, fault.Stop.Stop, parser.Mode.Mode, tree.Load.Load, tree.Tree.Tree}
 use Rattle.pf_parse.specs.declared.fault.Mistake.TheVariants as mistakes
 use Rattle.pf_parse.specs.Reading.{Word}
-use Rattle.pf_interfaces.specs.declared.interface.Interface.{Interface}
+use Rattle.pf_values.specs.declared.interfaces.interface.Interface.{Interface}
 use Rattle.pf_conf.specs.declared.{fault.Spot.Spot, fault.Note.Note, fault.Unread.Unread, found.Conf.Conf, found.Found.Found, found.Ruleset.Ruleset, found.Mention.Mention, found.Waiting.Waiting, found.TheConstants.{LINE_LIMIT, TICKET_BYTES}}
 use Rattle.pf_conf.specs.{Lines.parsed_with, Found.{nothing_found, is_full, has_rules}, Rulesets.with_rulesets, Filling.with_tables}
 use Rattle.pf_conf.specs.Telling.{spot_of, first_spot, unread_at, telling, telling_with, telling_at}

@@ -4,7 +4,7 @@ ghost use Rattle.pf_form.specs.{Form.Forms.read_all, Form.Words.words_of};
 ghost use Rattle.pf_rule.specs.{RuleGrammar.rule, RuleText.rule_text};
 ghost use Rattle.pf_tokens.specs.declared.files.File.{File};
 ghost use Rattle.pf_parse.specs.declared.{parser.Mode.Mode, parser.Mode.TheVariants.{Strict, Lenient}};
-ghost use Rattle.pf_interfaces.specs.declared.interface.Interface.{Interface};
+ghost use Rattle.pf_values.specs.declared.interfaces.interface.Interface.{Interface};
 ghost use Rattle.pf_conf.specs.declared.{found.Conf.Conf, found.Ruleset.Ruleset};
 ghost use Rattle.pf_conf.specs.{Rulesets.PlacedRule, Resolving.resolved, Laws.{IsRulePlace, FitsCommit}};
 

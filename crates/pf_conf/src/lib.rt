@@ -4,7 +4,7 @@
 //! The modules, each of which uses only those before it: `fault` (what a user is told, and where), `tables` (texts of tables' entries),
 //! `found` (rulesets, tables and what is still to be loaded), `rulesets` (rules in braces), `filling` (the tables of a file), `telling`
 //! (places as a user finds them), `lines` (a file's lines), `resolving` (all files), `shown` (what is printed) and `laws`. Where interfaces
-//! are named as hosts, pf_interfaces puts their addresses. The lines of a file are read by pf_parse, the lists of a rule are multiplied by
+//! are named as hosts, pf_values::interfaces puts their addresses. The lines of a file are read by pf_parse, the lists of a rule are multiplied by
 //! pf_lists, and what fills a table comes from pf_sources.
 //!
 //! The crate opens no file: [`resolve`] answers with the name of one that isn't given, and whoever reads files asks again. It knows no
@@ -35,7 +35,7 @@ pub use laws::{
     a_commit_can_have_it, lenient_takes_what_strict_takes, printed_rules_are_read_again,
     rules_stand_at_their_words,
 };
-pub use pf_interfaces::{Interface, read_interface};
 pub use pf_parse::{At, Cause, LeftOut, Mistake, Mode, Reason, Remark};
+pub use pf_values::interfaces::{Interface, read_interface};
 pub use resolving::resolve;
 pub use shown::write_conf;

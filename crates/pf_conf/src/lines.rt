@@ -1,12 +1,12 @@
 //! The lines of a file, where interfaces have addresses.
 ghost use Rattle.std.specs.Prelude.{◌≡◌};
-ghost use Rattle.pf_interfaces.specs.Addresses.{antispoof_in};
+ghost use Rattle.pf_values.specs.Interfaces.Addresses.{antispoof_in};
 ghost use Rattle.pf_parse.specs.Stops.{Gives};
 ghost use Rattle.pf_conf.specs.Lines.{spoof_refused, parsed_with};
 
-use pf_interfaces::{Interface, antispoof_in, with_addresses};
 use pf_parse::{Mistake, Mode, Parsed, Reason, Stop, parse, refusal};
 use pf_tokens::Token;
+use pf_values::interfaces::{Interface, antispoof_in, with_addresses};
 use std::alloc::Global;
 
 /// Refuses the first `antispoof`, one of whose rules is for all interfaces but one.

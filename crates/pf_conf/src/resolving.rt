@@ -11,11 +11,11 @@ use crate::found::{Conf, Found, LINE_LIMIT, Mention, Ruleset, TICKET_BYTES, Wait
 use crate::lines::parse_with;
 use crate::telling::{unread_at, unread_of};
 use pf_addr::path::Path;
-use pf_interfaces::Interface;
 use pf_parse::{At, Load, Mistake, Mode, Parsed, Remark, Stop, Tree};
 use pf_tokens::{
     Files, Flat, INCLUDE_LIMIT, Items, Macros, Place, READING_LIMIT, TokenStop, text_of_file,
 };
+use pf_values::interfaces::Interface;
 use std::alloc::{AllocError, Global};
 
 /// A note as a user is told it.

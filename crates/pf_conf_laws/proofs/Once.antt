@@ -17,7 +17,7 @@ use Rattle.pf_conf.specs.Found.{nothing_found, is_full, has_rules, has_tables}
 use Rattle.pf_conf.specs.Rulesets.{PlacedRule, rules_in, with_ruleset, with_rules, free_path, path_of_braces, Opened, with_braces, with_rulesets}
 use Rattle.pf_sources.specs.Sources.{gathered}
 use Rattle.pf_conf.specs.Filling.{Defined, with_filled, is_defined, with_table_path, with_table, with_sources, with_definition, with_tables}
-use Rattle.pf_interfaces.specs.declared.interface.Interface.{Interface}
+use Rattle.pf_values.specs.declared.interfaces.interface.Interface.{Interface}
 use Rattle.pf_conf.specs.Lines.{parsed_with}
 use Rattle.pf_conf.specs.Telling.{telling, unread_at, first_spot}
 use Rattle.pf_conf.specs.Resolving.{is_main, room_for, free_for, with_notes, with_loads, with_tree, flat_of, after_flat, main_file, commit_length, with_flat, with_file, with_load, with_waiting, load_numbered, loads_from, committed, resolved}

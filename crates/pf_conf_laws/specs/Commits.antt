@@ -1,7 +1,7 @@
 -- What one commit has of a file (pf(4), DIOCXCOMMIT): its rulesets are the rules of paths, and the tables at paths.
 use Rattle.std.specs.Prelude.{◌≡◌, ◌≤◌, ℕ, ◌+◌, List, length, sum_by, codes, Ok}
 use Rattle.pf_tokens.specs.declared.files.File.{File}
-use Rattle.pf_interfaces.specs.declared.interface.Interface.{Interface}
+use Rattle.pf_values.specs.declared.interfaces.interface.Interface.{Interface}
 use Rattle.pf_parse.specs.declared.parser.Mode.{Mode}
 use Rattle.pf_parse.specs.Reading.{Word}
 use Rattle.pf_conf.specs.declared.{found.Conf.Conf, found.Ruleset.Ruleset, found.TheConstants.{RULESET_LIMIT, LINE_LIMIT}}

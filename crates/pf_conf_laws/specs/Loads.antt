@@ -3,7 +3,7 @@ use Rattle.std.specs.Prelude.{◌≡◌, ◌<◌, ◌≤◌, ℕ, List, length, 
 use Rattle.pf_tokens.specs.declared.{files.File.File, files.TheConstants.READING_LIMIT}
 use Rattle.pf_parse.specs.declared.parser.Mode.{Mode}
 use Rattle.pf_parse.specs.Reading.{Word}
-use Rattle.pf_interfaces.specs.declared.interface.Interface.{Interface}
+use Rattle.pf_values.specs.declared.interfaces.interface.Interface.{Interface}
 use Rattle.pf_conf.specs.{Found.nothing_found, Resolving.{main_file, with_file, loads_from}}
 use Rattle.pf_conf_laws.specs.Types.{Found}
 

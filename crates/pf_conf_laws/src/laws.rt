@@ -8,7 +8,7 @@ ghost use Rattle.pf_tokens.specs.declared.lexing.Source.TheVariants as sources;
 ghost use Rattle.pf_tokens.specs.{Lexing.lex, Places.text_of, Laws.bytes_of};
 ghost use Rattle.pf_parse.specs.declared.{parser.Mode.Mode, statements.Parsed.Parsed, tree.Tree.Tree};
 ghost use Rattle.pf_parse.specs.{Lists.{interface, protocol, port, listed_item, listed_hosts, hosts_in, item_more}, Options.options_more, Lines.{parts_more, lines_more, parsed}};
-ghost use Rattle.pf_interfaces.specs.declared.interface.Interface.{Interface};
+ghost use Rattle.pf_values.specs.declared.interfaces.interface.Interface.{Interface};
 ghost use Rattle.pf_conf.specs.declared.found.Conf.{Conf};
 ghost use Rattle.pf_conf.specs.{Resolving.resolved, Rulesets.{PlacedRule, skips_in, written_in, rules_in}};
 ghost use Rattle.pf_load.specs.Laws.{AreOnce};

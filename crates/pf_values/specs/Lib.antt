@@ -1,3 +1,4 @@
+pub mod Interfaces
 pub mod Numbers
 pub mod Named
 pub mod Ports

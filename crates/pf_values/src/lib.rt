@@ -10,6 +10,7 @@
 #![tactic(auto)]
 
 mod addresses;
+pub mod interfaces;
 mod names;
 mod numbers;
 mod ports;

@@ -2,8 +2,8 @@
 use Rattle.std.proofs.{Common.{◌≡◌, ℕ, ◌+◌, ◌<◌, ◌≤◌, List, [], length, get_or, drop, map, Result, Ok, Err, refl, ap, ◌∙◌}, lemmas.List.{drop_all, drop_more}}
 use denote.Ref.{Bor}
 use Rattle.pf_parse.specs.Reading.{Word}
-use Rattle.pf_interfaces.specs.declared.interface.Interface.{Interface}
-use Rattle.pf_interfaces.specs.Interfaces.{interface_of}
+use Rattle.pf_values.specs.declared.interfaces.interface.Interface.{Interface}
+use Rattle.pf_values.specs.Interfaces.Interfaces.{interface_of}
 use Rattle.pfd_conf.specs.declared.fault.Fault.{Fault}
 use Rattle.pfd_conf.specs.declared.fault.Fault.TheVariants as faults
 use Rattle.pfd_conf.specs.Taking.{with_given, interfaces_given, AreGiven}

@@ -5,8 +5,8 @@ use Rattle.std.specs.Io.KnownBytes.{Appends, Keeps}
 use Rattle.pf_form.specs.Form.Forms.{◌>>=◌}
 use Rattle.pf_addr.specs.Writing.{WritesFront}
 use Rattle.pf_tokens.specs.declared.{files.File.File, files.Contents.Contents}
-use Rattle.pf_interfaces.specs.declared.interface.Interface.{Interface}
-use Rattle.pf_interfaces.specs.Interfaces.{interface_of}
+use Rattle.pf_values.specs.declared.interfaces.interface.Interface.{Interface}
+use Rattle.pf_values.specs.Interfaces.Interfaces.{interface_of}
 use Rattle.pf_parse.specs.declared.parser.Mode.{Mode}
 use Rattle.pf_parse.specs.Reading.{Word}
 use Rattle.pf_conf.specs.declared.{fault.Unread.Unread, found.Conf.Conf}

@@ -1,7 +1,7 @@
 //! A pf.conf with all files that it names.
 ghost use Rattle.std.specs.Prelude.{◌≡◌, [], map, Ok, IfOk, IfErr, OnOk};
 ghost use Rattle.std.specs.Fn.{FnReturnsAt};
-ghost use Rattle.pf_interfaces.specs.Interfaces.{interface_of};
+ghost use Rattle.pf_values.specs.Interfaces.Interfaces.{interface_of};
 ghost use Rattle.pf_conf.specs.Resolving.{resolved};
 ghost use Rattle.pfd_conf.specs.Taking.{AreRead, IsRefused, Refuses, with_given, interfaces_given, AreGiven, GoesOn};
 

@@ -1,5 +1,0 @@
-use Rattle.pf_interfaces.proofs.Words.{words_are}
-use Rattle.pf_interfaces.proofs.laws.words_are_the_files.Goals as goal
-
-pub returns : goal.returns
-returns c = words_are
