@@ -1,3 +1,16 @@
+pub mod Lists
+pub mod Once
+pub mod Readings
+pub mod Loads
+pub mod Walks
+pub mod Turns
+pub mod Spelled
+pub mod Yields
+pub mod Words
+pub mod Standing
+pub mod Pieces
+pub mod Rulesets
+pub mod Spaces
 pub mod Asked
 pub mod Differing
 pub mod Loaded

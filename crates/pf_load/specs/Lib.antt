@@ -1,3 +1,4 @@
+pub mod Files
 pub mod Changes
 pub mod Served
 pub mod Laws

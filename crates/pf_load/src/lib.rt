@@ -1,7 +1,7 @@
 //! Loads of a pf.conf (pfctl(8), -f): what one leaves, what it would change, and what a server has.
 //!
 //! The modules, each of which uses only those before it: `changes` (what a load would change) and `served` (what a server has). `laws` says
-//! what a load leaves. A load itself is [`load`], of pf_commit.
+//! what a load leaves, and `files` what a file means. A load itself is [`load`], of pf_commit.
 //!
 //! The crate knows no socket: lines go to a writer, and replies come from a reader. What a file means is pf_conf's; what a line does is
 //! pf_core's.
@@ -11,6 +11,7 @@
 #![tactic(auto)]
 
 mod changes;
+pub mod files;
 mod laws;
 mod served;
 

@@ -4,11 +4,11 @@
 //! The modules, each of which uses only those before it: `interface` (interfaces as they are given), `mention` (what tokens mention),
 //! `hosts` (where hosts stand), `addresses` (tokens with addresses in place of mentions) and `laws`.
 //!
-//! The crate asks no machine for its interfaces. An interface that isn't given stays a name, which pf_parse refuses as a host.
+//! No machine is asked for its interfaces. An interface that isn't given stays a name, which pf_parse refuses as a host.
 //!
-//! Read `specs/Interfaces/Interfaces.antt` first, then `specs/Interfaces/Mentions.antt`, `specs/Interfaces/Hosts.antt` and `specs/Interfaces/Addresses.antt`. Proved: each function
-//! gives what its definition says. Laws: without interfaces the tokens stay as they are (`without_interfaces_nothing_changes`); no word
-//! without quotes is added to a file (`words_are_the_files`).
+//! Read in `specs/Interfaces` first `Interfaces`, then `Mentions`, `Hosts` and `Addresses`. Proved: each function gives what its definition
+//! says. Laws: without interfaces the tokens stay as they are (`without_interfaces_nothing_changes`); no word without quotes is added to a
+//! file (`words_are_the_files`).
 
 mod addresses;
 mod hosts;

@@ -3,7 +3,8 @@
 //! Names of protocols and services are built in, so that a file means the same on every machine. Decimal numbers have no zeros in front.
 //! A text that is no such value has one mistake.
 //!
-//! The modules: `numbers` (decimal numbers), and `names`, `protocols`, `ports` and `addresses`, which use it.
+//! The modules: `numbers` (decimal numbers), and `names`, `protocols`, `ports` and `addresses`, which use it; `interfaces` (a file's tokens
+//! with the addresses of interfaces in place of their names).
 //!
 //! Read `specs/Numbers.antt` first, then `specs/Named.antt`, `specs/Ports.antt` and `specs/Addresses.antt`. Proved: each function gives what
 //! its definition says.

@@ -1,5 +1,0 @@
-use Rattle.pf_conf_laws.proofs.Spaces.{words_are_read}
-use Rattle.pf_conf_laws.proofs.laws.words_with_spaces_are_these_words.Goals as goal
-
-pub returns : goal.returns
-returns c = words_are_read
