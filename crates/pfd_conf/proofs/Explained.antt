@@ -4,8 +4,8 @@ use Rattle.std.specs.{Prelude.IfErr, Io.KnownBytes.{Appends, Keeps}}
 use Rattle.pf_addr.specs.Writing.{WritesFront, Appends-kept}
 use Rattle.pf_form.specs.Form.Words.{words_of}
 use Rattle.pf_rule.specs.{Packets.PlainPacket, PacketGrammar.packet, Refusals.reading}
-use Rattle.pf_case.specs.declared.trace.Traced.{Traced}
-use Rattle.pf_case.specs.Matches.{IsTrace}
+use Rattle.pfd_conf.specs.declared.case.trace.Traced.{Traced}
+use Rattle.pfd_conf.specs.Case.Matches.{IsTrace}
 use Rattle.pfd_conf.specs.declared.{firewall.Firewall.Firewall, fault.Fault.Fault}
 use Rattle.pfd_conf.specs.declared.fault.Fault.TheVariants as faults
 use Rattle.pfd_conf.specs.Explaining.{IsExplained, explained_text}

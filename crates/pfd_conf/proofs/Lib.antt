@@ -1,3 +1,4 @@
+pub mod Matching
 pub mod Tallies
 pub mod Given
 pub mod Texts

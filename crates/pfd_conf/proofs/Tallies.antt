@@ -3,7 +3,7 @@ use Rattle.std.proofs.Common.{◌≡◌, ℕ, ◌+◌, ◌-◌, ◌^◌, ◌<◌
 use Rattle.std.proofs.Math.Nat.{min-eq_left}
 use Rattle.std.proofs.lemmas.List.Sums.{sum_by-cons}
 use Rattle.std.specs.Prelude.{count_by, sum_by}
-use Rattle.pf_case.specs.Cases.{same}
+use Rattle.pfd_conf.specs.Case.Cases.{same}
 use Rattle.pfd_conf.specs.declared.{outcomes.Outcome.Outcome, outcomes.Tried.Tried}
 use Rattle.pfd_conf.specs.Reports.{has, counted, tally, case_count}
 

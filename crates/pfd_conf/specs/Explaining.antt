@@ -10,8 +10,8 @@ use Rattle.pf_anchor.specs.declared.verdict.RuleVerdict.{RuleVerdict}
 use Rattle.pf_tokens.specs.declared.files.File.{File}
 use Rattle.pf_conf.specs.declared.found.Ruleset.{Ruleset}
 use Rattle.pf_conf.specs.Shown.{newline}
-use Rattle.pf_case.specs.declared.trace.{Matched.Matched, Traced.Traced}
-use Rattle.pf_case.specs.{Cases.passes, Matches.IsTrace}
+use Rattle.pfd_conf.specs.declared.case.trace.{Matched.Matched, Traced.Traced}
+use Rattle.pfd_conf.specs.Case.{Cases.passes, Matches.IsTrace}
 use Rattle.pfd_conf.specs.declared.{firewall.Firewall.Firewall, fault.Fault.Fault}
 use Rattle.pfd_conf.specs.declared.fault.Fault.TheVariants as faults
 use Rattle.pfd_conf.specs.{Firewalls.{Origins, origins_of, ruleset_at, decided_in}, Outcomes.mistake_of, Reports.got_text, Covering.line_of_rule}

@@ -1,3 +1,4 @@
+pub mod Case
 pub mod Taking
 pub mod Firewalls
 pub mod Outcomes
@@ -10,4 +11,3 @@ pub use Rattle.pf_form.specs.Form
 pub use Rattle.pf_addr.specs.Writing
 pub use Rattle.pf_conf.specs.Resolving
 pub use Rattle.pf_conf.specs.Shown
-pub use Rattle.pf_case.specs.Cases

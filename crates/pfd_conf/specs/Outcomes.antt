@@ -8,8 +8,8 @@ use Rattle.pf_rule.specs.declared.fault.TextFault.{TextFault, TheVariants.{BadWo
 use Rattle.pf_rule.specs.Refusals.{reading}
 use Rattle.pf_anchor.specs.{Evaluation.judged}
 use Rattle.pf_anchor.specs.declared.verdict.RuleVerdict.{RuleVerdict}
-use Rattle.pf_case.specs.declared.{case.Case.Case, wanted.Wanted.Wanted}
-use Rattle.pf_case.specs.Cases.{case, passes, wants}
+use Rattle.pfd_conf.specs.declared.case.{case.Case.Case, wanted.Wanted.Wanted}
+use Rattle.pfd_conf.specs.Case.Cases.{case, passes, wants}
 use Rattle.pfd_conf.specs.declared.{fault.CaseMistake.CaseMistake, fault.Fault.Fault, firewall.Firewall.Firewall, outcomes.Outcome.Outcome, outcomes.Cases.Cases, outcomes.Tried.Tried, outcomes.TheConstants.CASES_LIMIT}
 use Rattle.pfd_conf.specs.declared.fault.CaseMistake.TheVariants.{Misplaced, LineEnds, Long, Protocol, Families}
 use Rattle.pfd_conf.specs.declared.fault.Fault.TheVariants as faults

@@ -4,7 +4,7 @@ use Rattle.std.specs.{List.{slice_get, flat_map}, Option.option_map_or}
 use Rattle.pf_form.specs.Form.Words.{Word, words_of, texts}
 use Rattle.pf_conf.specs.declared.found.Ruleset.{Ruleset}
 use Rattle.pf_conf.specs.Shown.{newline}
-use Rattle.pf_case.specs.Cases.{word_of, decided_text, same}
+use Rattle.pfd_conf.specs.Case.Cases.{word_of, decided_text, same}
 use Rattle.pfd_conf.specs.declared.{firewall.Decided.Decided, outcomes.Outcome.Outcome, outcomes.Tried.Tried, report.Tally.Tally, report.TheConstants.PACKET_WORDS}
 use Rattle.pfd_conf.specs.{Firewalls.{Origins, origin_text}, Outcomes.line_of}
 

@@ -5,13 +5,13 @@ ghost use Rattle.pf_form.specs.Form.Words.{words_of};
 ghost use Rattle.pf_rule.specs.{PacketGrammar.packet, Refusals.reading};
 ghost use Rattle.pfd_conf.specs.Explaining.{joined, IsExplained, RefusesPacket, note_text, verdict_line, explained_text, line_of_match, lines_of_matches};
 
+use crate::case::{Matched, Traced, passes, read_packet, rules_that_match};
 use crate::fault::Fault;
 use crate::firewall::{Decided, Firewall, Origins, ruleset_at};
 use crate::outcomes::mistake_of;
 use crate::report::written;
 use pf_addr::write_more;
 use pf_anchor::RuleVerdict;
-use pf_case::{Matched, Traced, passes, read_packet, rules_that_match};
 use pf_form::form::words;
 use pf_rule::Packet;
 use std::alloc::{AllocError, Global};

@@ -2,12 +2,12 @@
 ghost use Rattle.std.specs.{Prelude.{◌≡◌, ◌++◌, [], Ok, IfOk, IfErr, OnOk}, List.slice_get, Option.option_to_list};
 ghost use Rattle.pf_form.specs.Form.Words.{texts, words_of};
 ghost use Rattle.pf_rule.specs.Refusals.{reading};
-ghost use Rattle.pf_case.specs.Cases.{case};
+ghost use Rattle.pfd_conf.specs.Case.Cases.{case};
 ghost use Rattle.pfd_conf.specs.Outcomes.{Gives, lines_of, line_of, if_some, is_left_out, word_mistake, mistake_at, mistake_of, outcome_of, outcome_or, outcome_at, outcomes_from, outcomes_of, RefusesCases, AreTried};
 
+use crate::case::{Case, passes, read_case};
 use crate::fault::{CaseMistake, Fault};
 use crate::firewall::{Decided, Firewall};
-use pf_case::{Case, passes, read_case};
 use pf_form::form::{Kind, Words, is_blank};
 use pf_rule::TextFault;
 use pf_tokens::{Bytes, Items};

@@ -2,16 +2,16 @@
 ghost use Rattle.std.specs.Prelude.{◌≡◌, ◌≤◌, ◌-◌, ◌^◌, Ok, IfErr, OnOk, count_by};
 ghost use Rattle.pf_addr.specs.Writing.{Continues, Writes};
 ghost use Rattle.pf_form.specs.Form.Words.{texts};
-ghost use Rattle.pf_case.specs.Cases.{at_text};
+ghost use Rattle.pfd_conf.specs.Case.Cases.{at_text};
 ghost use Rattle.pfd_conf.specs.declared.fault.Fault.TheVariants.{Output};
 ghost use Rattle.pfd_conf.specs.Firewalls.{origins_of};
 ghost use Rattle.pfd_conf.specs.Reports.{spaced, packet_of, wanted_of, path_of, rule_text_of, got_text, difference_text, failure_text, failure_line, failures_text, all_failures, has, counted, tally, tally_text, report_text};
 
+use crate::case::action_text;
 use crate::fault::Fault;
 use crate::firewall::{Decided, Firewall, Origins};
 use crate::outcomes::{Outcome, Tried};
 use pf_addr::{write_more, write_more_number};
-use pf_case::action_text;
 use pf_form::form::{Words, words};
 use std::alloc::Global;
 use std::io::{self, Write};
