@@ -1,12 +1,16 @@
 -- What the parts of a load come to.
 use Rattle.std.proofs.Common.{◌≡◌, ℕ, ◌+◌, ◌≤◌, min, true, false, List, [], ◌∷◌, ◌++◌, length, map, take, Option, Result, Ok, Err, sym, ap, ◌∙◌, subst, arith, append_assoc, append-nil, length-append}
-use Rattle.std.proofs.lemmas.{Grind.flat_map-append, List.{take-append-le, take_min}}
+use Rattle.std.proofs.lemmas.{Grind.flat_map-append, List.{take-append-le, take_min, map-append}}
 use Rattle.std.specs.{List.flat_map, Io.KnownBytes.Appends, Result.{IsErrAnd, is_err}}
 use Rattle.pf_addr.specs.Writing.{Writes, WritesFront, WritesFront-then, Appends-none, Appends-then}
 use Rattle.pf_ticket.specs.declared.name.RulesetName.{RulesetName}
-use Rattle.pf_conf.specs.declared.found.Conf.{Conf}
-use Rattle.pf_commit.specs.declared.{fault.Fault.Fault, naming.Begun.Begun}
-use Rattle.pf_commit.specs.{Naming.ruleset_names, Lines.{begin_line, load_lines, commit_line, rollback_line, whole_load}, Loading.{name_of, sent_by, SentPart, SentStopped, Attempts, Loads}}
+use Rattle.pf_conf.specs.declared.{found.Conf.Conf, commit.naming.Begun.Begun}
+use Rattle.pf_conf.specs.Commit.{Naming.ruleset_names, Lines.{begin_line, load_lines, commit_line, rollback_line, whole_load}}
+use Rattle.pf_commit.specs.declared.fault.Fault.{Fault}
+use Rattle.pf_commit.specs.Loading.{name_of, sent_by, SentPart, SentStopped, Attempts, Loads}
+
+pub name_pushed : (bs : List Begun) (b : Begun) → map name_of (bs ++ b ∷ []) ≡ map name_of bs ++ b.name ∷ []
+name_pushed bs b = map-append name_of bs (b ∷ [])
 
 in_order : (begun : List Begun) (c : Conf) → begin_line (ruleset_names c) ++ (load_lines begun c ++ commit_line begun) ≡ whole_load begun c
 in_order begun c = sym (append_assoc (begin_line (ruleset_names c)) (load_lines begun c) (commit_line begun))

@@ -3,9 +3,9 @@
 use Rattle.std.specs.{Prelude.{◌≡◌, ℕ, ◌+◌, ◌<◌, ◌≤◌, List, ◌++◌, length, take, map, Option, Result, Ok, Err}, List.flat_map, Io.KnownBytes.Appends}
 use Rattle.pf_form.specs.Form.Words.{Word}
 use Rattle.pf_ticket.specs.declared.name.RulesetName.{RulesetName}
-use Rattle.pf_conf.specs.declared.found.Conf.{Conf}
-use Rattle.pf_commit.specs.declared.{fault.Fault.Fault, naming.Begun.Begun}
-use Rattle.pf_commit.specs.{Naming.ruleset_names, Lines.{begin_line, whole_load, rollback_line}}
+use Rattle.pf_conf.specs.declared.{found.Conf.Conf, commit.naming.Begun.Begun}
+use Rattle.pf_conf.specs.Commit.{Naming.ruleset_names, Lines.{begin_line, whole_load, rollback_line}}
+use Rattle.pf_commit.specs.declared.fault.Fault.{Fault}
 
 abbrev pub name_of : Begun → RulesetName
 name_of b = b.name

@@ -1,15 +1,14 @@
 //! A load.
 ghost use Rattle.std.specs.{Prelude.{◌≡◌, ◌<◌, ◌≤◌, ◌++◌, true, length, map, IfOk}, Result.is_err};
 ghost use Rattle.pf_addr.specs.Writing.{Writes, WritesFront};
-ghost use Rattle.pf_commit.specs.Lines.{begin_line, load_lines, commit_line, rollback_line};
-ghost use Rattle.pf_commit.specs.Naming.{ruleset_names};
+ghost use Rattle.pf_conf.specs.Commit.Lines.{begin_line, load_lines, commit_line, rollback_line};
+ghost use Rattle.pf_conf.specs.Commit.Naming.{ruleset_names};
 ghost use Rattle.pf_commit.specs.Loading.{name_of, Attempts, Loads};
 
 use crate::fault::Fault;
-use crate::lines::{begin_text, commit_text, load_text, rollback_text};
-use crate::naming::{Begun, ruleset_names};
 use crate::replies::{first_line, heed, read_reply, send};
 use pf_conf::Conf;
+use pf_conf::commit::{Begun, begin_text, commit_text, load_text, rollback_text, ruleset_names};
 use pf_form::form::words;
 use pf_ticket::RulesetName;
 use pf_tokens::Items;
@@ -59,7 +58,7 @@ fn offer<B: BufRead, W: Write>(
 }
 
 /// Each of these rulesets, with its ticket.
-#[tactic(auto, using(crate::proofs::Steps::take_item, crate::proofs::Steps::name_pushed))]
+#[tactic(auto, using(pf_conf::proofs::CommitSteps::take_item, crate::proofs::Attempts::name_pushed))]
 fn with_tickets(
     alloc: Global,
     names: &[RulesetName],

@@ -8,3 +8,5 @@ pub mod Leniently
 pub mod Kept
 pub mod Places
 pub mod Fitting
+pub mod CommitSteps
+pub mod CommitTexts

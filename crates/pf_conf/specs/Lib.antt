@@ -7,4 +7,5 @@ pub mod Telling
 pub mod Lines
 pub mod Resolving
 pub mod Shown
+pub mod Commit
 pub mod Laws

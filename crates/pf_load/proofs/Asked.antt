@@ -5,7 +5,7 @@ use Rattle.std.proofs.lemmas.Grind.{flat_map-append}
 use Rattle.pf_addr.specs.Writing.{Writes, WritesFront, Writes-then, Appends-none}
 use Rattle.pf_form.specs.Form.Words.{Word}
 use Rattle.pf_load.specs.Served.{Asked, asked_text, AsksOnly}
-use Rattle.pf_commit.proofs.Texts.{no_front}
+use Rattle.pf_conf.proofs.CommitTexts.{no_front}
 
 pub asks_none : {A E : Type 0} (r : Result A E) (old : Option (List ℕ)) → AsksOnly r old old
 asks_none (Ok u) old = record { asked = []; sent = Appends-none old }

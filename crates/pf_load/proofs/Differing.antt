@@ -8,7 +8,7 @@ use Rattle.pf_table.specs.Entries.{PlainEntry}
 use Rattle.pf_table.specs.declared.answer.Deletion.{Deletion}
 use Rattle.pf_conf.specs.Tables.{entry_text}
 use Rattle.pf_load.specs.Changes.{changes_text, WritesDifference, if_absent, absent_by}
-use Rattle.pf_commit.proofs.Steps.{drop_item}
+use Rattle.pf_conf.proofs.CommitSteps.{drop_item}
 
 -- ---- two lists
 

@@ -15,8 +15,8 @@ use Rattle.pf_core.specs.declared.command.{Transaction.Transaction, Transaction.
 use Rattle.pf_core.specs.{Commands.transacted, Durable.Changes.{PlainDurable, PlainChange, entries_at, applied}, Laws.{Commands.AreSwitched, Wanted.wants_commit}}
 use Rattle.pf_core.proofs.Switching.{switches_all, not-twice}
 use Rattle.pf_conf.specs.declared.{found.Conf.Conf, found.Ruleset.Ruleset, found.FilledTable.FilledTable}
-use Rattle.pf_commit.specs.declared.lines.TheConstants.{PART}
-use Rattle.pf_commit.specs.{Naming.{is_among, with_path, table_paths, filter_of, ruleset_names}, Lines.{parts_within, parts}}
+use Rattle.pf_conf.specs.declared.commit.lines.TheConstants.{PART}
+use Rattle.pf_conf.specs.Commit.{Naming.{is_among, with_path, table_paths, filter_of, ruleset_names}, Lines.{parts_within, parts}}
 use Rattle.pf_load.specs.Laws.{rules_of, rule_offers, table_offers, offers, IsLoad, is_table_at, AreOnce, IsLoaded, LoadsExactly}
 
 equal_of : (o : Ordering) → is_eq o ≡ true → o ≡ Equal

@@ -23,7 +23,7 @@ use Rattle.pf_conf.specs.Telling.{telling, unread_at, first_spot}
 use Rattle.pf_conf.specs.Resolving.{is_main, room_for, free_for, with_notes, with_loads, with_tree, flat_of, after_flat, main_file, commit_length, with_flat, with_file, with_load, with_waiting, load_numbered, loads_from, committed, resolved}
 use Rattle.pf_conf.proofs.Kept.{both, each_keeps, if_not, if_room, if_free, telling_so}
 use Rattle.pf_load.specs.Files.Types.{Found, Mention, Waiting}
-use Rattle.pf_commit.specs.Naming.{with_path, table_paths}
+use Rattle.pf_conf.specs.Commit.Naming.{with_path, table_paths}
 use Rattle.pf_load.specs.Laws.{is_table_at, AreOnce}
 use Rattle.pf_load.specs.Files.Commits.{CommitHasRoom}
 

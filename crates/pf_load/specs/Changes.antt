@@ -6,7 +6,7 @@ use Rattle.pf_form.specs.Form.Words.{Word}
 use Rattle.pf_table.specs.{Entries.PlainEntry, Edits.deletions}
 use Rattle.pf_table.specs.declared.answer.Deletion.{Deletion, TheVariants.{Deleted, Absent}}
 use Rattle.pf_conf.specs.declared.{found.Conf.Conf, found.FilledTable.FilledTable, found.Ruleset.Ruleset}
-use Rattle.pf_commit.specs.{Lines.newline, Naming.table_paths}
+use Rattle.pf_conf.specs.Commit.{Lines.newline, Naming.table_paths}
 
 -- each text on a line of its own, behind a mark
 abbrev pub marked : Word → List Word → Word

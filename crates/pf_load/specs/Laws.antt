@@ -11,8 +11,8 @@ use Rattle.pf_core.specs.declared.{command.Command.TheVariants.Transact, command
 use Rattle.pf_core.specs.{Commands.{step_by, transacted}, Durable.Changes.{PlainDurable, PlainChange, entries_at, applied}}
 use Rattle.pf_conf.specs.declared.{found.Conf.Conf, found.Ruleset.Ruleset, found.FilledTable.FilledTable}
 use Rattle.pf_conf.specs.Rulesets.{PlacedRule}
-use Rattle.pf_commit.specs.declared.lines.TheConstants.{PART}
-use Rattle.pf_commit.specs.{Naming.ruleset_names, Lines.parts}
+use Rattle.pf_conf.specs.declared.commit.lines.TheConstants.{PART}
+use Rattle.pf_conf.specs.Commit.{Naming.ruleset_names, Lines.parts}
 
 -- ---- the offers of a load, given the ticket of each ruleset: what its lines say between begin and commit
 

@@ -4,9 +4,9 @@ ghost use Rattle.pf_addr.specs.Writing.{Continues, Writes};
 ghost use Rattle.pf_rule.specs.RuleText.{rule_text};
 ghost use Rattle.pf_table.specs.Edits.{deletions};
 ghost use Rattle.pf_conf.specs.Tables.{entry_text};
-ghost use Rattle.pf_commit.specs.Lines.{newline};
+ghost use Rattle.pf_conf.specs.Commit.Lines.{newline};
 ghost use Rattle.pf_load.specs.Changes.{rules_heading, table_heading, marked, changes_text, WritesDifference, absent_in, if_absent, question, rules_question, tables_question, questions};
-ghost use Rattle.pf_commit.specs.Naming.{table_paths};
+ghost use Rattle.pf_conf.specs.Commit.Naming.{table_paths};
 
 use pf_addr::path::Path;
 use pf_addr::{write_more, write_more_number};
@@ -113,7 +113,7 @@ fn rule_text(alloc: Global, rule: &Rule) -> Result<Bytes, AllocError>
 }
 
 /// The rules of a file, as they are shown.
-#[tactic(auto, using(pf_commit::proofs::Steps::map_item))]
+#[tactic(auto, using(pf_conf::proofs::CommitSteps::map_item))]
 fn rule_texts(alloc: Global, rules: &[At<Rule>]) -> Result<Vec<Bytes>, AllocError>
     ensures { IfOk result (λ v. v.items ≡ map (λ r. rule_text r.is) rules.now) }
 {

@@ -8,7 +8,7 @@ use Rattle.pf_conf.specs.declared.{found.Conf.Conf, found.Ruleset.Ruleset, found
 use Rattle.pf_conf.specs.Resolving.{part_length, resolved}
 use Rattle.pf_ticket.specs.Tickets.{PlainTickets}
 use Rattle.pf_core.specs.Durable.Changes.{PlainDurable, PlainChange, applied}
-use Rattle.pf_commit.specs.Naming.{table_paths}
+use Rattle.pf_conf.specs.Commit.Naming.{table_paths}
 use Rattle.pf_load.specs.Laws.{IsLoad, IsLoaded}
 
 -- how many bytes the commit's line has that names all rulesets, each with the longest ticket

@@ -1,5 +1,5 @@
-use Rattle.pf_commit.specs.Lines.{begin_line}
-use Rattle.pf_commit.proofs.Texts.{no_front, whole_front, sent_front, sent_whole}
+use Rattle.pf_conf.specs.Commit.Lines.{begin_line}
+use Rattle.pf_conf.proofs.CommitTexts.{no_front, whole_front, sent_front, sent_whole}
 use Rattle.pf_commit.proofs.loading.begin.Goals as goal
 
 pub returns-in_err-line-clause-written : goal.returns-in_err-line-clause-written

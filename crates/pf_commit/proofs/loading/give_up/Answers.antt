@@ -1,5 +1,5 @@
-use Rattle.pf_commit.specs.Lines.{rollback_line}
-use Rattle.pf_commit.proofs.Texts.{some_front}
+use Rattle.pf_conf.specs.Commit.Lines.{rollback_line}
+use Rattle.pf_conf.proofs.CommitTexts.{some_front}
 use Rattle.pf_commit.proofs.loading.give_up.Goals as goal
 
 pub returns : goal.returns

@@ -1,5 +1,5 @@
 use Rattle.std.proofs.Common.{rules}
-use Rattle.pf_commit.proofs.Texts.{sent_nothing, cut_in_two, one_more_sent, all_sent, stopped_within, sent_front, whole_front}
+use Rattle.pf_conf.proofs.CommitTexts.{sent_nothing, cut_in_two, one_more_sent, all_sent, stopped_within, sent_front, whole_front}
 use Rattle.pf_commit.proofs.loading.offer.Goals as goal
 
 pub loop-left-init : goal.loop-left-init

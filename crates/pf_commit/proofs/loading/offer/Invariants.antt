@@ -1,5 +1,5 @@
 use Rattle.std.proofs.Common.{length}
-use Rattle.pf_commit.proofs.Texts.{SentSome}
+use Rattle.pf_conf.proofs.CommitTexts.{SentSome}
 use Rattle.pf_commit.proofs.loading.offer.Given as goal
 
 abbrev pub invariant-loop-left : goal.invariant-loop-left

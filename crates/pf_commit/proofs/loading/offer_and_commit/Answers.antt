@@ -1,7 +1,7 @@
 use Rattle.std.proofs.Common.{◌++◌}
 use Rattle.pf_addr.specs.Writing.{Writes-then, WritesFront-longer}
-use Rattle.pf_commit.specs.Lines.{load_lines, commit_line}
-use Rattle.pf_commit.proofs.Texts.{no_front, sent_front}
+use Rattle.pf_conf.specs.Commit.Lines.{load_lines, commit_line}
+use Rattle.pf_conf.proofs.CommitTexts.{no_front, sent_front}
 use Rattle.pf_commit.proofs.loading.offer_and_commit.Goals as goal
 
 pub returns-in_err-lines : goal.returns-in_err-lines

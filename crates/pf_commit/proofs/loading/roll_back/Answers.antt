@@ -1,5 +1,5 @@
-use Rattle.pf_commit.specs.Lines.{rollback_line}
-use Rattle.pf_commit.proofs.Texts.{no_front, whole_front, sent_front}
+use Rattle.pf_conf.specs.Commit.Lines.{rollback_line}
+use Rattle.pf_conf.proofs.CommitTexts.{no_front, whole_front, sent_front}
 use Rattle.pf_commit.proofs.loading.roll_back.Goals as goal
 
 pub returns-in_err-line : goal.returns-in_err-line

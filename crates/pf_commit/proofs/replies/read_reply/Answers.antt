@@ -1,5 +1,5 @@
 use Rattle.std.proofs.Common.{◌≡◌, Some}
-use Rattle.pf_commit.proofs.Texts.{a_line_read}
+use Rattle.pf_conf.proofs.CommitTexts.{a_line_read}
 use Rattle.pf_commit.proofs.replies.read_reply.Goals as goal
 
 pub returns-in-Some-eq10 : goal.returns-in-Some-eq10

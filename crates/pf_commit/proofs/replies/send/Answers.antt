@@ -1,5 +1,5 @@
 use Rattle.pf_addr.specs.Writing.{Appends-kept}
-use Rattle.pf_commit.proofs.Texts.{whole_front}
+use Rattle.pf_conf.proofs.CommitTexts.{whole_front}
 use Rattle.pf_commit.proofs.replies.send.Goals as goal
 
 pub returns-in-Err-flush : goal.returns-in-Err-flush

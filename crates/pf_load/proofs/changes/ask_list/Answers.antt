@@ -1,5 +1,5 @@
 use Rattle.pf_load.specs.Changes.{question}
-use Rattle.pf_commit.proofs.Texts.{no_front, sent_front, sent_whole}
+use Rattle.pf_conf.proofs.CommitTexts.{no_front, sent_front, sent_whole}
 use Rattle.pf_load.proofs.changes.ask_list.Goals as goal
 
 pub returns-in_err-line : goal.returns-in_err-line

@@ -1,5 +1,5 @@
 use Rattle.std.proofs.Common.{arith}
-use Rattle.pf_commit.proofs.Steps.{more_after}
+use Rattle.pf_conf.proofs.CommitSteps.{more_after}
 use Rattle.pf_load.proofs.changes.common_back.Goals as goal
 
 pub loop-count-preserved : goal.loop-count-preserved

@@ -1,5 +1,5 @@
 use Rattle.std.proofs.Common.{arith}
-use Rattle.pf_commit.proofs.Steps.{more_in_front}
+use Rattle.pf_conf.proofs.CommitSteps.{more_in_front}
 use Rattle.pf_load.proofs.changes.common_front.Goals as goal
 
 pub loop-at-preserved : goal.loop-at-preserved

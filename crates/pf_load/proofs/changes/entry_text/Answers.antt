@@ -1,6 +1,6 @@
 use Rattle.std.proofs.Common.{◌∙◌}
 use Rattle.pf_conf.specs.Tables.{entry_text}
-use Rattle.pf_commit.proofs.Texts.{made}
+use Rattle.pf_conf.proofs.CommitTexts.{made}
 use Rattle.pf_load.proofs.changes.entry_text.Goals as goal
 
 pub returns-in-Ok : goal.returns-in-Ok

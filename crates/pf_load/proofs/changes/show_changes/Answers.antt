@@ -1,8 +1,8 @@
 use Rattle.std.specs.List.{flat_map}
 use Rattle.pf_addr.specs.Writing.{WritesFront-longer, WritesFront-then, Appends-then}
-use Rattle.pf_commit.specs.Naming.{table_paths}
+use Rattle.pf_conf.specs.Commit.Naming.{table_paths}
 use Rattle.pf_load.specs.Changes.{rules_question, tables_question, questions}
-use Rattle.pf_commit.proofs.Texts.{whole_front, sent_front, sent_whole}
+use Rattle.pf_conf.proofs.CommitTexts.{whole_front, sent_front, sent_whole}
 use Rattle.pf_load.proofs.changes.show_changes.Goals as goal
 
 pub returns-in_err-show_rulesets : goal.returns-in_err-show_rulesets

@@ -1,7 +1,7 @@
 use Rattle.std.proofs.Common.{arith}
 use Rattle.std.specs.List.{flat_map}
 use Rattle.pf_load.specs.Changes.{tables_question}
-use Rattle.pf_commit.proofs.Texts.{one_more_text, stopped_at_text, sent_front}
+use Rattle.pf_conf.proofs.CommitTexts.{one_more_text, stopped_at_text, sent_front}
 use Rattle.pf_load.proofs.changes.show_paths.Goals as goal
 
 pub returns-in_err-show_tables : goal.returns-in_err-show_tables

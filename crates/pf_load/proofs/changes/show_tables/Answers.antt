@@ -1,5 +1,5 @@
 use Rattle.pf_load.specs.Changes.{tables_question}
-use Rattle.pf_commit.proofs.Texts.{sent_whole}
+use Rattle.pf_conf.proofs.CommitTexts.{sent_whole}
 use Rattle.pf_load.proofs.changes.show_tables.Goals as goal
 
 pub returns : goal.returns

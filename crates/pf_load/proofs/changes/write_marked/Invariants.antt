@@ -1,7 +1,7 @@
 use Rattle.std.proofs.Common.{◌++◌}
 use Rattle.pf_form.specs.Form.Words.{Word}
-use Rattle.pf_commit.specs.Lines.{newline}
-use Rattle.pf_commit.proofs.Texts.{Before}
+use Rattle.pf_conf.specs.Commit.Lines.{newline}
+use Rattle.pf_conf.proofs.CommitTexts.{Before}
 use Rattle.pf_load.proofs.changes.write_marked.Given as goal
 
 abbrev pub invariant-loop-text : goal.invariant-loop-text

@@ -1,6 +1,6 @@
 use Rattle.std.proofs.Common.{Ok}
 use Rattle.pf_load.specs.Served.{Asked, Rules, Tables, asked_text}
-use Rattle.pf_commit.proofs.Texts.{sent_front, sent_whole, whole_front}
+use Rattle.pf_conf.proofs.CommitTexts.{sent_front, sent_whole, whole_front}
 use Rattle.pf_load.proofs.Asked.{asks_one, asks_then}
 use Rattle.pf_load.proofs.served.Known.ask_at.Goals as goal
 

@@ -1,6 +1,6 @@
 use Rattle.std.proofs.Common.{Err}
 use Rattle.pf_load.specs.Served.{Asked, Anchors, asked_text}
-use Rattle.pf_commit.proofs.Texts.{sent_whole}
+use Rattle.pf_conf.proofs.CommitTexts.{sent_whole}
 use Rattle.pf_load.proofs.Asked.{asks_one}
 use Rattle.pf_load.proofs.served.Known.ask_below.Goals as goal
 

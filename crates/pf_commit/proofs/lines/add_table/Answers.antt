@@ -1,7 +1,0 @@
-use Rattle.pf_commit.specs.Lines.{table_lines}
-use Rattle.pf_commit.proofs.Texts.{grown}
-use Rattle.pf_commit.proofs.lines.add_table.Goals as goal
-
-pub returns-in-Ok : goal.returns-in-Ok
-returns-in-Ok c =
-    grown c.write_table.result c.in-Ok.field-0 c.args.text.now.items c.write_table.new.out.items (table_lines c.args.begun.now c.args.table.now) c.write_table.ensures c.in-Ok.is

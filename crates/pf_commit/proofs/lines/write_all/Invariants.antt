@@ -1,6 +1,0 @@
-use Rattle.pf_commit.specs.Lines.{begun_text}
-use Rattle.pf_commit.proofs.Texts.{Before}
-use Rattle.pf_commit.proofs.lines.write_all.Given as goal
-
-abbrev pub invariant-loop-one : goal.invariant-loop-one
-invariant-loop-one g l = Before begun_text l.fn.written (g.W.Write.contents l.initial.out) l.so_far (g.W.Write.contents l.out) l.begun l.one-index

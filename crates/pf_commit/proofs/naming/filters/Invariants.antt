@@ -1,6 +1,0 @@
-use Rattle.std.proofs.Common.{◌≡◌, map, take}
-use Rattle.pf_commit.specs.Naming.{filter_of}
-use Rattle.pf_commit.proofs.naming.filters.Given as goal
-
-abbrev pub invariant-loop-ruleset : goal.invariant-loop-ruleset
-invariant-loop-ruleset l = l.names.items ≡ map filter_of (take l.ruleset-index l.rulesets)
