@@ -9,7 +9,7 @@ returns-clause-same g c =
     let base = g.J.Naming.base in
     let setting = g.J.Chapter.setting in
     (session-as place (IsSameAsker start) (Chain (TakesInAsking passed base setting)) (AsksLines (passed start.gate.now start.number) base setting) (asked-all passed base setting start)
-    (same-still start) c.serve.ensures).1
+    (same-still start) c.answer_reader.ensures).1
 
 pub returns-clause-session : goal.returns-clause-session
 returns-clause-session g c =
@@ -18,4 +18,4 @@ returns-clause-session g c =
     let base = g.J.Naming.base in
     let setting = g.J.Chapter.setting in
     (session-as place (IsSameAsker start) (Chain (TakesInAsking passed base setting)) (AsksLines (passed start.gate.now start.number) base setting) (asked-all passed base setting start)
-    (same-still start) c.serve.ensures).0
+    (same-still start) c.answer_reader.ensures).0
