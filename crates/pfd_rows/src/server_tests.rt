@@ -4,7 +4,7 @@ ghost use Rattle.pfd_words.specs.declared.words.TheConstants.{HISTORY_LIMIT};
 ghost use Rattle.pf_book.specs.Books.{IsNamed};
 
 use crate::tally::Tally;
-use pf_core::Command;
+use pf_core::{Command, Reply};
 use pf_line::{Request, parse_line, write_judged};
 use pf_rule::Packet;
 use pfd::{
@@ -33,20 +33,40 @@ fn command(alloc: Global, line: &str) -> io::Result<Command> {
     }
 }
 
-/// One call, with the receipt of the one before it: its receipt becomes the last one.
+/// The receipt of an answer. The reply goes no further, as a function's proof pays for the size of a reply wherever it goes.
+fn receipt_of<J: Chapter>(answer: (Reply, Receipt<J>)) -> Receipt<J> {
+    let (_reply, receipt) = answer;
+    receipt
+}
+
+/// One call, with the receipt of one before it: its receipt.
 fn run<J: Chapter + Numbering, R: Wait>(
     rt: &R,
     alloc: Global,
     shared: &Shared<MemDisk, J, &R>,
     line: &str,
-    receipts: &mut Vec<Receipt<J>>,
-) -> io::Result<()> {
-    let (_reply, receipt) = shared.run(rt, command(alloc, line)?, receipts.last());
-    receipts.push(receipt)?;
-    Ok(())
+    last: Option<&Receipt<J>>,
+) -> io::Result<Receipt<J>> {
+    let command = command(alloc, line)?;
+    Ok(receipt_of(shared.run(rt, command, last)))
 }
 
-/// Makes changes, alone or in one group with those of another caller, each call with the receipt of the one before it: their numbers.
+/// One call, alone or in one group with those of another caller, with the receipt of the one before it: its receipt.
+fn run_together<J: Chapter + Numbering, R: Wait>(
+    rt: &R,
+    alloc: Global,
+    shared: &Shared<MemDisk, J, &R>,
+    line: &str,
+    last: Option<Receipt<J>>,
+) -> io::Result<Receipt<J>> {
+    let command = command(alloc, line)?;
+    match shared.run_together(rt, command, last) {
+        Ok(answer) => Ok(receipt_of(answer)),
+        Err(_) => Err(io::Error::from(ErrorKind::Other)),
+    }
+}
+
+/// Makes changes, each with the receipt of the one before it: their numbers.
 fn change_often<J: Chapter + Numbering, R: Wait>(
     rt: &R,
     alloc: Global,
@@ -56,20 +76,24 @@ fn change_often<J: Chapter + Numbering, R: Wait>(
     let mut numbers = Vec::new(alloc);
     let mut last = None;
     for _ in 0..CHANGES {
-        let Ok((_reply, receipt)) = shared.run_together(rt, command(alloc, line)?, last) else {
-            return Err(io::Error::from(ErrorKind::Other));
-        };
+        let receipt = run_together(rt, alloc, shared, line, last)?;
         numbers.push(receipt.seq())?;
         last = Some(receipt);
     }
     Ok(numbers)
 }
 
+/// A packet that a seer judges.
+fn packet(alloc: Global) -> io::Result<Packet> {
+    match Packet::parse(alloc, "in em0 tcp 10.0.0.1 1234 10.0.0.2 80") {
+        Ok(packet) => Ok(packet),
+        Err(_) => Err(io::Error::from(ErrorKind::InvalidData)),
+    }
+}
+
 /// A seer's verdict on a packet, as the reply to a line that asks for it; `gone` if it sees nothing any more.
 fn judged<J: Chapter>(alloc: Global, seer: &mut Seer<J>) -> io::Result<Vec<u8>> {
-    let Ok(packet) = Packet::parse(alloc, "in em0 tcp 10.0.0.1 1234 10.0.0.2 80") else {
-        return Err(io::Error::from(ErrorKind::InvalidData));
-    };
+    let packet = packet(alloc)?;
     let mut text = Vec::new(alloc);
     match seer.judge(&packet) {
         Ok(verdict) => write_judged(&mut text, &verdict)?,
@@ -94,6 +118,19 @@ fn change_at_once<J: Chapter + Numbering + Send + Sync, R: Wait + Threads + Sync
     Ok(numbers)
 }
 
+/// One call, with the receipt of the one before it: its receipt becomes the last one.
+fn call_next<J: Chapter + Numbering, R: Wait>(
+    rt: &R,
+    alloc: Global,
+    shared: &Shared<MemDisk, J, &R>,
+    line: &str,
+    receipts: &mut Vec<Receipt<J>>,
+) -> io::Result<()> {
+    let receipt = run(rt, alloc, shared, line, receipts.last())?;
+    receipts.push(receipt)?;
+    Ok(())
+}
+
 /// Commits a rule that blocks: the receipt.
 fn commit_block<J: Chapter + Numbering, R: Wait>(
     rt: &R,
@@ -101,9 +138,9 @@ fn commit_block<J: Chapter + Numbering, R: Wait>(
     shared: &Shared<MemDisk, J, &R>,
 ) -> io::Result<Receipt<J>> {
     let mut receipts = Vec::new(alloc);
-    run(rt, alloc, shared, "begin filter -", &mut receipts)?;
-    run(rt, alloc, shared, "add - 1.1 block in all", &mut receipts)?;
-    run(rt, alloc, shared, "commit filter - 1.1", &mut receipts)?;
+    call_next(rt, alloc, shared, "begin filter -", &mut receipts)?;
+    call_next(rt, alloc, shared, "add - 1.1 block in all", &mut receipts)?;
+    call_next(rt, alloc, shared, "commit filter - 1.1", &mut receipts)?;
     match receipts.pop() {
         Some(commit) => Ok(commit),
         None => Err(io::Error::from(ErrorKind::Other)),
@@ -152,6 +189,11 @@ fn is_blocked(verdict: io::Result<Vec<u8>>) -> io::Result<bool> {
     Ok(verdict?.as_slice() == b"block rule 0\n".as_slice())
 }
 
+/// Whether a call changed nothing behind a commit.
+fn changed_nothing<J: Chapter>(receipt: &Receipt<J>, commit: &Receipt<J>) -> bool {
+    receipt.seq() == commit.seq() && receipt.change().is_none() && receipt.token().is_none()
+}
+
 /// An answer and a refusal change nothing, and their receipts say so.
 fn ask<J: Chapter + Numbering, R: Wait>(
     rt: &R,
@@ -161,11 +203,8 @@ fn ask<J: Chapter + Numbering, R: Wait>(
     tally: &mut Tally,
 ) -> io::Result<()> {
     for line in ["test - a 10.0.0.1", "tkill - none"] {
-        let (_reply, receipt) = shared.run(rt, command(alloc, line)?, Some(commit));
-        let is_same = receipt.seq() == commit.seq()
-            && receipt.change().is_none()
-            && receipt.token().is_none();
-        tally.hold(line, is_same)?;
+        let receipt = run(rt, alloc, shared, line, Some(commit))?;
+        tally.hold(line, changed_nothing(&receipt, commit))?;
     }
     Ok(())
 }
@@ -225,17 +264,30 @@ fn call<J: Chapter + Numbering + Send + Sync, R: Wait + Threads + Sync>(
 }
 
 /// What a Book says of a commit that was the last call.
-fn confirm<J: Chapter, R: Wait>(
-    book: &mut Book<MemDisk, J, &R>,
-    commit: &Receipt<J>,
-    tally: &mut Tally,
-) -> io::Result<()> {
-    tally.hold("the Book knows the commit", book.confirm(commit))?;
-    let is_last = book.log_len() == commit.seq() && book.acked() == commit.seq();
-    tally.hold("the commit is the last of its history", is_last)?;
-    let ends = book.change_at(1).is_some() && book.change_at(ALL + 1).is_none();
-    tally.hold("no change stands behind it", ends)?;
-    Ok(())
+#[derive(Clone, Copy)]
+struct Confirmed {
+    is_known: bool,
+    is_last: bool,
+    ends: bool,
+}
+
+impl Confirmed {
+    /// It is asked for by the commit's receipt.
+    fn by<J: Chapter, R: Wait>(book: &mut Book<MemDisk, J, &R>, commit: &Receipt<J>) -> Confirmed {
+        Confirmed {
+            is_known: book.confirm(commit),
+            is_last: book.log_len() == commit.seq() && book.acked() == commit.seq(),
+            ends: book.change_at(1).is_some() && book.change_at(ALL + 1).is_none(),
+        }
+    }
+
+    /// Each of it holds.
+    fn hold(self, tally: &mut Tally) -> io::Result<()> {
+        tally.hold("the Book knows the commit", self.is_known)?;
+        tally.hold("the commit is the last of its history", self.is_last)?;
+        tally.hold("no change stands behind it", self.ends)?;
+        Ok(())
+    }
 }
 
 /// A seer of a Book that is gone judges no more.
@@ -250,20 +302,48 @@ fn judge_no_more<J: Chapter>(
     Ok(())
 }
 
+/// Two seers of a Book.
+fn two_of<J: Chapter>(seers: &mut Vec<Seer<J>>) -> io::Result<(Seer<J>, Seer<J>)> {
+    match (seers.pop(), seers.pop()) {
+        (Some(one), Some(other)) => Ok((one, other)),
+        _ => Err(io::Error::from(ErrorKind::NotFound)),
+    }
+}
+
+/// Callers, seers and a listener beside a Book: the receipt of the last commit, and a seer that wasn't told of it.
+fn call_and_listen<J: Chapter + Numbering + Send + Sync, R: Wait + Threads + Sync>(
+    rt: &R,
+    alloc: Global,
+    shared: &Shared<MemDisk, J, &R>,
+    mut seers: Vec<Seer<J>>,
+    tally: &mut Tally,
+) -> io::Result<(Receipt<J>, Seer<J>)> {
+    let (mut informed, mut uninformed) = two_of(&mut seers)?;
+    let commit = call(rt, alloc, shared, &mut informed, &mut uninformed, tally)?;
+    fail_to_listen(rt, alloc, shared, seers, tally)?;
+    Ok((commit, uninformed))
+}
+
+/// What a Book says of the last commit once its callers have ended.
+fn close<J: Chapter + Numbering, R: Wait>(
+    shared: Shared<MemDisk, J, &R>,
+    commit: &Receipt<J>,
+) -> Confirmed {
+    let mut book = shared.close();
+    Confirmed::by(&mut book, commit)
+}
+
 /// Shares a Book with callers, seers and a listener, and takes it back from them.
 fn share<J: Chapter + Numbering + Send + Sync, R: Wait + Threads + Sync>(
     rt: &R,
     alloc: Global,
     shared: Shared<MemDisk, J, &R>,
-    informed: &mut Seer<J>,
-    uninformed: &mut Seer<J>,
     seers: Vec<Seer<J>>,
     tally: &mut Tally,
 ) -> io::Result<()> {
-    let commit = call(rt, alloc, &shared, informed, uninformed, tally)?;
-    fail_to_listen(rt, alloc, &shared, seers, tally)?;
-    let mut book = shared.close();
-    confirm(&mut book, &commit, tally)
+    let (commit, mut uninformed) = call_and_listen(rt, alloc, &shared, seers, tally)?;
+    close(shared, &commit).hold(tally)?;
+    judge_no_more(alloc, &mut uninformed, tally)
 }
 
 /// Callers and seers beside a Book, and what the Book says once they have ended.
@@ -277,24 +357,10 @@ fn play<J: Chapter + Numbering + Send + Sync, R: Wait + Threads + Sync>(
     requires name { IsNamed J.base J.history J.setting opening HISTORY_LIMIT }
     requires calls { calls ≡ J.register }
 {
-    let Ok((book, mut seers)) = Book::<MemDisk, J, &R>::of(rt, alloc, opening, HISTORY_LIMIT, 3)
-    else {
-        return Err(io::Error::from(ErrorKind::Other));
-    };
-    let shared = Shared::new(book, calls);
-    let (Some(mut informed), Some(mut uninformed)) = (seers.pop(), seers.pop()) else {
-        return Err(io::Error::from(ErrorKind::NotFound));
-    };
-    share(
-        rt,
-        alloc,
-        shared,
-        &mut informed,
-        &mut uninformed,
-        seers,
-        tally,
-    )?;
-    judge_no_more(alloc, &mut uninformed, tally)
+    match Book::<MemDisk, J, &R>::of(rt, alloc, opening, HISTORY_LIMIT, 3) {
+        Ok((book, seers)) => share(rt, alloc, Shared::new(book, calls), seers, tally),
+        Err(_) => Err(io::Error::from(ErrorKind::Other)),
+    }
 }
 
 /// The same over a new disk in memory.

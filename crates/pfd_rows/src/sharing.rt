@@ -173,6 +173,11 @@ fn follow_given<J: Chapter + Numbering, R: Wait>(
     serve_peer(rt, alloc, reader, writer, shared)
 }
 
+// How many changes a Book has whose callers have ended.
+fn changes_of<J: Chapter + Numbering, R: Wait>(shared: SharedBook<J, &R>) -> usize {
+    shared.close().log_len()
+}
+
 // Plays a peer's stream. Its end says how many changes the Book then has.
 fn follow<J: Chapter + Numbering, R: Wait>(
     rt: &R,
@@ -182,7 +187,7 @@ fn follow<J: Chapter + Numbering, R: Wait>(
 ) -> Result<Outcome, AllocError> {
     let mut written = Vec::new(alloc);
     let ended = follow_given(rt, alloc, &shared, given, &mut written);
-    let end = end_of(alloc, ended, shared.close().log_len(), false)?;
+    let end = end_of(alloc, ended, changes_of(shared), false)?;
     Ok(Outcome { end, written })
 }
 
@@ -215,23 +220,19 @@ fn book_of<'a, J: Chapter, R: Wait>(
     }
 }
 
-// Plays a case over a Book that is shared.
+// Plays a case over a Book that is shared, and a seer of it.
 fn share_over<J: Chapter + Numbering, R: Wait>(
     rt: &R,
     alloc: Global,
     table: &Table,
     shared: SharedBook<J, &R>,
-    seers: Vec<Seer<J>>,
+    seer: &mut Seer<J>,
     given: &Given,
 ) -> Result<Outcome, AllocError> {
-    let mut seers = seers;
-    let Some(mut seer) = seers.pop() else {
-        return Err(AllocError);
-    };
-    begin_with(rt, alloc, &shared, &mut seer, table.before.as_slice())?;
+    begin_with(rt, alloc, &shared, seer, table.before.as_slice())?;
     match table.kind {
         Kind::Peers => follow(rt, alloc, shared, given),
-        kind => run_session(rt, alloc, kind, &shared, &mut seer, given),
+        kind => run_session(rt, alloc, kind, &shared, seer, given),
     }
 }
 
@@ -249,8 +250,12 @@ fn share<J: Chapter + Numbering, R: Wait>(
     requires calls { calls ≡ J.register }
     requires history { (1 ≤ history) × (history ≤ 1_048_576) }
 {
-    let (book, seers) = book_of::<J, R>(rt, alloc, opening, history, given.limits)?;
-    share_over(rt, alloc, table, Shared::new(book, calls), seers, given)
+    let (book, mut seers) = book_of::<J, R>(rt, alloc, opening, history, given.limits)?;
+    let shared = Shared::new(book, calls);
+    match seers.pop() {
+        Some(mut seer) => share_over(rt, alloc, table, shared, &mut seer, given),
+        None => Err(AllocError),
+    }
 }
 
 /// Plays all rows of a table of sessions or of peers' streams.
