@@ -123,7 +123,7 @@ def program():
         sys.exit(2)
     if not named and not is_there(path, ["pfd_main"]):
         say("a source is newer than the built program" if is_program(path) else "no program is built")
-        say("`./pfd --version` proves and builds it, which takes about an hour on four processors; or PFD_PROGRAM=PATH names one that is built")
+        say("`./pfd --version` proves and builds it, which takes an hour or more on four processors; or PFD_PROGRAM=PATH names one that is built")
         sys.exit(2)
     return path
 
